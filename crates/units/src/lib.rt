@@ -1,8 +1,9 @@
 // SPDX-License-Identifier: Apache-2.0 AND BSD-3-Clause
 // The numbers of the device: three kinds of address, the sizes, the alignment, rounding, and sums that are tested and not made.
 ghost use mathlib.Core.Path.{_≡_};
-ghost use Prim.Native.Nat.{_+_};
+ghost use Prim.Native.Nat.{_+_, _-_, _*_, _/_, _%_, min, max};
 ghost use lib.Dec.{leb};
+ghost use Rattle.units.specs.Numbers.{held, bytesOf, blocksIn, mapRegion, mapRegions, between, alignmentOf, roundUp};
 
 // An address as the guest sees it.
 pub struct GuestAddr(pub u64);
@@ -13,17 +14,87 @@ pub struct RegionOffset(pub u64);
 // An address in the host's memory.
 pub struct HostAddr(pub u64);
 
+// Boot memory from which on the guest uses large memory blocks.
+const BOOT_MEM_SIZE_FOR_LARGE_BLOCK: u64 = 68719476736;
+
+const MAX: u64 = 18446744073709551615;
+
 // The sizes stay with `MemTool`, as in mem.rs.
 pub struct MemTool {}
 
 impl MemTool {
     pub const BLOCK_SHIFT: u64 = 22;
 
-    pub const BLOCK_SIZE: u64 = 4194304;
+    pub const BLOCK_SIZE: u64 = 1 << MemTool::BLOCK_SHIFT;
 
     pub const MAP_REGION_SHIFT: u64 = 31;
 
-    pub const MAP_REGION_SIZE: u64 = 2147483648;
+    pub const MAP_REGION_SIZE: u64 = 1 << MemTool::MAP_REGION_SHIFT;
+
+    pub const MIB: u64 = 1048576;
+
+    // The bytes of a request's blocks.
+    pub fn bytes_of(nb_blocks: u16) -> u64
+        ensures { λ r. ⌜ r ≡ bytesOf 4194304 «nb_blocks» ⌝ }
+    {
+        (nb_blocks as u64) * MemTool::BLOCK_SIZE
+    }
+
+    // How many whole blocks a size holds.
+    pub fn blocks_in(size: u64) -> u64
+        ensures { λ r. ⌜ r ≡ blocksIn 4194304 size ⌝ }
+    {
+        size / MemTool::BLOCK_SIZE
+    }
+}
+
+impl GuestAddr {
+    // How far an address lies past `start`: 0 below it.
+    pub fn offset_from(self, start: GuestAddr) -> RegionOffset
+        ensures { λ r. ⌜ r .0 ≡ self .0 - start .0 ⌝ }
+    {
+        if self.0 < start.0 {
+            return RegionOffset(0);
+        }
+        RegionOffset(self.0 - start.0)
+    }
+}
+
+impl RegionOffset {
+    // The guest's address of an offset, held at 2^64 - 1.
+    pub fn guest_from(self, start: GuestAddr) -> GuestAddr
+        ensures { λ r. ⌜ r .0 ≡ held (start .0 + self .0) ⌝ }
+    {
+        GuestAddr(held_sum(start.0, self.0))
+    }
+
+    // The host's address of an offset from what is mapped at `host`, held at 2^64 - 1.
+    pub fn host_from(self, host: HostAddr) -> HostAddr
+        ensures { λ r. ⌜ r .0 ≡ held (host .0 + self .0) ⌝ }
+    {
+        HostAddr(held_sum(host.0, self.0))
+    }
+
+    // The map region in which an offset lies.
+    pub fn map_region(self) -> u64
+        ensures { λ r. ⌜ r ≡ self .0 / mapRegion ⌝ }
+    {
+        self.0 / MemTool::MAP_REGION_SIZE
+    }
+
+    // Where in its map region an offset lies.
+    pub fn in_map_region(self) -> RegionOffset
+        ensures { λ r. ⌜ r .0 ≡ self .0 % mapRegion ⌝ }
+    {
+        RegionOffset(self.0 % MemTool::MAP_REGION_SIZE)
+    }
+}
+
+// The smaller of two numbers.
+pub fn smaller(a: u64, b: u64) -> u64
+    ensures { λ r. ⌜ r ≡ min a b ⌝ }
+{
+    if a < b { a } else { b }
 }
 
 // Whether a + b is at most `limit`, as numbers without end: no sum is made.
@@ -34,4 +105,73 @@ pub fn sum_within(a: u64, b: u64, limit: u64) -> bool
         return false;
     }
     a <= limit - b
+}
+
+// Whether a * b is at most `limit`, as numbers without end: no product is made.
+pub fn product_within(a: u64, b: u64, limit: u64) -> bool
+    ensures { λ r. ⌜ r ≡ leb (a * b) limit ⌝ }
+{
+    if b == 0 {
+        return true;
+    }
+    a <= limit / b
+}
+
+// a + b, held at 2^64 - 1.
+fn held_sum(a: u64, b: u64) -> u64
+    ensures { λ r. ⌜ r ≡ held (a + b) ⌝ }
+{
+    if sum_within(a, b, MAX) {
+        return a + b;
+    }
+    MAX
+}
+
+// A number held between the exponents of 128 MiB and 2 GiB.
+fn held_between(n: u32) -> u32
+    ensures { λ r. ⌜ r ≡ between n ⌝ }
+{
+    if n < 27 {
+        return 27;
+    }
+    if n < 31 { n } else { 31 }
+}
+
+// The guest's memory block size, by its boot memory.
+pub fn alignment_of(boot: u64) -> u64
+    ensures { λ r. ⌜ r ≡ alignmentOf boot ⌝ }
+{
+    if boot < BOOT_MEM_SIZE_FOR_LARGE_BLOCK {
+        return 134217728;
+    }
+    1 << held_between(u64::trailing_zeros(boot))
+}
+
+// A number rounded up to a multiple of another, held at 2^64 - 1.
+pub fn round_up(n: u64, to: u64) -> u64
+    ensures { λ r. ⌜ r ≡ held (roundUp n to) ⌝ }
+{
+    if to == 0 {
+        return 0;
+    }
+    let over = n % to;
+    if over == 0 {
+        return n;
+    }
+    held_sum(n, to - over)
+}
+
+// How many rows of the map table a region takes.
+pub fn map_regions(region_size: u64, several: bool) -> u64
+    ensures { λ r. ⌜ r ≡ mapRegions «region_size» several ⌝ }
+{
+    if !several {
+        return 1;
+    }
+    let whole = region_size / MemTool::MAP_REGION_SIZE;
+    if region_size % MemTool::MAP_REGION_SIZE == 0 {
+        whole
+    } else {
+        whole + 1
+    }
 }

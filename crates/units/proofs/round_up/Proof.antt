@@ -1,0 +1,37 @@
+-- `units::round_up` meets its contract: a multiple stays, and anything else goes to the next multiple. Assumes nothing.
+use Prim.Native.Nat.{_<_, _%_}
+use native.Mathlib.Nat.{mod-lt}
+use native.Mathlib.Omega.{arith}
+use borrow.Author.Needs.{needs}
+use Rattle.units.proofs.Laws.{round-multiple, round-next, round-none}
+use Rattle.units.proofs.round_up.Statement.{statement}
+use Rattle.units.proofs.round_up.Tie as tie
+
+returns : tie.Need-returns
+returns c = rw (c .if1 .taken, round-none)
+
+rem-over : tie.Need-rem-over
+rem-over c = search needs
+
+returns-2 : tie.Need-returns-2
+returns-2 c =
+    let a = c .before .before .args in
+    rw (round-multiple (a .n) (a .to) (omega arith) (c .if2 .taken)) (omega arith)
+
+sub-held-sum : tie.Need-sub-held-sum
+sub-held-sum c =
+    let a = c .before .before .args in
+    let h : a .n % a .to < a .to = mod-lt (a .n) (omega arith) in
+    omega arith
+
+held-sum-requires : tie.Need-held-sum-requires
+held-sum-requires c κs = search needs
+
+returns-3 : tie.Need-returns-3
+returns-3 c =
+    let a = c .before .before .before .args in
+    rw (round-next (a .n) (a .to) (omega arith) (omega arith)) (c .held-sum .ensures)
+
+pub round-up-spec : {M : Type 1} → statement M
+round-up-spec =
+    tie.close (tie.spec returns rem-over returns-2 sub-held-sum held-sum-requires returns-3)
