@@ -1,12 +1,25 @@
 -- The laws of `specs/Numbers.antt` that the crates above cite. Assumes nothing.
-use Prim.Native.Nat.{ℕ, zero, suc, _+_, _-_, _*_, _/_, _%_, _^_, _<_}
-use mathlib.Core.Path.{_≡_, refl, sym, ap, _∙_, subst}
-use mathlib.Core.Logic.{_⊎_, inl, inr}
-use native.Mathlib.Nat.{div-add-mod', mod-lt, mul-zero, add-mul, pow-succ', div-div-eq-div-mul, div-one, pow-suc}
+use Prim.Native.Nat.{ℕ, zero, suc, _+_, _-_, _*_, _/_, _%_, _^_, _≤_, _<_}
+use mathlib.Core.Path.{_≡_, refl, sym, _∙_}
+use native.Mathlib.Nat.{div-add-mod', mod-lt, mul-zero, add-mul, pow-succ', div-div-eq-div-mul, div-one}
 use native.Mathlib.Omega.{arith}
+use mathlib.Core.Bool.{Bool, true, false}
+use lib.Dec.{leb}
+use borrow.Author.Tests.{leb-true, leb-false}
 use lib.Arith.{digits-div}
 use lib.Count.{trailingZeros, under}
-use Rattle.units.specs.Numbers.{twos, between, roundUp}
+use Rattle.units.specs.Numbers.{top, held, twos, roundUp}
+
+-- ---- what a test said of a sum or a product n: within the limit, or past it
+pub within : {n limit : ℕ} (r : Bool) → r ≡ leb n limit → r ≡ true → n ≤ limit
+within {n} {limit} r e t = leb-true n limit (sym e ∙ t)
+
+pub past : {n limit : ℕ} (r : Bool) → r ≡ leb n limit → r ≡ false → limit < n
+past {n} {limit} r e t = leb-false n limit (sym e ∙ t)
+
+-- what fits is held as it is
+pub held-fits : {n : ℕ} → n ≤ top → held n ≡ n
+held-fits h = omega arith
 
 -- ---- rounding up: a multiple stays, anything else goes to the next multiple
 pub round-multiple : (n to : ℕ) → 0 < to → n % to ≡ 0 → roundUp n to ≡ n

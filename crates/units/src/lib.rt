@@ -61,6 +61,20 @@ impl GuestAddr {
 }
 
 impl RegionOffset {
+    // Where a block starts, held at 2^64 - 1.
+    pub fn of_block(block: u64) -> RegionOffset
+        ensures { λ r. ⌜ r .0 ≡ held (bytesOf 4194304 block) ⌝ }
+    {
+        RegionOffset(held_product(block, MemTool::BLOCK_SIZE))
+    }
+
+    // Where a map region starts, held at 2^64 - 1.
+    pub fn of_map_region(row: u64) -> RegionOffset
+        ensures { λ r. ⌜ r .0 ≡ held (row * mapRegion) ⌝ }
+    {
+        RegionOffset(held_product(row, MemTool::MAP_REGION_SIZE))
+    }
+
     // The guest's address of an offset, held at 2^64 - 1.
     pub fn guest_from(self, start: GuestAddr) -> GuestAddr
         ensures { λ r. ⌜ r .0 ≡ held (start .0 + self .0) ⌝ }
@@ -123,6 +137,16 @@ fn held_sum(a: u64, b: u64) -> u64
 {
     if sum_within(a, b, MAX) {
         return a + b;
+    }
+    MAX
+}
+
+// a * b, held at 2^64 - 1.
+fn held_product(a: u64, b: u64) -> u64
+    ensures { λ r. ⌜ r ≡ held (a * b) ⌝ }
+{
+    if product_within(a, b, MAX) {
+        return a * b;
     }
     MAX
 }

@@ -2,9 +2,8 @@
 use Prim.Native.Nat.{_+_, _≤_, _<_}
 use native.Mathlib.Omega.{arith}
 use borrow.Author.Needs.{needs}
-use borrow.Author.Tests.{leb-true, leb-false}
-use mathlib.Core.Path.{sym, _∙_}
 use Rattle.units.specs.Numbers.{top}
+use Rattle.units.proofs.Laws.{within, past}
 use Rattle.units.proofs.held_sum.Statement.{statement}
 use Rattle.units.proofs.held_sum.Tie as tie
 
@@ -14,19 +13,19 @@ sum-within-requires c κs = search needs
 add-result : tie.Need-add-result
 add-result c =
     let a = c .before .before .args in
-    let fits : a .a + a .b ≤ top = leb-true _ _ (sym (c .before .sum-within .ensures) ∙ c .if1 .taken) in
+    let fits : a .a + a .b ≤ top = within _ (c .before .sum-within .ensures) (c .if1 .taken) in
     omega arith
 
 returns : tie.Need-returns
 returns c =
     let a = c .before .before .args in
-    let fits : a .a + a .b ≤ top = leb-true _ _ (sym (c .before .sum-within .ensures) ∙ c .if1 .taken) in
+    let fits : a .a + a .b ≤ top = within _ (c .before .sum-within .ensures) (c .if1 .taken) in
     omega arith
 
 returns-2 : tie.Need-returns-2
 returns-2 c =
     let a = c .before .before .args in
-    let past : top < a .a + a .b = leb-false _ _ (sym (c .before .sum-within .ensures) ∙ c .if1 .left) in
+    let over : top < a .a + a .b = past _ (c .before .sum-within .ensures) (c .if1 .left) in
     omega arith
 
 pub held-sum-spec : {M : Type 1} → statement M
