@@ -1,0 +1,4 @@
+pub mod Laws
+pub mod Bytes
+mod Bits
+mod Turns

@@ -1,0 +1,97 @@
+-- `bitmap::next_set` meets its contract. The loop's invariant: `at` is the block at bit k of byte j, and the search from there gives the answer.
+-- The measure is the number of blocks up to `end`. Assumes nothing.
+use Prim.Native.Nat.{_-_, _<_, _+_}
+use mathlib.Core.Path.{_≡_}
+use mathlib.Core.List.{_∷_}
+use native.Mathlib.Numerals.{add-one}
+use native.Mathlib.Omega.{arith}
+use Rattle.bitmap.specs.Blocks.{blocks, range, firstSet, nextSet}
+use Rattle.bitmap.proofs.Turns.{place, next, start, range-out, range-turn}
+use Rattle.bitmap.proofs.next_set.Statement.{statement}
+use Rattle.bitmap.proofs.next_set.Tie as tie
+
+abbrev Inv-loop : tie.InvT-loop
+Inv-loop bitmap from end j₀ k₀ at₀ j k at =
+    (k < 8) × (firstSet at (range (blocks bitmap) (place j k) (end - at)) ≡ nextSet (blocks bitmap) from end)
+
+abbrev μ-loop : tie.MeasureT-loop
+μ-loop bitmap from end j₀ k₀ at₀ j k at = end - at
+
+loop-holds : tie.Need-loop-holds Inv-loop μ-loop
+loop-holds c = (omega arith, rw (start (c .before .args .from)))
+
+returns : tie.Need-returns Inv-loop μ-loop
+unfolding firstSet
+returns c =
+    let o = c .before .before .loop in
+    let z : c .before .before .before .before .args .end - o .at ≡ 0 = omega arith in
+    rw z at (o .inv .1)
+
+shared-slice-read-bit : tie.Need-shared-slice-read-bit Inv-loop μ-loop
+shared-slice-read-bit c = omega arith
+
+bit-requires : tie.Need-bit-requires Inv-loop μ-loop
+bit-requires c κs = omega arith
+
+-- past the read of a bit, what is left begins with it
+turned : (c : tie.After-bit Inv-loop μ-loop) →
+    let a = c .before .before .before .before .before .before .args in
+    let o = c .before .before .before .before .loop in
+    firstSet (o .at) (c .bit .result ∷ range (blocks (a .bitmap .now)) (next (o .j) (o .k)) (a .end - o .at - 1)) ≡ nextSet (blocks (a .bitmap .now)) (a .from) (a .end)
+turned c =
+    let a = c .before .before .before .before .before .before .args in
+    let o = c .before .before .before .before .loop in
+    rw (range-turn (a .bitmap .now) (o .j) (o .k) (a .end - o .at) (c .bit .result) (c .before .before .before .loop-test .taken) (o .inv .0) (omega arith) (c .bit .ensures)) at (o .inv .1)
+
+returns-2 : tie.Need-returns-2 Inv-loop μ-loop
+unfolding firstSet
+returns-2 c = rw (c .if2 .taken) at (turned (c .before))
+
+add-j : tie.Need-add-j Inv-loop μ-loop
+add-j c = omega arith
+
+add-j-2 : tie.Need-add-j-2 Inv-loop μ-loop
+add-j-2 c = omega arith
+
+add-k : tie.Need-add-k Inv-loop μ-loop
+add-k c = omega arith
+
+add-at : tie.Need-add-at Inv-loop μ-loop
+add-at c = omega arith
+
+loop-less : tie.Need-loop-less Inv-loop μ-loop
+loop-less c = omega arith
+
+loop-again : tie.Need-loop-again Inv-loop μ-loop
+unfolding firstSet
+loop-again c =
+    let a = c .before .before .before .before .before .before .before .args in
+    let o = c .before .before .before .before .before .loop in
+    let e : a .end - (o .at + 1) ≡ a .end - o .at - 1 = omega arith in
+    (omega arith, rw (e, add-one (o .at)) (rw (c .if2 .left) at (turned (c .before))))
+
+returns-3 : tie.Need-returns-3 Inv-loop μ-loop
+unfolding firstSet
+returns-3 c =
+    let o = c .before .loop in
+    let a = c .before .before .before .args in
+    rw (range-out (a .bitmap .now) (o .j) (o .k) (a .end - o .at) (c .loop-test .left)) at (o .inv .1)
+
+pub next-set-spec : {M : Type 1} → statement M
+next-set-spec =
+    tie.close
+    (tie.spec
+    Inv-loop
+    μ-loop
+    loop-holds
+    returns
+    shared-slice-read-bit
+    bit-requires
+    returns-2
+    add-j
+    add-j-2
+    add-k
+    add-at
+    loop-less
+    loop-again
+    returns-3)
