@@ -1,0 +1,74 @@
+-- What the lent map table means: a list of rows, one for each map region, row 0 first. A row is three words. Words at the end that make no whole row are no row.
+-- Only `rowsOf` and `written` speak of words: every other definition is on that list.
+use Prim.Native.Nat.{ℕ, zero, suc, _+_, _-_, _*_}
+use mathlib.Core.Bool.{Bool, true, false, not, cond}
+use mathlib.Core.List.{List, [], _∷_, _++_}
+use lib.Dec.{eqb, ltb}
+use lib.ListN.{length, getD, take, drop}
+use Rattle.units.specs.Numbers.{held, mapRegion}
+use Rattle.rows.specs.declared.FirstUnmapped.{FirstUnmapped}
+use Rattle.rows.specs.declared.FirstUnmapped.the-variants.{Row, NoneLeft}
+use Rattle.rows.specs.declared.MapRow.{MapRow}
+use Rattle.rows.specs.declared.Mapping.{Mapping}
+use Rattle.rows.specs.declared.Mapping.the-variants.{At, Unmapped, PastTable}
+
+-- the rows of a table of words
+unfoldable pub rowsOf : List ℕ → List MapRow
+rowsOf [] = []
+rowsOf (a ∷ []) = []
+rowsOf (a ∷ b ∷ []) = []
+rowsOf (slot ∷ mapped ∷ host ∷ words) = record { slot = slot; mapped = mapped; host = record { 0 = host } } ∷ rowsOf words
+
+-- the words of these rows
+unfoldable pub wordsOf : List MapRow → List ℕ
+wordsOf [] = []
+wordsOf (row ∷ rows) = row .slot ∷ row .mapped ∷ row .host .0 ∷ wordsOf rows
+
+-- the table with these rows, and its own words past them
+abbrev pub written : (words : List ℕ) → List MapRow → List ℕ
+written words rows = wordsOf rows ++ drop (3 * length rows) words
+
+-- row i; past the table slot 0, not mapped
+abbrev pub rowAt : List MapRow → ℕ → MapRow
+rowAt rows i = getD rows i (record { slot = 0; mapped = 0; host = record { 0 = 0 } })
+
+-- "mapped (0 no, anything else yes)"
+abbrev pub isMapped : MapRow → Bool
+isMapped row = not (eqb (row .mapped) 0)
+
+-- "the row is past the table, or unmapped", or where it is mapped
+unfoldable pub mappingOf : List MapRow → ℕ → Mapping
+mappingOf rows i =
+    cond (ltb i (length rows))
+    (cond (isMapped (rowAt rows i)) (At (rowAt rows i .host)) Unmapped)
+    PastTable
+
+-- the first row that is not mapped, where the first of the list is row i
+unfoldable pub unmappedFrom : ℕ → List MapRow → FirstUnmapped
+unmappedFrom i [] = NoneLeft
+unmappedFrom i (row ∷ rows) = cond (isMapped row) (unmappedFrom (suc i) rows) (Row i)
+
+-- "the first map region without a mapping from first to last", among the rows that exist
+abbrev pub firstUnmapped : List MapRow → (first last : ℕ) → FirstUnmapped
+firstUnmapped rows first last = unmappedFrom first (take (last + 1 - first) (drop first rows))
+
+-- the row mapped at a host address, which is held at 2^64 - 1
+abbrev pub mappedAt : ℕ → MapRow → MapRow
+mappedAt host row = record { slot = row .slot; mapped = 1; host = record { 0 = held host } }
+
+-- `count` rows from row i on mapped, the first at host and each 2 GiB past the one before; among the rows that exist
+unfoldable pub fillRows : List MapRow → (i count host : ℕ) → List MapRow
+fillRows [] i count host = []
+fillRows (row ∷ rows) (suc i) count host = row ∷ fillRows rows i count host
+fillRows (row ∷ rows) zero zero host = row ∷ rows
+fillRows (row ∷ rows) zero (suc count) host = mappedAt host row ∷ fillRows rows zero count (host + mapRegion)
+
+-- "Row j then gets the answered host address + (j - i) x 2 GiB", for i to last
+abbrev pub filled : List MapRow → (i last host : ℕ) → List MapRow
+filled rows i last host = fillRows rows i (last + 1 - i) host
+
+-- "writes each row: slot, not mapped", among the rows that exist; those past the slots stay
+unfoldable pub laid : List MapRow → (slots : List ℕ) → List MapRow
+laid [] slots = []
+laid (row ∷ rows) [] = row ∷ rows
+laid (row ∷ rows) (slot ∷ slots) = record { slot = slot; mapped = 0; host = record { 0 = 0 } } ∷ laid rows slots
