@@ -1,0 +1,224 @@
+-- Laws on numbers as bytes, on bytes written at a place, and on the three layouts. Every caller cites them. Assumes nothing.
+use Prim.Native.Nat.{ℕ, zero, suc, _+_, _-_, _*_, _/_, _%_, _^_, _≤_, _<_}
+use mathlib.Core.Path.{_≡_, refl, sym, ap, _∙_}
+use mathlib.Core.List.{List, [], _∷_, _++_, append-assoc}
+use native.Mathlib.Nat.{pow-succ', one-le-pow, div-one, div-div-eq-div-mul, mul-assoc, add-mul-mod-self-left, mod-lt, mod-one, mod-eq-of-lt, div-add-mod, zero-sub, suc-sub-suc, sub-zero}
+use native.Mathlib.Omega.{arith}
+use lib.ListN.{length, take, drop, getD, set, length-set}
+use lib.Seq.{sets, sets-eq, set-out, take-set-le, drop-set-lt, drop-set-add, take-take, drop-drop, take-at, drop-at, length-take-le, take-nil}
+use Rattle.wire.specs.declared.VirtioMemResp.{VirtioMemResp}
+use Rattle.wire.specs.declared.VirtioMemConfig.{VirtioMemConfig}
+use Rattle.wire.specs.declared.Field.{Field}
+use Rattle.wire.specs.Bytes.{value, littleEndian, part, put}
+use Rattle.wire.specs.Layout.{requestAt, responseBytes, configFields, configValues, laid, configBytes}
+
+-- ---- numbers as bytes
+
+mod-split : (v m : ℕ) → 0 < m → v % (256 * m) ≡ v % 256 + 256 * (v / 256 % m)
+mod-split v m h =
+    let x : ℕ = v % 256 + 256 * (v / 256 % m) in
+    let b : v / 256 % m < m = mod-lt (v / 256) h in
+    let e : v ≡ x + 256 * m * (v / 256 / m) =
+    omega (arith, div-add-mod v 256, div-add-mod (v / 256) m, mul-assoc 256 m (v / 256 / m)) in
+    let s : x < 256 * m = omega arith in
+    ap (λ (n : ℕ). n % (256 * m)) e ∙ add-mul-mod-self-left x (256 * m) (v / 256 / m) ∙ mod-eq-of-lt s
+
+pub length-littleEndian : (n v : ℕ) → length (littleEndian n v) ≡ n
+unfolding littleEndian
+length-littleEndian zero v = refl
+length-littleEndian (suc n) v = ap suc (length-littleEndian n (v / 256))
+
+-- the lowest n bytes of v mean v without what lies above them
+pub value-littleEndian : (n v : ℕ) → value (littleEndian n v) ≡ v % 256 ^ n
+unfolding value littleEndian
+value-littleEndian zero v = sym (mod-one v)
+value-littleEndian (suc n) v =
+    rw (value-littleEndian n (v / 256), pow-succ') (sym (mod-split v (256 ^ n) (one-le-pow n 256 (omega arith))))
+
+-- and v itself where it fits
+pub value-fits : (n v : ℕ) → v < 256 ^ n → value (littleEndian n v) ≡ v
+value-fits n v h = value-littleEndian n v ∙ mod-eq-of-lt h
+
+-- without its lowest s bytes, a number is what stands above them
+pub drop-littleEndian : (s n v : ℕ) → drop s (littleEndian n v) ≡ littleEndian (n - s) (v / 256 ^ s)
+unfolding littleEndian
+drop-littleEndian zero n v = rw (sub-zero, div-one)
+drop-littleEndian (suc s) zero v = rw zero-sub
+drop-littleEndian (suc s) (suc n) v =
+    rw (suc-sub-suc, pow-succ', ← div-div-eq-div-mul v 256 (256 ^ s)) (drop-littleEndian s n (v / 256))
+
+-- n bytes mean a number below 256 to the n
+pub value-below : (xs : List ℕ) → ((i : ℕ) → getD xs i 0 < 256) → value xs < 256 ^ length xs
+unfolding value
+value-below [] h = omega arith
+value-below (b ∷ bs) h =
+    let here : b < 256 = h 0 in
+    let there : value bs < 256 ^ length bs = value-below bs (λ i. h (suc i)) in
+    rw (pow-succ' 256 (length bs)) (omega arith)
+
+-- ---- bytes written at a place
+
+pub length-put : (xs : List ℕ) (at : ℕ) (ys : List ℕ) → length (put xs at ys) ≡ length xs
+unfolding put
+length-put xs at [] = refl
+length-put xs at (y ∷ ys) = length-put (set xs at y) (suc at) ys ∙ length-set xs at y
+
+-- past the end nothing is written
+pub put-past : (xs : List ℕ) (at : ℕ) (ys : List ℕ) → length xs ≤ at → put xs at ys ≡ xs
+unfolding put
+put-past xs at [] h = refl
+put-past xs at (y ∷ ys) h =
+    let e : set xs at y ≡ xs = set-out xs at y h in
+    rw e (put-past xs (suc at) ys (omega arith))
+
+-- two parts are written one after the other
+pub put-append : (xs : List ℕ) (at : ℕ) (ys zs : List ℕ) → put xs at (ys ++ zs) ≡ put (put xs at ys) (at + length ys) zs
+unfolding put
+put-append xs at [] zs = let e : at + 0 ≡ at = omega arith in rw e
+put-append xs at (y ∷ ys) zs =
+    let e : at + suc (length ys) ≡ suc at + length ys = omega arith in
+    rw e (put-append (set xs at y) (suc at) ys zs)
+
+-- the bytes before the place stay
+pub take-put : (n : ℕ) (xs : List ℕ) (at : ℕ) (ys : List ℕ) → n ≤ at → take n (put xs at ys) ≡ take n xs
+unfolding put
+take-put n xs at [] h = refl
+take-put n xs at (y ∷ ys) h = take-put n (set xs at y) (suc at) ys (omega arith) ∙ take-set-le n xs at y h
+
+-- the bytes behind what is written stay
+pub drop-put : (n : ℕ) (xs : List ℕ) (at : ℕ) (ys : List ℕ) → at + length ys ≤ n → drop n (put xs at ys) ≡ drop n xs
+unfolding put
+drop-put n xs at [] h = refl
+drop-put n xs at (y ∷ ys) h =
+    drop-put n (set xs at y) (suc at) ys (omega arith) ∙ drop-set-lt n xs at y (omega arith)
+
+-- where all of ys fits: what is before, ys, and what is behind
+put-sets : (xs : List ℕ) (at : ℕ) (ys : List ℕ) → put xs at ys ≡ sets xs at ys
+unfolding put
+put-sets xs at [] = refl
+put-sets xs at (y ∷ ys) = put-sets (set xs at y) (suc at) ys
+
+pub put-fits : (xs : List ℕ) (at : ℕ) (ys : List ℕ) → at + length ys ≤ length xs
+    → put xs at ys ≡ take at xs ++ ys ++ drop (at + length ys) xs
+put-fits xs at ys h = put-sets xs at ys ∙ sets-eq ys xs at h
+
+-- ---- parts
+
+drop-take : (k m : ℕ) (l : List ℕ) → drop k (take m l) ≡ take (m - k) (drop k l)
+drop-take zero m l = rw sub-zero
+drop-take (suc k) zero l = rw zero-sub
+drop-take (suc k) (suc m) [] = rw (take-nil (suc m - suc k))
+drop-take (suc k) (suc m) (x ∷ l) = rw (suc-sub-suc) (drop-take k m l)
+
+-- a part of what stands from a place on
+pub part-drop : (xs : List ℕ) (at k n : ℕ) → part (drop at xs) k n ≡ part xs (at + k) n
+unfolding part
+part-drop xs at k n = ap (take n) (drop-drop k at xs)
+
+-- a part of a part
+pub part-part : (xs : List ℕ) (at m k n : ℕ) → k + n ≤ m → part (part xs at m) k n ≡ part xs (at + k) n
+unfolding part
+part-part xs at m k n h =
+    let e : drop k (take m (drop at xs)) ≡ take (m - k) (drop k (drop at xs)) = drop-take k m (drop at xs) in
+    let i : n ≤ m - k = omega arith in
+    rw (e, take-take n (m - k) (drop k (drop at xs)) i, drop-drop k at xs)
+
+-- what was written reads back
+pub part-put : (xs : List ℕ) (at : ℕ) (ys : List ℕ) → at + length ys ≤ length xs → part (put xs at ys) at (length ys) ≡ ys
+unfolding part
+part-put xs at ys h =
+    let n : length (take at xs) ≡ at = length-take-le at xs (omega arith) in
+    rw (put-fits xs at ys h, append-assoc, drop-at (take at xs) (ys ++ drop (at + length ys) xs) at n)
+    (take-at ys (drop (at + length ys) xs) (length ys) refl)
+
+-- and so does each part of it
+pub part-put-inside : (xs : List ℕ) (at : ℕ) (ys : List ℕ) (k n : ℕ) → at + length ys ≤ length xs → k + n ≤ length ys
+    → part (put xs at ys) (at + k) n ≡ part ys k n
+part-put-inside xs at ys k n h i =
+    sym (part-part (put xs at ys) at (length ys) k n i) ∙ ap (λ (l : List ℕ). part l k n) (part-put xs at ys h)
+
+part-set-before : (xs : List ℕ) (at y i n : ℕ) → i + n ≤ at → part (set xs at y) i n ≡ part xs i n
+unfolding part
+part-set-before xs at y i n h =
+    let e : i + (at - i) ≡ at = omega arith in
+    let d : drop i (set xs at y) ≡ set (drop i xs) (at - i) y = rw e at (drop-set-add i xs (at - i) y) in
+    let k : n ≤ at - i = omega arith in
+    rw (d, take-set-le n (drop i xs) (at - i) y k)
+
+-- a part before what is written stays
+pub part-put-before : (xs : List ℕ) (at : ℕ) (ys : List ℕ) (i n : ℕ) → i + n ≤ at → part (put xs at ys) i n ≡ part xs i n
+unfolding put part
+part-put-before xs at [] i n h = refl
+part-put-before xs at (y ∷ ys) i n h =
+    part-put-before (set xs at y) (suc at) ys i n (omega arith)
+    ∙ part-set-before xs at y i n h
+
+-- a part behind what is written stays
+pub part-put-behind : (xs : List ℕ) (at : ℕ) (ys : List ℕ) (i n : ℕ) → at + length ys ≤ i → part (put xs at ys) i n ≡ part xs i n
+unfolding part
+part-put-behind xs at ys i n h = ap (take n) (drop-put i xs at ys h)
+
+-- ---- the three layouts
+
+-- a request is its 24 bytes and nothing else
+pub request-part : (xs : List ℕ) (at : ℕ) → requestAt xs at ≡ requestAt (part xs at 24) 0
+unfolding requestAt
+request-part xs at =
+    let t : part (part xs at 24) 0 2 ≡ part xs (at + 0) 2 = part-part xs at 24 0 2 (omega arith) in
+    let a : part (part xs at 24) 8 8 ≡ part xs (at + 8) 8 = part-part xs at 24 8 8 (omega arith) in
+    let n : part (part xs at 24) 16 2 ≡ part xs (at + 16) 2 = part-part xs at 24 16 2 (omega arith) in
+    let z : at + 0 ≡ at = omega arith in
+    cc
+
+pub length-response : (r : VirtioMemResp) → length (responseBytes r) ≡ 10
+unfolding responseBytes littleEndian
+length-response r = refl
+
+first : (r : VirtioMemResp) → part (responseBytes r) 0 2 ≡ littleEndian 2 (r .«resp_type»)
+unfolding part responseBytes littleEndian
+first r = refl
+
+last : (r : VirtioMemResp) → part (responseBytes r) 8 2 ≡ littleEndian 2 (r .state)
+unfolding part responseBytes littleEndian
+last r = refl
+
+-- the guest reads back the type and the state that were written
+pub response-type : (xs : List ℕ) (at : ℕ) (r : VirtioMemResp) → at + 10 ≤ length xs → r .«resp_type» < 65536
+    → value (part (put xs at (responseBytes r)) at 2) ≡ r .«resp_type»
+response-type xs at r h t =
+    let z : at + 0 ≡ at = omega arith in
+    let e : part (put xs at (responseBytes r)) (at + 0) 2 ≡ part (responseBytes r) 0 2 =
+    part-put-inside xs at (responseBytes r) 0 2 (rw length-response h) (rw length-response (omega arith)) in
+    ap value (rw z at e ∙ first r) ∙ value-fits 2 (r .«resp_type») t
+
+pub response-state : (xs : List ℕ) (at : ℕ) (r : VirtioMemResp) → at + 10 ≤ length xs → r .state < 65536
+    → value (part (put xs at (responseBytes r)) (at + 8) 2) ≡ r .state
+response-state xs at r h t =
+    let e : part (put xs at (responseBytes r)) (at + 8) 2 ≡ part (responseBytes r) 8 2 =
+    part-put-inside xs at (responseBytes r) 8 2 (rw length-response h) (rw length-response (omega arith)) in
+    ap value (e ∙ last r) ∙ value-fits 2 (r .state) t
+
+pub length-config : (c : VirtioMemConfig) → length (configBytes c) ≡ 56
+unfolding configBytes laid put littleEndian configFields configValues
+length-config c = refl
+
+-- what holds of each of the eight fields
+pub eight : (P : ℕ → Type 0) → P 0 → P 1 → P 2 → P 3 → P 4 → P 5 → P 6 → P 7 → (k : ℕ) → k < 8 → P k
+eight P p₀ p₁ p₂ p₃ p₄ p₅ p₆ p₇ zero h = p₀
+eight P p₀ p₁ p₂ p₃ p₄ p₅ p₆ p₇ (suc zero) h = p₁
+eight P p₀ p₁ p₂ p₃ p₄ p₅ p₆ p₇ (suc (suc zero)) h = p₂
+eight P p₀ p₁ p₂ p₃ p₄ p₅ p₆ p₇ (suc (suc (suc zero))) h = p₃
+eight P p₀ p₁ p₂ p₃ p₄ p₅ p₆ p₇ (suc (suc (suc (suc zero)))) h = p₄
+eight P p₀ p₁ p₂ p₃ p₄ p₅ p₆ p₇ (suc (suc (suc (suc (suc zero))))) h = p₅
+eight P p₀ p₁ p₂ p₃ p₄ p₅ p₆ p₇ (suc (suc (suc (suc (suc (suc zero)))))) h = p₆
+eight P p₀ p₁ p₂ p₃ p₄ p₅ p₆ p₇ (suc (suc (suc (suc (suc (suc (suc zero))))))) h = p₇
+eight P p₀ p₁ p₂ p₃ p₄ p₅ p₆ p₇ (suc (suc (suc (suc (suc (suc (suc (suc k)))))))) h = absurd (omega arith)
+
+-- each field of the table holds its value
+pub config-field : (c : VirtioMemConfig) (k : ℕ) (d : Field) → k < 8
+    → part (configBytes c) (getD configFields k d .0) (getD configFields k d .1)
+    ≡ littleEndian (getD configFields k d .1) (getD (configValues c) k 0)
+unfolding configBytes laid put part littleEndian configFields configValues
+config-field c k d =
+    eight (λ k. part (configBytes c) (getD configFields k d .0) (getD configFields k d .1) ≡ littleEndian (getD configFields k d .1) (getD (configValues c) k 0))
+    refl refl refl refl refl refl refl refl k

@@ -1,0 +1,12 @@
+-- `config_fields` meets its contract: the constant of the code is the table of the definitions, pair by pair. Assumes nothing.
+use mathlib.Core.Path.{refl}
+use Rattle.wire.specs.Layout.{configFields}
+use Rattle.wire.proofs.config_fields.Statement.{statement}
+use Rattle.wire.proofs.config_fields.Tie as tie
+
+returns : tie.Need-returns
+unfolding configFields
+returns c = refl
+
+pub config-fields-spec : {M : Type 1} → statement M
+config-fields-spec = tie.close (tie.spec returns)

@@ -1,0 +1,71 @@
+-- The request, the response and the config as 01 lays them out. Assumes nothing.
+use Prim.Native.Nat.{ℕ, _+_}
+use mathlib.Core.List.{List, [], _∷_, _++_}
+use lib.ListN.{replicate}
+use Rattle.wire.specs.declared.VirtioMemReq.{VirtioMemReq}
+use Rattle.wire.specs.declared.VirtioMemResp.{VirtioMemResp}
+use Rattle.wire.specs.declared.VirtioMemConfig.{VirtioMemConfig}
+use Rattle.wire.specs.declared.Field.{Field}
+use Rattle.wire.specs.Bytes.{value, littleEndian, part, put}
+
+-- "Request, 24: type at 0 (2 bytes), address at 8 (8), blocks at 16 (2); others ignored."
+unfoldable pub requestAt : List ℕ → ℕ → VirtioMemReq
+requestAt xs at =
+    record {
+      «req_type» = value (part xs at 2);
+      addr = record { 0 = value (part xs (at + 8) 8) };
+      «nb_blocks» = value (part xs (at + 16) 2);
+    }
+
+-- "Response, 10: type at 0, six zeros, state at 8."
+unfoldable pub responseBytes : VirtioMemResp → List ℕ
+responseBytes r = littleEndian 2 (r .«resp_type») ++ (replicate 6 0 ++ littleEndian 2 (r .state))
+
+-- "block size 0/8, node 8/2, zeros 10/6, start 16/8, region 24/8, usable 32/8, plugged 40/8, requested 48/8"
+unfoldable pub configFields : List Field
+configFields =
+    record { 0 = 0; 1 = 8 }
+    ∷ record { 0 = 8; 1 = 2 }
+    ∷ record { 0 = 10; 1 = 6 }
+    ∷ record { 0 = 16; 1 = 8 }
+    ∷ record { 0 = 24; 1 = 8 }
+    ∷ record { 0 = 32; 1 = 8 }
+    ∷ record { 0 = 40; 1 = 8 }
+    ∷ record { 0 = 48; 1 = 8 }
+    ∷ []
+
+-- what stands in each field of the table, in its order
+unfoldable pub configValues : VirtioMemConfig → List ℕ
+configValues c =
+    c .«block_size»
+    ∷ c .«node_id»
+    ∷ 0
+    ∷ c .addr .0
+    ∷ c .«region_size»
+    ∷ c .«usable_region_size»
+    ∷ c .«plugged_size»
+    ∷ c .«requested_size»
+    ∷ []
+
+-- xs with each value written at its field's offset, in its field's width
+unfoldable pub laid : List ℕ → List Field → List ℕ → List ℕ
+laid xs [] vs = xs
+laid xs (f ∷ fs) [] = xs
+laid xs (f ∷ fs) (v ∷ vs) = laid (put xs (f .0) (littleEndian (f .1) v)) fs vs
+
+-- "Config is 56 bytes, and one table of field offsets and widths serves every read"
+unfoldable pub configBytes : VirtioMemConfig → List ℕ
+configBytes c = laid (replicate 56 0) configFields (configValues c)
+
+-- a config before the device is placed: no start, nothing usable, nothing plugged
+abbrev pub newConfig : ℕ → ℕ → ℕ → ℕ → VirtioMemConfig
+newConfig blockSize node region requested =
+    record {
+      «block_size» = blockSize;
+      «node_id» = node;
+      addr = record { 0 = 0 };
+      «region_size» = region;
+      «usable_region_size» = 0;
+      «plugged_size» = 0;
+      «requested_size» = requested;
+    }
