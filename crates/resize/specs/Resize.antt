@@ -1,0 +1,41 @@
+-- The usable size and the one creation that it may ask for (01, "The usable size"), over numbers and the list of rows. b is the block size.
+use Prim.Native.Nat.{ℕ, _+_, _-_, _*_, _/_, min, max}
+use mathlib.Core.Bool.{Bool, cond, _&&_}
+use mathlib.Core.List.{List}
+use lib.Dec.{ltb, eqb}
+use Rattle.rows.specs.declared.FirstUnmapped.{FirstUnmapped}
+use Rattle.rows.specs.declared.FirstUnmapped.the-variants.{Row, NoneLeft}
+use Rattle.rows.specs.declared.MapRow.{MapRow}
+use Rattle.rows.specs.Rows.{firstUnmapped}
+use Rattle.units.specs.Numbers.{mapRegion, mapRegions}
+use Rattle.resize.specs.declared.Growth.{Growth}
+use Rattle.resize.specs.declared.Growth.the-variants.{Asks, Settled}
+
+-- "New size is the smaller of the region and requested + 2 x alignment, rounded down to a block; 0 if requested is 0"
+unfoldable pub newSize : (b region requested alignment : ℕ) → ℕ
+newSize b region requested alignment = cond (eqb requested 0) 0 (min region (requested + 2 * alignment) / b * b)
+
+-- "It never shrinks: a smaller result changes nothing"
+abbrev pub grown : (usable new : ℕ) → ℕ
+grown usable new = max usable new
+
+-- "first = old usable / 2 GiB, last = new / 2 GiB, each held to the last row"
+abbrev pub rowOf : (region : ℕ) (several : Bool) (size : ℕ) → ℕ
+rowOf region several size = min (size / mapRegion) (mapRegions region several - 1)
+
+-- "size (last - i) x 2 GiB plus 2 GiB, or plus region - last x 2 GiB if last is the final row"
+unfoldable pub creationSize : (region : ℕ) (several : Bool) (i last : ℕ) → ℕ
+creationSize region several i last =
+    (last - i) * mapRegion + cond (eqb (last + 1) (mapRegions region several)) (region - last * mapRegion) mapRegion
+
+-- "If there is one at i, one creation covers i to last"
+unfoldable pub growthAt : FirstUnmapped → (region : ℕ) (several : Bool) (last : ℕ) → Growth
+growthAt (Row i) region several last = Asks i last (creationSize region several i last)
+growthAt NoneLeft region several last = Settled
+
+-- "If it grows and there are several regions: .. The search ends at the first map region without a mapping from first to last"
+unfoldable pub growthOf : (region : ℕ) (several : Bool) (usable new : ℕ) → List MapRow → Growth
+growthOf region several usable new rows =
+    cond (several && ltb usable new)
+    (growthAt (firstUnmapped rows (rowOf region several usable) (rowOf region several new)) region several (rowOf region several new))
+    Settled
