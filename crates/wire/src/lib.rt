@@ -63,7 +63,7 @@ pub const CONFIG_FIELDS: [Field; 8] = [
     Field(48, 8),
 ];
 
-// The table as the definitions have it.
+// The constant is the table that the definitions read: no contract can name a constant array, so this one says that the two are the same.
 pub fn config_fields() -> [Field; 8]
     ensures { λ r. ⌜ r ≡ configFields ⌝ }
 {

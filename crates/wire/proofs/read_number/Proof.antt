@@ -73,7 +73,7 @@ mul-v : tie.Need-mul-v Inv-loop μ-loop
 mul-v c =
     let o = c .before .loop in
     let a = c .before .before .before .before .before .args in
-    omega (arith, room (a .width) (o .k) (o .v) (c .loop-test .taken) (c .before .before .before .before .before .pre) (o .inv .3))
+    omega (arith, room (a .width) (o .k) (o .v) (omega arith) (c .before .before .before .before .before .pre) (o .inv .3))
 
 shared-slice-read-v : tie.Need-shared-slice-read-v Inv-loop μ-loop
 shared-slice-read-v c = omega arith
@@ -87,7 +87,7 @@ add-v c =
     let start = c .before .before .before .before .before .before in
     omega (
       arith,
-      room (start .args .width) (o .k) (o .v) (c .before .loop-test .taken) (start .pre) (o .inv .3),
+      room (start .args .width) (o .k) (o .v) (omega arith) (start .pre) (o .inv .3),
       c .shared-slice-known2 .given (o .k - 1),
     )
 
@@ -99,7 +99,7 @@ loop-again c =
     let o = c .before .before .loop in
     let n = c .before .before .before .before .before .before .args .width in
     let xs = c .before .before .before .before .from .result .now in
-    let p = c .before .loop-test .taken in (
+    let p : 0 < o .k = omega arith in (
       omega arith,
       omega arith,
       turn xs n (o .k) (o .v) p (o .inv .0) (o .inv .1) (o .inv .2),
