@@ -1,8 +1,8 @@
 -- The laws of `specs/Rows.antt` that a caller cites. All are on lists of rows, and none speaks of words. Assumes nothing.
 use Prim.Native.Nat.{ℕ, zero, suc, _+_, _-_, _*_, _≤_, _<_, min}
-use mathlib.Core.Path.{_≡_, refl, ap, sym, _∙_}
-use mathlib.Core.Bool.{Bool, true, false, not, cond}
-use mathlib.Core.List.{List, [], _∷_, _++_}
+use mathlib.Core.Path.{_≡_, refl, ap, _∙_}
+use mathlib.Core.Bool.{true, false}
+use mathlib.Core.List.{List, [], _∷_}
 use native.Mathlib.Omega.{arith}
 use lib.Dec.{eqb}
 use lib.ListN.{length, getD, take, drop, length-take, length-drop}
@@ -13,7 +13,7 @@ use Rattle.units.proofs.Tests.{by-test}
 use Rattle.rows.specs.declared.FirstUnmapped.the-variants.{Row, NoneLeft}
 use Rattle.rows.specs.declared.Mapping.the-variants.{At, Unmapped, PastTable}
 use Rattle.rows.specs.declared.MapRow.{MapRow}
-use Rattle.rows.specs.Rows.{rowsOf, wordsOf, written, rowAt, isMapped, mappingOf, unmappedFrom, firstUnmapped, mappedAt, fillRows, filled, laid}
+use Rattle.rows.specs.Rows.{rowAt, mappingOf, unmappedFrom, firstUnmapped, mappedAt, fillRows, filled, laid}
 
 -- ---- where a row is mapped: its three cases
 module _ (rs : List MapRow) (i : ℕ) where

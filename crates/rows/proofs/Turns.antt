@@ -8,7 +8,7 @@ use lib.ListN.{length, getD, set, take, drop, length-set}
 use lib.Seq.{drop-cons, drop-nil, take-nil}
 use Rattle.units.specs.Numbers.{held, mapRegion}
 use borrow.Author.Tests.{eq-eqb, ne-eqb}
-use Rattle.rows.specs.declared.FirstUnmapped.the-variants.{Row, NoneLeft}
+use Rattle.rows.specs.declared.FirstUnmapped.the-variants.{Row}
 use Rattle.rows.specs.declared.MapRow.{MapRow}
 use Rattle.rows.specs.Rows.{rowsOf, written, rowAt, unmappedFrom, mappedAt, fillRows, laid}
 use Rattle.rows.proofs.Words.{read-back, written-again}

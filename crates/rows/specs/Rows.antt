@@ -1,7 +1,7 @@
--- What the lent map table means: a list of rows, one for each map region, row 0 first. A row is three words. Words at the end that make no whole row are no row.
--- Only `rowsOf` and `written` speak of words: every other definition is on that list.
+-- What the lent map table means: a list of rows, one for each map region, row 0 first. A row is three words: its slot, whether it is mapped (0 is no, anything else is yes), and its host address. Words at the end that make no whole row are no row.
+-- Only `rowsOf`, `wordsOf` and `written` speak of words: every other definition is on that list.
 use Prim.Native.Nat.{ℕ, zero, suc, _+_, _-_, _*_}
-use mathlib.Core.Bool.{Bool, true, false, not, cond}
+use mathlib.Core.Bool.{Bool, not, cond}
 use mathlib.Core.List.{List, [], _∷_, _++_}
 use lib.Dec.{eqb, ltb}
 use lib.ListN.{length, getD, take, drop}
@@ -32,7 +32,6 @@ written words rows = wordsOf rows ++ drop (3 * length rows) words
 abbrev pub rowAt : List MapRow → ℕ → MapRow
 rowAt rows i = getD rows i (record { slot = 0; mapped = 0; host = record { 0 = 0 } })
 
--- "mapped (0 no, anything else yes)"
 abbrev pub isMapped : MapRow → Bool
 isMapped row = not (eqb (row .mapped) 0)
 

@@ -1,17 +1,14 @@
-use Prim.Native.Nat.{suc, _+_, _-_, _*_, _≤_, _<_}
+-- `first_unmapped` meets its contract. The invariant: the search from `row` on gives what the search from `first` on gives.
+use Prim.Native.Nat.{suc, _+_, _-_}
 use mathlib.Core.Path.{_≡_, refl, sym, ap, _∙_}
 use native.Mathlib.Omega.{arith}
-use lib.ListN.{length, getD, set, take, drop, length-set}
-use Rattle.rows.specs.Rows.{rowsOf, written, rowAt, isMapped, unmappedFrom, firstUnmapped, fillRows, filled, laid}
+use lib.ListN.{take, drop}
+use Rattle.rows.specs.Rows.{rowsOf, rowAt, unmappedFrom, firstUnmapped}
 use mathlib.Core.Logic.{⊎-elim}
 use Rattle.rows.proofs.Turns.{range-nothing, search-on, search-ends}
 use borrow.Author.Needs.{needs}
 use Rattle.rows.proofs.first_unmapped.Statement.{statement}
 use Rattle.rows.proofs.first_unmapped.Tie as tie
-use Rattle.rows.proofs.first_unmapped.Reads as reads
-use Rattle.rows.proofs.first_unmapped.Lts as lts
-use Rattle.rows.proofs.row_at.Reads as row-at-reads
-use Rattle.rows.proofs.end_of.Reads as end-of-reads
 
 abbrev Inv-loop : tie.InvT-loop
 Inv-loop table first last end row₀ row = unmappedFrom row (take (last + 1 - row) (drop row (rowsOf table))) ≡ firstUnmapped (rowsOf table) first last

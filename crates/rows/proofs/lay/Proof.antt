@@ -1,16 +1,14 @@
-use Prim.Native.Nat.{_+_, _-_, _*_, _≤_, _<_}
+-- `lay` meets its contract. The invariant: laying the rest of the slots from row j on, in the table as it stands now, gives what laying them all in the lent table gives.
+use Prim.Native.Nat.{_-_}
 use mathlib.Core.Path.{_≡_, refl, sym, ap, _∙_}
 use native.Mathlib.Omega.{arith}
-use lib.ListN.{length, getD, set, take, drop, length-set, drop-of-length-le}
-use Rattle.rows.specs.Rows.{rowsOf, written, rowAt, isMapped, unmappedFrom, firstUnmapped, fillRows, filled, laid}
+use lib.ListN.{length, drop, drop-of-length-le}
+use Rattle.rows.specs.Rows.{rowsOf, written, laid}
 use borrow.Author.Needs.{needs}
 use Rattle.rows.proofs.Turns.{laidFrom, laid-start, laid-none, laid-put}
 use Rattle.rows.proofs.Words.{whole, put-length}
 use Rattle.rows.proofs.lay.Statement.{statement}
 use Rattle.rows.proofs.lay.Tie as tie
-use Rattle.rows.proofs.lay.Reads as reads
-use Rattle.rows.proofs.lay.Lts as lts
-use Rattle.rows.proofs.put_row.Reads as put-row-reads
 
 abbrev Inv-loop : tie.InvT-loop
 Inv-loop table₀ slots j₀ table j = (length table ≡ length table₀) × (written table (laidFrom j (rowsOf table) (drop j slots)) ≡ written table₀ (laid (rowsOf table₀) slots))

@@ -6,10 +6,6 @@ use Rattle.rows.proofs.Laws.{mapping-past, mapping-unmapped, mapping-at
 use borrow.Author.Needs.{needs}
 use Rattle.rows.proofs.mapping_of.Statement.{statement}
 use Rattle.rows.proofs.mapping_of.Tie as tie
-use Rattle.rows.proofs.mapping_of.Reads as reads
-use Rattle.rows.proofs.mapping_of.Lts as lts
-use Rattle.rows.proofs.row_at.Reads as row-at-reads
-use Rattle.rows.proofs.row_count.Reads as row-count-reads
 
 row-count-requires : tie.Need-row-count-requires
 row-count-requires c κs = search needs

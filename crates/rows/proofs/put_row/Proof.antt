@@ -1,16 +1,13 @@
-use Prim.Native.Nat.{_+_, _-_, _*_, _≤_, _<_}
-use mathlib.Core.Path.{_≡_, refl, sym, ap, _∙_}
+use Prim.Native.Nat.{_+_, _-_, _*_, _<_}
+use mathlib.Core.Path.{sym, ap, _∙_}
 use native.Mathlib.Omega.{arith}
-use lib.ListN.{length, getD, set, take, drop, length-set}
-use Rattle.rows.specs.Rows.{rowsOf, written, rowAt, isMapped, unmappedFrom, firstUnmapped, fillRows, filled, laid}
+use lib.ListN.{length, length-set}
+use Rattle.rows.specs.Rows.{rowsOf, written}
 use lib.Seq.{set-out}
 use Rattle.rows.proofs.Words.{count, whole, stores}
 use borrow.Author.Needs.{needs}
 use Rattle.rows.proofs.put_row.Statement.{statement}
 use Rattle.rows.proofs.put_row.Tie as tie
-use Rattle.rows.proofs.put_row.Reads as reads
-use Rattle.rows.proofs.put_row.Lts as lts
-use Rattle.rows.proofs.row_count.Reads as row-count-reads
 
 row-count-requires : tie.Need-row-count-requires
 row-count-requires c κs = search needs

@@ -1,16 +1,12 @@
-use Prim.Native.Nat.{_+_, _-_, _*_, _≤_, _<_}
-use mathlib.Core.Path.{_≡_, refl, sym, ap, _∙_}
+use Prim.Native.Nat.{_-_}
+use mathlib.Core.Path.{sym}
 use native.Mathlib.Omega.{arith}
-use lib.ListN.{length, getD, set, take, drop, length-set}
-use Rattle.rows.specs.Rows.{rowsOf, written, rowAt, isMapped, unmappedFrom, firstUnmapped, fillRows, filled, laid}
+use Rattle.rows.specs.Rows.{rowsOf}
 use lib.ListN.{List·getD-eq-default}
 use Rattle.rows.proofs.Words.{count, words-of-row}
 use borrow.Author.Needs.{needs}
 use Rattle.rows.proofs.row_at.Statement.{statement}
 use Rattle.rows.proofs.row_at.Tie as tie
-use Rattle.rows.proofs.row_at.Reads as reads
-use Rattle.rows.proofs.row_at.Lts as lts
-use Rattle.rows.proofs.row_count.Reads as row-count-reads
 
 row-count-requires : tie.Need-row-count-requires
 row-count-requires c κs = search needs

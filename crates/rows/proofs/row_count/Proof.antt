@@ -2,8 +2,6 @@ use native.Mathlib.Omega.{arith}
 use Rattle.rows.proofs.Words.{count}
 use Rattle.rows.proofs.row_count.Statement.{statement}
 use Rattle.rows.proofs.row_count.Tie as tie
-use Rattle.rows.proofs.row_count.Reads as reads
-use Rattle.rows.proofs.row_count.Lts as lts
 
 -- src/lib.rt:31:1
 returns : tie.Need-returns

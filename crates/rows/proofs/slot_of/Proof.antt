@@ -2,9 +2,6 @@ use mathlib.Core.Path.{ap}
 use borrow.Author.Needs.{needs}
 use Rattle.rows.proofs.slot_of.Statement.{statement}
 use Rattle.rows.proofs.slot_of.Tie as tie
-use Rattle.rows.proofs.slot_of.Reads as reads
-use Rattle.rows.proofs.slot_of.Lts as lts
-use Rattle.rows.proofs.row_at.Reads as row-at-reads
 
 row-at-requires : tie.Need-row-at-requires
 row-at-requires c κs = search needs

@@ -1,0 +1,17 @@
+use Rattle.record.specs.Shape.{startOk}
+use borrow.Author.Needs.{needs}
+use Rattle.record.proofs.start_ok.Statement.{statement}
+use Rattle.record.proofs.start_ok.Tie as tie
+
+is-multiple-requires : tie.Need-is-multiple-requires
+is-multiple-requires c κs = search needs
+
+span-within-requires : tie.Need-span-within-requires
+span-within-requires c κs = search needs
+
+returns : tie.Need-returns
+unfolding startOk
+returns c = cc
+
+pub start-ok-spec : {M : Type 1} → statement M
+start-ok-spec = tie.close (tie.spec is-multiple-requires span-within-requires returns)
