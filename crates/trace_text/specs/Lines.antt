@@ -1,0 +1,109 @@
+-- The trace lines of 01, section "Trace lines", each defined by its text: a form in which # stands for a number.
+use Prim.Native.Nat.{ℕ, _≤_}
+use mathlib.Core.Path.{_≡_}
+use mathlib.Core.Bool.{Bool, true, false}
+use mathlib.Core.List.{List, [], _∷_}
+use mathlib.Core.Logic.{_⊎_}
+use lib.ListN.{length}
+use Rattle.units.specs.declared.GuestAddr.{GuestAddr}
+use Rattle.units.specs.declared.HostAddr.{HostAddr}
+use Rattle.units.specs.declared.RegionOffset.{RegionOffset}
+use Rattle.text.specs.Words.{bytes}
+use Rattle.text.specs.Decimal.{largest}
+use Rattle.forms.specs.Forms.{filled}
+use Rattle.trace_text.specs.declared.Node.{Node}
+use Rattle.trace_text.specs.declared.Node.the-variants.{None, Number}
+use Rattle.trace_text.specs.declared.FirstLine.{FirstLine}
+use Rattle.trace_text.specs.declared.Op.{Op}
+use Rattle.trace_text.specs.declared.Op.the-variants.{Host, Plug, Unplug, State, UnplugAll, Size}
+use Rattle.trace_text.specs.declared.Line.{Line}
+use Rattle.trace_text.specs.declared.Line.the-variants.{First, Later, Bad}
+
+-- ---- input
+
+-- a flag is written 1 or 0
+abbrev pub flag : Bool → ℕ
+flag true = 1
+flag false = 0
+
+-- the text of the first line, by its node: `none` or a number
+abbrev pub firstText : Node → FirstLine → List ℕ
+firstText (Number node) f = filled (bytes "capacity_mib=# requested_mib=# multi=# node=# boot=# addr=# slot=#") (f .«capacity_mib» ∷ f .«requested_mib» ∷ flag (f .multi) ∷ node ∷ f .boot ∷ f .addr .0 ∷ f .slot ∷ [])
+firstText None f = filled (bytes "capacity_mib=# requested_mib=# multi=# node=none boot=# addr=# slot=#") (f .«capacity_mib» ∷ f .«requested_mib» ∷ flag (f .multi) ∷ f .boot ∷ f .addr .0 ∷ f .slot ∷ [])
+
+-- the text of a later line: each op, with its fields in 01's order
+abbrev pub opText : Op → List ℕ
+opText (Host ok addr) = filled (bytes "op=host ok=# addr=#") (flag ok ∷ addr .0 ∷ [])
+opText (Plug addr blocks) = filled (bytes "op=plug addr=# blocks=#") (addr .0 ∷ blocks ∷ [])
+opText (Unplug addr blocks) = filled (bytes "op=unplug addr=# blocks=#") (addr .0 ∷ blocks ∷ [])
+opText (State addr blocks) = filled (bytes "op=state addr=# blocks=#") (addr .0 ∷ blocks ∷ [])
+opText UnplugAll = filled (bytes "op=unplug_all") []
+opText (Size mib) = filled (bytes "op=size mib=#") (mib ∷ [])
+
+-- the text of a line; a bad line is never in its range, so its text counts for nothing
+abbrev pub textOf : Line → List ℕ
+textOf (First f) = firstText (f .node) f
+textOf (Later op) = opText op
+textOf Bad = []
+
+-- a node has 16 bits
+abbrev pub nodeInRange : Node → Type 0
+nodeInRange None = Prim.Unit {0}
+nodeInRange (Number node) = node ≤ 65535
+
+-- the numbers of the first line are in their ranges: 64 bits, but "Slots count up from `slot`; above 4,294,966,000 it is 13."
+pub record FirstInRange (f : FirstLine) : Type 0 where
+  pub capacity : f .«capacity_mib» ≤ largest
+  pub requested : f .«requested_mib» ≤ largest
+  pub node : nodeInRange (f .node)
+  pub boot : f .boot ≤ largest
+  pub addr : f .addr .0 ≤ largest
+  pub slot : f .slot ≤ 4294966000
+
+-- the numbers of a later line are in their ranges: 64 bits, and 16 for blocks
+abbrev pub opInRange : Op → Type 0
+opInRange (Host ok addr) = addr .0 ≤ largest
+opInRange (Plug addr blocks) = (addr .0 ≤ largest) × (blocks ≤ 65535)
+opInRange (Unplug addr blocks) = (addr .0 ≤ largest) × (blocks ≤ 65535)
+opInRange (State addr blocks) = (addr .0 ≤ largest) × (blocks ≤ 65535)
+opInRange UnplugAll = Prim.Unit {0}
+opInRange (Size mib) = mib ≤ largest
+
+-- a line whose numbers are in their ranges
+abbrev pub InRange : Line → Type 0
+InRange (First f) = FirstInRange f
+InRange (Later op) = opInRange op
+InRange Bad = ⊥
+
+-- s is the text of a line; "lines up to 200 bytes"
+pub record Text (line : Line) (s : List ℕ) : Type 0 where
+  pub range : InRange line
+  pub text : textOf line ≡ s
+  pub short : length s ≤ 200
+
+-- r is what s reads as: the line whose text it is, if there is one, and only that; else "13+ bad trace line"
+pub record Reads (s : List ℕ) (r : Line) : Type 0 where
+  pub whole : (line : Line) → Text line s → r ≡ line
+  pub only : (r ≡ Bad) ⊎ Text r s
+
+-- ---- output
+
+-- the question for a creation: `want=create guest=4294967296 size=268435456 slot=1`
+abbrev pub createText : GuestAddr → ℕ → ℕ → List ℕ
+createText guest size slot = filled (bytes "want=create guest=# size=# slot=#") (guest .0 ∷ size ∷ slot ∷ [])
+
+-- the question for a discard: `want=discard offset=0 size=4194304 host=140737488355328`
+abbrev pub discardText : RegionOffset → ℕ → HostAddr → List ℕ
+discardText offset size host = filled (bytes "want=discard offset=# size=# host=#") (offset .0 ∷ size ∷ host .0 ∷ [])
+
+-- a size change that is done, 0: `sized=0 requested=16777216 usable=268435456`
+abbrev pub sizedText : ℕ → ℕ → List ℕ
+sizedText requested usable = filled (bytes "sized=0 requested=# usable=#") (requested ∷ usable ∷ [])
+
+-- a response: `resp=0 state=2 plugged=8388608 usable=268435456`
+abbrev pub responseText : ℕ → ℕ → ℕ → ℕ → List ℕ
+responseText resp state plugged usable = filled (bytes "resp=# state=# plugged=# usable=#") (resp ∷ state ∷ plugged ∷ usable ∷ [])
+
+-- "A refusal, 10 too, prints `refuse=N`"
+abbrev pub refusalText : ℕ → List ℕ
+refusalText number = filled (bytes "refuse=#") (number ∷ [])
