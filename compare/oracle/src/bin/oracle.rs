@@ -1,0 +1,17 @@
+//! Reads a trace on the standard input and prints what the unchanged mem.rs does.
+//!
+//! Ends with 0 when the whole trace was run; with 3, and the reason on the standard error, at the
+//! first line that lies outside what can be compared.
+
+use std::io;
+use std::process::exit;
+
+use oracle::trace::replay;
+
+fn main() {
+    let lines = io::stdin().lines().map(|line| line.expect("text"));
+    if let Err(outside) = replay(lines, |line| println!("{line}")) {
+        eprintln!("{outside}");
+        exit(3)
+    }
+}

@@ -1,0 +1,7 @@
+//! Stand-ins of the crates that mem.rs needs, each no more than mem.rs names of it.
+
+pub mod dbs;
+pub mod device;
+pub mod libc;
+pub(crate) mod log;
+pub mod virtio_queue;
