@@ -1,0 +1,234 @@
+-- Laws on the chain, for callers: what it means that bytes lie inside, what a delivery leaves and what a parse reads. Assumes nothing.
+use Prim.Native.Nat.{ℕ, _+_, _-_, _^_, _≤_, _<_}
+use mathlib.Core.Path.{_≡_, refl, sym, ap, _∙_}
+use mathlib.Core.Bool.{Bool, true, false, cond, not, _&&_}
+use mathlib.Core.List.{List}
+use native.Mathlib.Omega.{arith}
+use borrow.Author.Tests.{leb-true}
+use lib.Dec.{leb, ltb, eqb}
+use lib.ListN.{length}
+use Rattle.units.proofs.Tests.{by-test, and-left, and-right}
+use Rattle.units.specs.declared.GuestAddr.{GuestAddr}
+use Rattle.wire.specs.declared.VirtioMemReq.{VirtioMemReq}
+use Rattle.wire.specs.declared.VirtioMemResp.{VirtioMemResp}
+use Rattle.wire.specs.Bytes.{part}
+use Rattle.wire.specs.Layout.{requestAt, responseBytes}
+use Rattle.wire.proofs.Laws.{length-put, part-part, part-put, part-put-before, part-put-behind, request-part, length-response}
+use Rattle.chain.specs.declared.Place.{Place}
+use Rattle.chain.specs.declared.Place.the-variants.{At, Outside}
+use Rattle.chain.specs.declared.Descriptor.{Descriptor}
+use Rattle.chain.specs.declared.Link.{Link}
+use Rattle.chain.specs.declared.Link.the-variants.{Is, Missing}
+use Rattle.chain.specs.declared.Parsed.{Parsed}
+use Rattle.chain.specs.declared.Parsed.the-variants.{Request, Bad}
+use Rattle.chain.specs.Standard.{descriptorAt, descriptorAddr, hasNext, isWriteOnly, isIndirect}
+use Rattle.chain.specs.Chain.{inside, placeOf, linkAt, linkAfter, withSecond, withFirst, parsed, reaches, delivered}
+
+-- ---- where bytes lie
+
+-- n bytes at addr lie inside len bytes at base
+pub record Inside (len base addr n : ℕ) : Type 0 where
+  pub from-base : base ≤ addr
+  pub to-end : addr + n ≤ base + len
+  pub to-last : addr + n ≤ 2 ^ 64
+
+pub inside-facts : (len base addr n : ℕ) → inside len base addr n ≡ true → Inside len base addr n
+unfolding inside
+inside-facts len base addr n e =
+    let ends = and-right (leb base addr) (leb (addr + n) (base + len) && leb (addr + n) (2 ^ 64)) e in
+    record {
+      from-base = leb-true _ _ (and-left (leb base addr) _ e);
+      to-end = leb-true _ _ (and-left (leb (addr + n) (base + len)) (leb (addr + n) (2 ^ 64)) ends);
+      to-last = leb-true _ _ (and-right (leb (addr + n) (base + len)) (leb (addr + n) (2 ^ 64)) ends);
+    }
+
+-- bytes that pass 2^64 - 1 do not
+pub past-last : (len base addr n : ℕ) → 2 ^ 64 < addr + n → inside len base addr n ≡ false
+past-last len base addr n h =
+    by-test (inside len base addr n)
+    (λ t. let i = inside-facts len base addr n t in absurd (omega arith))
+    (λ t. t)
+
+-- a place is told exactly where they lie inside, and is how far they lie past the base
+pub record Found (len base addr n at : ℕ) : Type 0 where
+  pub lies : inside len base addr n ≡ true
+  pub facts : Inside len base addr n
+  pub place : at ≡ addr - base
+
+pub place-found : (p : Place) (len base addr n at : ℕ) → p ≡ placeOf len base addr n → p ≡ At at → Found len base addr n at
+unfolding placeOf
+place-found p len base addr n at told is =
+    by-test (inside len base addr n)
+    (λ t.
+    record {
+      lies = t;
+      facts = inside-facts len base addr n t;
+      place = let q : p ≡ At (addr - base) = told ∙ simp t in cc;
+    })
+    (λ t. absurd (let q : p ≡ Outside = told ∙ simp t in let z : _≡_ {A = ℕ} 0 1 = cc in omega arith))
+
+pub place-outside : (p : Place) (len base addr n : ℕ) → p ≡ placeOf len base addr n → p ≡ Outside → inside len base addr n ≡ false
+unfolding placeOf
+place-outside p len base addr n told is =
+    by-test (inside len base addr n)
+    (λ t. absurd (let q : p ≡ At (addr - base) = told ∙ simp t in let z : _≡_ {A = ℕ} 0 1 = cc in omega arith))
+    (λ t. t)
+
+-- ---- what a parse answers
+
+either : {A : Type 0} (P : A → Type 0) (test : Bool) (x y : A) → P x → P y → P (cond test x y)
+either P true x y p q = p
+either P false x y p q = q
+
+-- a reason from 21 to 27, or a request: what holds of each holds of a parse
+module _ (P : Parsed → Type 0) (bad : (reason : ℕ) → 21 ≤ reason → reason ≤ 27 → P (Bad reason)) where
+  second-cases : (req : VirtioMemReq) (found : Link) → ((status : GuestAddr) → P (Request req status)) → P (withSecond req found)
+  unfolding withSecond
+  second-cases req Missing good = bad 21 (omega arith) (omega arith)
+  second-cases req (Is second) good =
+      either P (isIndirect second) _ _ (bad 27 (omega arith) (omega arith))
+      (either P (not (isWriteOnly second)) _ _ (bad 25 (omega arith) (omega arith))
+      (either P (ltb (second .len) 10) _ _ (bad 26 (omega arith) (omega arith)) (good (second .addr))))
+
+  first-cases : (mem : List ℕ) (base table : ℕ) (found : Link) → ((req : VirtioMemReq) (status : GuestAddr) → P (Request req status))
+      → P (withFirst mem base table found)
+  unfolding withFirst
+  first-cases mem base table Missing good = bad 21 (omega arith) (omega arith)
+  first-cases mem base table (Is first) good =
+      either P (isIndirect first) _ _ (bad 27 (omega arith) (omega arith))
+      (either P (isWriteOnly first) _ _ (bad 22 (omega arith) (omega arith))
+      (either P (not (eqb (first .len) 24)) _ _ (bad 23 (omega arith) (omega arith))
+      (either P (not (inside (length mem) base (first .addr .0) 24)) _ _ (bad 24 (omega arith) (omega arith))
+      (second-cases _ (linkAfter mem base table first) (good _)))))
+
+  pub parsed-cases : (mem : List ℕ) (base table head : ℕ) → ((req : VirtioMemReq) (status : GuestAddr) → P (Request req status))
+      → P (parsed mem base table head)
+  unfolding parsed
+  parsed-cases mem base table head good = first-cases mem base table (linkAt mem base table head) good
+
+-- ---- what a delivery leaves
+
+-- lengths are kept
+pub length-delivered : (mem : List ℕ) (base status : ℕ) (resp : VirtioMemResp)
+    → length (delivered mem base status resp) ≡ length mem
+unfolding delivered
+length-delivered mem base status resp =
+    by-test (reaches mem base status) (λ t. simp (t, length-put)) (λ t. simp t)
+
+-- a delivered response reads back
+pub delivered-reads : (mem : List ℕ) (base status : ℕ) (resp : VirtioMemResp) → reaches mem base status ≡ true
+    → part (delivered mem base status resp) (status - base) 10 ≡ responseBytes resp
+unfolding delivered reaches
+delivered-reads mem base status resp t =
+    let i = inside-facts (length mem) base status 10 t in
+    let ten = length-response resp in
+    let back = part-put mem (status - base) (responseBytes resp) (omega arith) in
+    simp t (rw ten at back)
+
+-- one that does not reach changes nothing
+pub undelivered : (mem : List ℕ) (base status : ℕ) (resp : VirtioMemResp) → reaches mem base status ≡ false
+    → delivered mem base status resp ≡ mem
+unfolding delivered
+undelivered mem base status resp t = simp t
+
+-- the bytes before the 10 stay
+pub delivered-before : (mem : List ℕ) (base status : ℕ) (resp : VirtioMemResp) (i n : ℕ) → i + n ≤ status - base
+    → part (delivered mem base status resp) i n ≡ part mem i n
+unfolding delivered
+delivered-before mem base status resp i n h =
+    by-test (reaches mem base status) (λ t. simp t (part-put-before mem (status - base) (responseBytes resp) i n h)) (λ t. simp t)
+
+-- and so do those behind them
+pub delivered-behind : (mem : List ℕ) (base status : ℕ) (resp : VirtioMemResp) (i n : ℕ) → status - base + 10 ≤ i
+    → part (delivered mem base status resp) i n ≡ part mem i n
+unfolding delivered
+delivered-behind mem base status resp i n h =
+    by-test (reaches mem base status)
+    (λ t. let ten = length-response resp in simp t (part-put-behind mem (status - base) (responseBytes resp) i n (omega arith)))
+    (λ t. simp t)
+
+-- ---- what a parse reads
+
+-- two memories agree on the n bytes at addr, where those lie inside
+abbrev pub SameAt : List ℕ → List ℕ → ℕ → ℕ → ℕ → Type 0
+SameAt mem mem′ base addr n = inside (length mem) base addr n ≡ true → part mem (addr - base) n ≡ part mem′ (addr - base) n
+
+-- a descriptor is its 16 bytes and nothing else
+pub descriptor-part : (mem : List ℕ) (at : ℕ) → descriptorAt mem at ≡ descriptorAt (part mem at 16) 0
+unfolding descriptorAt
+descriptor-part mem at =
+    let zero : at + 0 ≡ at = omega arith in
+    let addr = part-part mem at 16 0 8 (omega arith) in
+    let len = part-part mem at 16 8 4 (omega arith) in
+    let flags = part-part mem at 16 12 2 (omega arith) in
+    let next = part-part mem at 16 14 2 (omega arith) in
+    cc
+
+-- what is read of n bytes alone is the same where they are
+read-same : {A : Type 0} (n : ℕ) (read : List ℕ → ℕ → A)
+    → ((mem : List ℕ) (at : ℕ) → read mem at ≡ read (part mem at n) 0)
+    → (mem mem′ : List ℕ) (at : ℕ) → part mem at n ≡ part mem′ at n → read mem at ≡ read mem′ at
+read-same n read only mem mem′ at same =
+    only mem at ∙ ap (λ (bytes : List ℕ). read bytes 0) same ∙ sym (only mem′ at)
+
+-- what is chosen where a test holds
+chosen-same : {A : Type 0} (test : Bool) (x y z : A) → (test ≡ true → x ≡ y) → cond test x z ≡ cond test y z
+chosen-same true x y z same = same refl
+chosen-same false x y z same = refl
+
+link-same : (mem mem′ : List ℕ) (base table index : ℕ) → length mem ≡ length mem′
+    → SameAt mem mem′ base (descriptorAddr table index) 16
+    → linkAt mem base table index ≡ linkAt mem′ base table index
+unfolding linkAt
+link-same mem mem′ base table index long same =
+    let at = descriptorAddr table index in
+    let lies = inside (length mem) base at 16 in
+    rw (← long)
+    (chosen-same (ltb index 128 && lies) (Is (descriptorAt mem (at - base))) (Is (descriptorAt mem′ (at - base))) Missing
+    (λ t. ap Is (read-same 16 descriptorAt descriptor-part mem mem′ (at - base) (same (and-right (ltb index 128) lies t)))))
+
+link-after-same : (mem mem′ : List ℕ) (base table : ℕ) (d : Descriptor) → length mem ≡ length mem′
+    → (hasNext d ≡ true → SameAt mem mem′ base (descriptorAddr table (d .next)) 16)
+    → linkAfter mem base table d ≡ linkAfter mem′ base table d
+unfolding linkAfter
+link-after-same mem mem′ base table d long same =
+    chosen-same (hasNext d) (linkAt mem base table (d .next)) (linkAt mem′ base table (d .next)) Missing
+    (λ t. link-same mem mem′ base table (d .next) long (same t))
+
+first-same : (mem mem′ : List ℕ) (base table : ℕ) (first : Descriptor) → length mem ≡ length mem′
+    → SameAt mem mem′ base (first .addr .0) 24
+    → (hasNext first ≡ true → SameAt mem mem′ base (descriptorAddr table (first .next)) 16)
+    → withFirst mem base table (Is first) ≡ withFirst mem′ base table (Is first)
+unfolding withFirst
+first-same mem mem′ base table first long request second =
+    by-test (inside (length mem) base (first .addr .0) 24)
+    (λ t.
+    rw (
+      ← long,
+      read-same 24 requestAt request-part mem mem′ (first .addr .0 - base) (request t),
+      link-after-same mem mem′ base table first long second,
+    ))
+    (λ t. rw (← long) (simp t))
+
+-- two memories of one length agree on the first descriptor, on the request that it names, and on the descriptor after it, if any
+pub record SameChain (mem mem′ : List ℕ) (base table head : ℕ) : Type 0 where
+  pub long : length mem ≡ length mem′
+  pub first : SameAt mem mem′ base (descriptorAddr table head) 16
+  pub request : (d : Descriptor) → linkAt mem base table head ≡ Is d → SameAt mem mem′ base (d .addr .0) 24
+  pub second : (d : Descriptor) → linkAt mem base table head ≡ Is d → hasNext d ≡ true
+      → SameAt mem mem′ base (descriptorAddr table (d .next)) 16
+
+found-same : (mem mem′ : List ℕ) (base table head : ℕ) → SameChain mem mem′ base table head
+    → (found : Link) → linkAt mem base table head ≡ found → withFirst mem base table found ≡ withFirst mem′ base table found
+unfolding withFirst
+found-same mem mem′ base table head same Missing is = refl
+found-same mem mem′ base table head same (Is d) is =
+    first-same mem mem′ base table d (same .long) (same .request d is) (same .second d is)
+
+-- a parse does not depend on bytes outside the descriptors and the request
+pub parse-local : (mem mem′ : List ℕ) (base table head : ℕ) → SameChain mem mem′ base table head
+    → parsed mem base table head ≡ parsed mem′ base table head
+unfolding parsed
+parse-local mem mem′ base table head same =
+    found-same mem mem′ base table head same (linkAt mem base table head) refl
+    ∙ ap (withFirst mem′ base table) (link-same mem mem′ base table head (same .long) (same .first))
