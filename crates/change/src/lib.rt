@@ -1,0 +1,183 @@
+// SPDX-License-Identifier: Apache-2.0 AND BSD-3-Clause
+// What a request may do to a range of blocks: whether it lies inside, which state it is in, and where the host has it.
+// Sums of addresses are tested and not made.
+use bitmap::all_in_state;
+use rows::Mapping;
+use rows::mapping_of;
+use units::GuestAddr;
+use units::HostAddr;
+use units::MemTool;
+use units::RegionOffset;
+use units::smaller;
+use units::sum_within;
+ghost use mathlib.Core.Path.{_≡_};
+ghost use Rattle.bitmap.specs.Blocks.{blocks, range};
+ghost use Rattle.rows.specs.Rows.{rowsOf};
+ghost use Rattle.change.specs.Change.{insideOf, rangeOf, hostSum, hostIn, hostOf, changeOf, stateIn, stateOf};
+
+const MAX: u64 = 18446744073709551615;
+
+// Where a range lies, or which part of test (b) it failed first.
+pub enum Range {
+    Inside(RegionOffset),
+    Misaligned,
+    NoBlocks,
+    Overflows,
+    BelowStart,
+    PastUsable,
+    EndPastUsable,
+}
+
+// Where the host has a range, or which part of test (d) it failed first.
+pub enum HostRange {
+    At(HostAddr),
+    CrossesBorder,
+    Unmapped,
+    SumPasses,
+}
+
+// A legal change with its first block, its offset and its host address, or which of the tests (b), (c), (d) it failed first.
+pub enum Change {
+    Legal(u64, RegionOffset, HostAddr),
+    Outside(Range),
+    WrongState,
+    NoHost(HostRange),
+}
+
+// Whether a range lies inside start to start + usable. From `start` on, offsets are compared: they need no sum.
+fn inside_of(start: GuestAddr, usable: u64, addr: GuestAddr, size: u64) -> Range
+    ensures { λ r. ⌜ r ≡ insideOf (start .0) usable (addr .0) size ⌝ }
+{
+    if addr.0 < start.0 {
+        return Range::BelowStart;
+    }
+    let offset = addr.offset_from(start);
+    if usable <= offset.0 {
+        return Range::PastUsable;
+    }
+    if !sum_within(offset.0, size, usable) {
+        return Range::EndPastUsable;
+    }
+    Range::Inside(offset)
+}
+
+// Test (b), part by part.
+pub fn range_of(start: GuestAddr, usable: u64, addr: GuestAddr, nb_blocks: u16) -> Range
+    ensures { λ r. ⌜ r ≡ rangeOf 4194304 (start .0) usable (addr .0) «nb_blocks» ⌝ }
+{
+    if addr.0 % MemTool::BLOCK_SIZE != 0 {
+        return Range::Misaligned;
+    }
+    if nb_blocks == 0 {
+        return Range::NoBlocks;
+    }
+    let size = MemTool::bytes_of(nb_blocks);
+    if !sum_within(addr.0, size, MAX) {
+        return Range::Overflows;
+    }
+    inside_of(start, usable, addr, size)
+}
+
+// A range at an offset from what is mapped at `host`.
+fn host_sum(host: HostAddr, offset: RegionOffset, size: u64) -> HostRange
+    ensures { λ r. ⌜ r ≡ hostSum (host .0) (offset .0) size ⌝ }
+{
+    if !sum_within(host.0, offset.0, MAX) {
+        return HostRange::SumPasses;
+    }
+    let at = offset.host_from(host);
+    if !sum_within(at.0, size, MAX) {
+        return HostRange::SumPasses;
+    }
+    HostRange::At(at)
+}
+
+// A range at an offset from where a row is mapped.
+fn host_in(mapping: Mapping, offset: RegionOffset, size: u64) -> HostRange
+    ensures { λ r. ⌜ r ≡ hostIn mapping (offset .0) size ⌝ }
+{
+    let Mapping::At(host) = mapping else {
+        return HostRange::Unmapped;
+    };
+    host_sum(host, offset, size)
+}
+
+// Test (d), part by part.
+pub fn host_of(several: bool, table: &[u64], offset: RegionOffset, size: u64) -> HostRange
+    ensures { λ r. ⌜ r ≡ hostOf several (rowsOf (now (table .entry))) (offset .0) size ⌝ }
+{
+    if !several {
+        return host_in(mapping_of(table, 0), offset, size);
+    }
+    let within = offset.in_map_region();
+    if !sum_within(within.0, size, MemTool::MAP_REGION_SIZE) {
+        return HostRange::CrossesBorder;
+    }
+    host_in(mapping_of(table, offset.map_region()), within, size)
+}
+
+// The tests (b), (c) and (d) of a plug, or of an unplug.
+pub fn change_of(
+    start: GuestAddr,
+    usable: u64,
+    several: bool,
+    addr: GuestAddr,
+    nb_blocks: u16,
+    plug: bool,
+    bitmap: &[u8],
+    table: &[u64],
+) -> Change
+    ensures { λ r. ⌜ r ≡ changeOf 4194304 (start .0) usable several (addr .0) «nb_blocks» plug (blocks (now (bitmap .entry))) (rowsOf (now (table .entry))) ⌝ }
+{
+    let range = range_of(start, usable, addr, nb_blocks);
+    let Range::Inside(offset) = range else {
+        return Change::Outside(range);
+    };
+    let first = MemTool::blocks_in(offset.0);
+    if !all_in_state(bitmap, first as usize, nb_blocks as usize, !plug) {
+        return Change::WrongState;
+    }
+    let host = host_of(several, table, offset, MemTool::bytes_of(nb_blocks));
+    let HostRange::At(at) = host else {
+        return Change::NoHost(host);
+    };
+    Change::Legal(first, offset, at)
+}
+
+// The state of blocks: plugged 0, unplugged 1, mixed 2.
+fn state_in(bitmap: &[u8], first: usize, count: usize) -> u16
+    ensures { λ r. ⌜ r ≡ stateIn (range (blocks (now (bitmap .entry))) first count) ⌝ }
+{
+    if all_in_state(bitmap, first, count, true) {
+        return 0;
+    }
+    if all_in_state(bitmap, first, count, false) {
+        return 1;
+    }
+    2
+}
+
+// The state of a range, over such blocks as the region has.
+pub fn state_of(
+    start: GuestAddr,
+    region: u64,
+    addr: GuestAddr,
+    nb_blocks: u16,
+    bitmap: &[u8],
+) -> u16
+    ensures { λ r. ⌜ r ≡ stateOf 4194304 (start .0) region (addr .0) «nb_blocks» (blocks (now (bitmap .entry))) ⌝ }
+{
+    if addr.0 < start.0 {
+        return 0;
+    }
+    let first = MemTool::blocks_in(addr.offset_from(start).0);
+    let end = MemTool::blocks_in(region);
+    if end <= first {
+        return 0;
+    }
+    state_in(
+        bitmap,
+        first as usize,
+        smaller(nb_blocks as u64, end - first) as usize,
+    )
+}
