@@ -1,3 +1,3 @@
 pub mod Laws
 mod Turns
-mod Words
+pub mod Words

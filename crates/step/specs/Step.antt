@@ -1,0 +1,373 @@
+-- What each call does, in 01's order of tests and 01's words: `step` from a World and a Call to an Outcome. Every ending is a named leaf, and every decision a tree of tests over leaves.
+use Prim.Native.Nat.{ℕ, _+_, _-_, _*_, _%_, max}
+use mathlib.Core.Bool.{Bool, true, false, cond, not, _&&_, _||_}
+use mathlib.Core.List.{List, []}
+use lib.Dec.{leb, ltb, eqb}
+use lib.ListN.{length, drop}
+use Rattle.units.specs.Numbers.{top, bytesOf, blocksIn, mapRegion, mapRegions}
+use Rattle.bitmap.specs.Blocks.{fill, nextSet}
+use Rattle.bitmap.specs.declared.Found.{Found}
+use Rattle.bitmap.specs.declared.Found.the-variants.{At, Nothing as NoneSet}
+use Rattle.wire.specs.declared.VirtioMemReq.{VirtioMemReq}
+use Rattle.wire.specs.declared.VirtioMemResp.{VirtioMemResp}
+use Rattle.wire.specs.Bytes.{put}
+use Rattle.wire.specs.Layout.{configBytes}
+use Rattle.chain.specs.declared.Parsed.{Parsed}
+use Rattle.chain.specs.declared.Parsed.the-variants.{Request as Got, Bad}
+use Rattle.chain.specs.Chain.{parsed, reaches, delivered}
+use Rattle.rows.specs.declared.MapRow.{MapRow}
+use Rattle.rows.specs.Rows.{rowAt, filled, laid}
+use Rattle.record.specs.declared.Device.{Device}
+use Rattle.record.specs.declared.Pending.{Pending}
+use Rattle.record.specs.declared.Pending.the-variants.{Nothing, Create, Discard, DiscardOne}
+use Rattle.record.specs.declared.HostCall.the-variants.{Create as CreateCall, Discard as DiscardCall}
+use Rattle.record.specs.Shape.{shapedOf, isIdle, startOk}
+use Rattle.record.specs.Changes.{pendingTo, pluggedTo, requestedTo, startTo, usableTo, placedTo}
+use Rattle.resize.specs.declared.Growth.{Growth}
+use Rattle.resize.specs.declared.Growth.the-variants.{Asks, Settled}
+use Rattle.resize.specs.Resize.{newSize, grown, creationSize, growthOf}
+use Rattle.change.specs.declared.Range.{Range}
+use Rattle.change.specs.declared.Range.the-variants.{Inside, Misaligned, NoBlocks, Overflows, BelowStart, PastUsable, EndPastUsable}
+use Rattle.change.specs.declared.Change.{Change}
+use Rattle.change.specs.declared.Change.the-variants.{Legal, Outside, WrongState, NoHost}
+use Rattle.change.specs.Change.{rangeOf, changeOf, stateOf}
+use Rattle.step.specs.declared.Answer.the-variants.{Refused, Wants, Sized, Unserved, Served, Done}
+use Rattle.step.specs.World.{World, Guest, Call, Place, SetRequestedSize, Request, HostAnswer, ReadConfig, WriteConfig, Outcome}
+
+-- ---- the record's numbers
+abbrev pub blockSize : World → ℕ
+blockSize w = w .device .config .«block_size»
+
+abbrev pub region : World → ℕ
+region w = w .device .config .«region_size»
+
+abbrev pub usable : World → ℕ
+usable w = w .device .config .«usable_region_size»
+
+abbrev pub plugged : World → ℕ
+plugged w = w .device .config .«plugged_size»
+
+abbrev pub requested : World → ℕ
+requested w = w .device .config .«requested_size»
+
+abbrev pub start : World → ℕ
+start w = w .device .config .addr .0
+
+abbrev pub several : World → Bool
+several w = w .device .«multi_region»
+
+-- how many blocks, and how many map regions, the region has
+abbrev pub regionBlocks : World → ℕ
+regionBlocks w = blocksIn (blockSize w) (region w)
+
+abbrev pub regionRows : World → ℕ
+regionRows w = mapRegions (region w) (several w)
+
+-- the world with another record
+abbrev pub deviceOf : Device → World → World
+deviceOf d w = record { device = d; blocks = w .blocks; rows = w .rows }
+
+-- ---- the endings
+-- a refusal of 01's number changes nothing
+abbrev pub refused : ℕ → World → List ℕ → Outcome
+refused n w bytes = record { world = w; answer = Refused n; bytes = bytes }
+
+-- used length 0 with its reason, and nothing written
+abbrev pub unserved : ℕ → World → Guest → Outcome
+unserved reason w g = record { world = w; answer = Unserved reason; bytes = g .mem }
+
+-- the responses: ACK 0, NACK 1, ERROR 3, with state 0
+abbrev pub respond : (type state : ℕ) → VirtioMemResp
+respond type state = record { «resp_type» = type; state = state }
+
+abbrev pub ack : VirtioMemResp
+ack = respond 0 0
+
+abbrev pub nack : VirtioMemResp
+nack = respond 1 0
+
+abbrev pub error : VirtioMemResp
+error = respond 3 0
+
+-- "The response goes to the status address: length 10. If its 10 bytes are not wholly inside, nothing is written and the length is 0"
+abbrev pub served : VirtioMemResp → (status : ℕ) → World → Guest → Outcome
+served resp status w g =
+    record {
+      world = w;
+      answer = Served resp (cond (reaches (g .mem) (g .base) status) 10 0);
+      bytes = delivered (g .mem) (g .base) status resp;
+    }
+
+-- "A plug then sets bits and adds"
+abbrev pub plugs : World → (first count status : ℕ) → Guest → Outcome
+plugs w first count status g =
+    served ack status
+    (record {
+      device = pluggedTo (plugged w + bytesOf (blockSize w) count) (w .device);
+      blocks = fill (w .blocks) first count true;
+      rows = w .rows;
+    })
+    g
+
+-- "An unplug asks for one discard of the range"
+abbrev pub asksDiscard : World → (first count offset host status : ℕ) → Guest → Outcome
+asksDiscard w first count offset host status g =
+    record {
+      world = deviceOf (pendingTo (Discard first count (record { 0 = status })) (w .device)) w;
+      answer = Wants (DiscardCall (record { 0 = offset }) (bytesOf (blockSize w) count) (record { 0 = host }));
+      bytes = g .mem;
+    }
+
+-- "success clears bits and subtracts"
+abbrev pub unplugs : World → (first count status : ℕ) → Guest → Outcome
+unplugs w first count status g =
+    served ack status
+    (record {
+      device = pendingTo Nothing (pluggedTo (plugged w - bytesOf (blockSize w) count) (w .device));
+      blocks = fill (w .blocks) first count false;
+      rows = w .rows;
+    })
+    g
+
+-- "failure gives ERROR with nothing changed"; "The first that is not ACK ends it"
+abbrev pub stops : World → (status : ℕ) → Guest → Outcome
+stops w status g = served error status (deviceOf (pendingTo Nothing (w .device)) w) g
+
+-- an unplug-all asks for one block
+abbrev pub asksOne : World → (block offset host status : ℕ) → Guest → Outcome
+asksOne w block offset host status g =
+    record {
+      world = deviceOf (pendingTo (DiscardOne block (record { 0 = status })) (w .device)) w;
+      answer = Wants (DiscardCall (record { 0 = offset }) (bytesOf (blockSize w) 1) (record { 0 = host }));
+      bytes = g .mem;
+    }
+
+-- one block of an unplug-all is discarded, which "neither tests nor changes the plugged size", and nothing is asked yet
+abbrev pub cleared : World → (block : ℕ) → World
+cleared w block = record { device = pendingTo Nothing (w .device); blocks = fill (w .blocks) block 1 false; rows = w .rows }
+
+-- "If all succeed, plugged size is 0, usable stays"
+abbrev pub endsAll : World → (status : ℕ) → Guest → Outcome
+endsAll w status g = served ack status (deviceOf (pendingTo Nothing (pluggedTo 0 (w .device))) w) g
+
+-- the usable size that the requested size is worth now
+abbrev pub newUsable : World → ℕ
+newUsable w = newSize (blockSize w) (region w) (requested w) (w .device .alignment)
+
+-- the record with the usable size worked out, and placed
+abbrev pub sized : World → Device
+sized w = placedTo true (usableTo (grown (usable w) (newUsable w)) (w .device))
+
+abbrev pub sizes : World → Outcome
+sizes w =
+    record {
+      world = deviceOf (sized w) w;
+      answer = Sized;
+      bytes = [];
+    }
+
+-- "one creation covers i to last: guest address start + i x 2 GiB, slot of row i, size .."
+abbrev pub asksCreate : World → (i last size : ℕ) → Outcome
+asksCreate w i last size =
+    record {
+      world = deviceOf (pendingTo (Create i last) (w .device)) w;
+      answer = Wants (CreateCall (record { 0 = start w + i * mapRegion }) size (rowAt (w .rows) i .slot));
+      bytes = [];
+    }
+
+-- "Row j then gets the answered host address + (j - i) x 2 GiB", and the usable size is worked out
+abbrev pub creates : World → (i last host : ℕ) → List ℕ → Outcome
+creates w i last host bytes =
+    record {
+      world = record {
+        device = pendingTo Nothing (sized w);
+        blocks = w .blocks;
+        rows = filled (w .rows) i last host;
+      };
+      answer = Sized;
+      bytes = bytes;
+    }
+
+-- "creation failed": the requested size, written before the question, stands; a device that was being placed is unplaced, with start, rows and bitmap as placing wrote them
+abbrev pub createFails : World → List ℕ → Outcome
+createFails w bytes =
+    record { world = deviceOf (pendingTo Nothing (w .device)) w; answer = Refused 10; bytes = bytes }
+
+-- "Placing zeroes the bitmap and writes each row: slot, not mapped"
+abbrev pub placed : World → (start : ℕ) (slots : List ℕ) → List Bool → List MapRow → World
+placed w at slots bs rows =
+    record {
+      device = startTo at (w .device);
+      blocks = fill bs 0 (regionBlocks w) false;
+      rows = laid rows slots;
+    }
+
+-- ---- the refusals, in their order: the first number that is given, or 0
+-- 11: "bitmap shorter than blocks / 8 bytes, or map table shorter than the region count"
+unfoldable pub tablesFit : Device → (blocks rows : ℕ) → Bool
+tablesFit d blocks rows =
+    leb (blocksIn (d .config .«block_size») (d .config .«region_size»)) blocks
+    && leb (mapRegions (d .config .«region_size») (d .«multi_region»)) rows
+
+-- a request and a size change: 12, 7, 5, 11
+unfoldable pub readyRefusal : Device → (blocks rows : ℕ) → ℕ
+readyRefusal d blocks rows =
+    cond (shapedOf d)
+    (cond (isIdle (d .pending)) (cond (d .placed) (cond (tablesFit d blocks rows) 0 11) 5) 7)
+    12
+
+-- placing: 12, 7, 6, 11
+unfoldable pub unplacedRefusal : Device → (blocks rows : ℕ) → ℕ
+unplacedRefusal d blocks rows =
+    cond (shapedOf d)
+    (cond (isIdle (d .pending)) (cond (d .placed) 6 (cond (tablesFit d blocks rows) 0 11)) 7)
+    12
+
+-- a host answer: 12, 8, 11
+unfoldable pub pendingRefusal : Device → (blocks rows : ℕ) → ℕ
+pendingRefusal d blocks rows =
+    cond (shapedOf d) (cond (isIdle (d .pending)) 8 (cond (tablesFit d blocks rows) 0 11)) 12
+
+-- the outcome, unless the call is refused
+unfoldable pub unless : (n : ℕ) → World → List ℕ → Outcome → Outcome
+unless n w bytes o = cond (eqb n 0) o (refused n w bytes)
+
+-- ---- plug, unplug, unplug-all, state
+-- tests (b) to (d) of a range
+abbrev pub changing : World → (addr count : ℕ) (wanted : Bool) → Change
+changing w addr count wanted =
+    changeOf (blockSize w) (start w) (usable w) (several w) addr count wanted (w .blocks) (w .rows)
+
+unfoldable pub plugAs : Change → World → (count status : ℕ) → Guest → Outcome
+plugAs (Legal first offset host) w count status g = plugs w first count status g
+plugAs (Outside part) w count status g = served error status w g
+plugAs WrongState w count status g = served error status w g
+plugAs (NoHost part) w count status g = served error status w g
+
+-- "(a) plug only: plugged + size above requested gives NACK", then (b) to (d)
+unfoldable pub plug : World → (addr count status : ℕ) → Guest → Outcome
+plug w addr count status g =
+    cond (ltb (requested w) (plugged w + bytesOf (blockSize w) count)) (served nack status w g)
+    (plugAs (changing w addr count true) w count status g)
+
+-- 12 "comes after every test that gives ERROR": an otherwise legal unplug larger than the plugged size
+unfoldable pub unplugAs : Change → World → (count status : ℕ) → Guest → Outcome
+unplugAs (Legal first offset host) w count status g =
+    cond (ltb (plugged w) (bytesOf (blockSize w) count)) (refused 12 w (g .mem))
+    (asksDiscard w first count (offset .0) (host .0) status g)
+unplugAs (Outside part) w count status g = served error status w g
+unplugAs WrongState w count status g = served error status w g
+unplugAs (NoHost part) w count status g = served error status w g
+
+-- "each as a one-block unplug"
+unfoldable pub oneAs : Change → World → (block status : ℕ) → Guest → Outcome
+oneAs (Legal first offset host) w block status g = asksOne w block (offset .0) (host .0) status g
+oneAs (Outside part) w block status g = stops w status g
+oneAs WrongState w block status g = stops w status g
+oneAs (NoHost part) w block status g = stops w status g
+
+unfoldable pub nextAs : Found → World → (status : ℕ) → Guest → Outcome
+nextAs NoneSet w status g = endsAll w status g
+nextAs (At block) w status g = oneAs (changing w (start w + bytesOf (blockSize w) block) 1 false) w block status g
+
+-- "Unplug-all takes plugged blocks lowest first", from a block on
+abbrev pub unplugAll : World → (from status : ℕ) → Guest → Outcome
+unplugAll w from status g = nextAs (nextSet (w .blocks) from (regionBlocks w)) w status g
+
+-- "State: type ERROR if (b) fails, else ACK"
+unfoldable pub stateType : Range → ℕ
+stateType (Inside offset) = 0
+stateType Misaligned = 3
+stateType NoBlocks = 3
+stateType Overflows = 3
+stateType BelowStart = 3
+stateType PastUsable = 3
+stateType EndPastUsable = 3
+
+-- "The state field is worked out in either case"
+abbrev pub stateResp : World → (addr count : ℕ) → VirtioMemResp
+stateResp w addr count =
+    respond (stateType (rangeOf (blockSize w) (start w) (usable w) addr count))
+    (stateOf (blockSize w) (start w) (region w) addr count (w .blocks))
+
+-- "Types: plug 0, unplug 1, unplug-all 2, state 3"; "Type 4 or more: length 0, reason 0, nothing written"
+unfoldable pub serve : World → VirtioMemReq → (status : ℕ) → Guest → Outcome
+serve w req status g =
+    cond (eqb (req .«req_type») 0) (plug w (req .addr .0) (req .«nb_blocks») status g)
+    (cond (eqb (req .«req_type») 1)
+    (unplugAs (changing w (req .addr .0) (req .«nb_blocks») false) w (req .«nb_blocks») status g)
+    (cond (eqb (req .«req_type») 2) (unplugAll w 0 status g)
+    (cond (eqb (req .«req_type») 3) (served (stateResp w (req .addr .0) (req .«nb_blocks»)) status w g)
+    (unserved 0 w g))))
+
+-- "The request and status address are read once, before any host call"
+unfoldable pub request : Parsed → World → Guest → Outcome
+request (Bad reason) w g = unserved reason w g
+request (Got req status) w g = serve w req (status .0) g
+
+-- ---- placing, the size change, and the host's answer
+-- a creation is asked for where the growth of the usable size needs one
+unfoldable pub resizes : Growth → World → Outcome
+resizes Settled w = sizes w
+resizes (Asks i last size) w = asksCreate w i last size
+
+abbrev pub resized : World → Outcome
+resized w = resizes (growthOf (region w) (several w) (usable w) (newUsable w) (w .rows)) w
+
+-- "A single region then asks for creation of the whole region with slot 0 of the list"; several regions ask as the usable size does
+unfoldable pub placing : World → Outcome
+placing w = cond (several w) (resized w) (asksCreate w 0 0 (region w))
+
+-- 3: "slot count wrong, or range size not the region size"; 4: "start not a multiple of the alignment, or start + region .. above 2^64 - 1"
+unfoldable pub place : World → (start size : ℕ) (slots : List ℕ) → List Bool → List MapRow → Outcome
+place w at size slots bs rows =
+    cond (not (eqb (length slots) (regionRows w) && eqb size (region w))) (refused 3 w [])
+    (cond (not (startOk at (region w) (several w) (w .device .alignment))) (refused 4 w [])
+    (placing (placed w at slots bs rows)))
+
+-- 1: "requested above the rounded capacity, or requested not a multiple of 4 MiB"
+unfoldable pub setRequestedSize : World → (mib : ℕ) → Outcome
+setRequestedSize w mib =
+    cond (ltb (region w) (mib * 1048576) || not (eqb (mib * 1048576 % blockSize w) 0)) (refused 1 w [])
+    (resized (deviceOf (requestedTo (mib * 1048576) (w .device)) w))
+
+-- 9: "a host address that, plus the size asked (several regions: 2 GiB x rows covered), passes 2^64 - 1"
+abbrev pub coveredBy : World → (i last : ℕ) → ℕ
+coveredBy w i last = cond (several w) ((last + 1 - i) * mapRegion) (region w)
+
+unfoldable pub hostAnswer : Pending → World → Guest → (ok : Bool) (host : ℕ) → Outcome
+hostAnswer Nothing w g ok host = refused 8 w (g .mem)
+hostAnswer (Create i last) w g ok host =
+    cond ok
+    (cond (ltb top (host + coveredBy w i last)) (refused 9 w (g .mem)) (creates w i last host (g .mem)))
+    (createFails w (g .mem))
+hostAnswer (Discard first count status) w g ok host =
+    cond ok (unplugs w first count (status .0) g) (stops w (status .0) g)
+hostAnswer (DiscardOne block status) w g ok host =
+    cond ok (unplugAll (cleared w block) (block + 1) (status .0) g) (stops w (status .0) g)
+
+-- ---- the config
+-- "A read at offset 56 or more writes nothing; otherwise it writes up to byte 56 or the buffer's end and leaves the rest. Config writes do nothing": 12 only
+unfoldable pub readConfig : World → (offset : ℕ) → List ℕ → Outcome
+readConfig w offset buffer =
+    cond (not (shapedOf (w .device))) (refused 12 w buffer)
+    (record { world = w; answer = Done; bytes = put buffer 0 (drop offset (configBytes (w .device .config))) })
+
+unfoldable pub writeConfig : World → List ℕ → Outcome
+writeConfig w buffer =
+    cond (not (shapedOf (w .device))) (refused 12 w buffer) (record { world = w; answer = Done; bytes = buffer })
+
+-- ---- every call
+unfoldable pub step : World → Call → Outcome
+step w (Place at size slots bs rows) =
+    unless (unplacedRefusal (w .device) (length bs) (length rows)) w [] (place w at size slots bs rows)
+step w (SetRequestedSize mib) =
+    unless (readyRefusal (w .device) (length (w .blocks)) (length (w .rows))) w [] (setRequestedSize w mib)
+step w (Request g table head) =
+    unless (readyRefusal (w .device) (length (w .blocks)) (length (w .rows))) w (g .mem)
+    (request (parsed (g .mem) (g .base) table head) w g)
+step w (HostAnswer g ok host) =
+    unless (pendingRefusal (w .device) (length (w .blocks)) (length (w .rows))) w (g .mem)
+    (hostAnswer (w .device .pending) w g ok host)
+step w (ReadConfig offset buffer) = readConfig w offset buffer
+step w (WriteConfig offset buffer) = writeConfig w buffer

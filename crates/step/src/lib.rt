@@ -1,0 +1,124 @@
+// SPDX-License-Identifier: Apache-2.0 AND BSD-3-Clause
+// What every call of the device ends in: the answers, the refusals that several calls share, and the response to the guest.
+use chain::deliver;
+use record::Device;
+use record::HostCall;
+use record::is_idle;
+use record::shaped;
+use units::GuestAddr;
+use units::MemTool;
+use units::map_regions;
+use wire::VirtioMemResp;
+ghost use mathlib.Core.Path.{_≡_};
+ghost use mathlib.Core.Bool.{cond};
+ghost use Prim.Native.Nat.{_+_, _*_, _/_};
+ghost use Rattle.units.specs.Numbers.{blocksIn};
+ghost use Rattle.step.specs.Step.{tablesFit, readyRefusal, unplacedRefusal, pendingRefusal};
+ghost use Rattle.step.specs.World.{guestOf, Responded};
+
+// The answer of a call.
+pub enum Answer {
+    // Refused with 01's number; 10, creation failed, too.
+    Refused(u64),
+    // The host is asked, and the call goes on with its answer.
+    Wants(HostCall),
+    // Done: the usable size is worked out.
+    Sized,
+    // A chain that is no request, used with length 0: its reason, 21 to 27, or 0 for an unknown type.
+    Unserved(u64),
+    // A request that has ended: its response, also where it could not be delivered, and the used length.
+    Served(VirtioMemResp, u32),
+    // A config read or write.
+    Done,
+}
+
+// A call's answer, with the record as it is then.
+pub struct Answered {
+    pub device: Device,
+    pub answer: Answer,
+}
+
+// How many bytes of a bitmap the blocks of a region take.
+fn bytes_for(region: u64, block_size: u64) -> u64
+    ensures { λ r. ⌜ r ≡ (blocksIn «block_size» region + 7) / 8 ⌝ }
+{
+    if block_size == 0 {
+        return 0;
+    }
+    let blocks = region / block_size;
+    if blocks % 8 == 0 {
+        blocks / 8
+    } else {
+        blocks / 8 + 1
+    }
+}
+
+// Whether a bitmap of `bytes` bytes and a map table of `words` words are long enough (11).
+fn tables_fit(d: Device, bytes: usize, words: usize) -> bool
+    ensures { λ r. ⌜ r ≡ tablesFit d (8 * bytes) (words / 3) ⌝ }
+{
+    let region = d.config.region_size;
+    let needed = bytes_for(region, d.config.block_size);
+    let rows = map_regions(region, d.multi_region);
+    (needed <= bytes as u64) & (rows <= words as u64 / 3)
+}
+
+// The next number if a test holds, and this one if it fails.
+fn if_not(holds: bool, number: u64, next: u64) -> u64
+    ensures { λ r. ⌜ r ≡ cond holds next number ⌝ }
+{
+    if holds { next } else { number }
+}
+
+// Why a request or a size change is refused, or 0.
+pub fn ready_refusal(d: Device, bytes: usize, words: usize) -> u64
+    ensures { λ r. ⌜ r ≡ readyRefusal d (8 * bytes) (words / 3) ⌝ }
+{
+    let pending = d.pending;
+    let placed = if_not(d.placed, 5, if_not(tables_fit(d, bytes, words), 11, 0));
+    if_not(shaped(d), 12, if_not(is_idle(pending), 7, placed))
+}
+
+// Why placing is refused before its own tests, or 0.
+pub fn unplaced_refusal(d: Device, bytes: usize, words: usize) -> u64
+    ensures { λ r. ⌜ r ≡ unplacedRefusal d (8 * bytes) (words / 3) ⌝ }
+{
+    let pending = d.pending;
+    let unplaced = if_not(d.placed, if_not(tables_fit(d, bytes, words), 11, 0), 6);
+    if_not(shaped(d), 12, if_not(is_idle(pending), 7, unplaced))
+}
+
+// Why a host answer is refused before it is looked at, or 0.
+pub fn pending_refusal(d: Device, bytes: usize, words: usize) -> u64
+    ensures { λ r. ⌜ r ≡ pendingRefusal d (8 * bytes) (words / 3) ⌝ }
+{
+    let pending = d.pending;
+    let waiting = if_not(
+        is_idle(pending),
+        if_not(tables_fit(d, bytes, words), 11, 0),
+        8,
+    );
+    if_not(shaped(d), 12, waiting)
+}
+
+// Ends a request: the response goes to the status address, wholly or not at all.
+pub fn respond(
+    d: Device,
+    mem: &mut [u8],
+    base: GuestAddr,
+    status: GuestAddr,
+    resp: VirtioMemResp,
+) -> Answered
+    ensures { λ r. ⌜ Responded (guestOf (now (mem .entry)) base) (status .0) resp d r (now (mem .exit)) ⌝ }
+{
+    if deliver(mem, base, status, resp) {
+        return Answered {
+            device: d,
+            answer: Answer::Served(resp, 10),
+        };
+    }
+    Answered {
+        device: d,
+        answer: Answer::Served(resp, 0),
+    }
+}
