@@ -1,0 +1,4 @@
+pub mod Laws
+pub mod Newly
+pub mod Creation
+mod Writes

@@ -1,0 +1,83 @@
+-- `placing::place` meets its contract: the refusals 12, 7, 6, 11, then 3, 4, and then the tables are written before the host is asked. Assumes nothing.
+use mathlib.Core.Path.{_≡_, sym, _∙_}
+use mathlib.Core.Bool.{true}
+use Rattle.bitmap.proofs.Laws.{blocks-length}
+use Rattle.rows.proofs.Words.{count}
+use Rattle.record.specs.Shape.{shapedOf}
+use Rattle.record.proofs.Laws.{start-keeps}
+use Rattle.step.specs.Step.{step}
+use Rattle.placing.proofs.Laws.{stops, goes-on, unplaced-shaped}
+use Rattle.placing.proofs.Writes.{ranged, start-good, placed-meets}
+use borrow.Author.Needs.{needs}
+use Rattle.placing.proofs.place.Statement.{statement}
+use Rattle.placing.proofs.place.Tie as tie
+
+-- past 12, 7, 6 and 11
+shape : (c : tie.Else1) → shapedOf (c .before .before .before .before .before .args .d) ≡ true
+shape c = unplaced-shaped _ _ _ (sym (c .before .unplaced-refusal .ensures) ∙ c .if1 .left)
+
+unplaced-refusal-requires : tie.Need-unplaced-refusal-requires
+unplaced-refusal-requires c κs = search needs
+
+returns : tie.Need-returns
+unfolding step
+returns c = simp (blocks-length, count, ← c .before .unplaced-refusal .ensures) (stops _ _ _ _ _ (c .if1 .taken))
+
+range-refusal-requires : tie.Need-range-refusal-requires
+range-refusal-requires c κs = search needs
+
+returns-2 : tie.Need-returns-2
+unfolding step
+returns-2 c =
+    let k = c .before .before in
+    simp (blocks-length, count, ← k .before .unplaced-refusal .ensures)
+    (goes-on _ _ _ _ _ _ _ (k .if1 .left)
+    (simp (ranged, ← c .before .range-refusal .ensures) (stops _ _ _ _ _ (c .if2 .taken))))
+
+blocks-in-requires : tie.Need-blocks-in-requires
+blocks-in-requires c κs = search needs
+
+clear-requires : tie.Need-clear-requires
+clear-requires c κs = search needs
+
+lay-requires : tie.Need-lay-requires
+lay-requires c κs = search needs
+
+ask-placing-requires : tie.Need-ask-placing-requires
+ask-placing-requires c κs =
+    let k = c .before .before .before .before .before .before .before .before .before .before .before in
+    let before = shape (k .before .before) in
+    let after = start-keeps _ before _ (start-good _ _ _ _ (sym (k .before .range-refusal .ensures) ∙ k .if2 .left)) in
+    cc
+
+same-length : tie.Need-same-length
+same-length c = search needs
+
+same-length-2 : tie.Need-same-length-2
+same-length-2 c = search needs
+
+returns-3 : tie.Need-returns-3
+unfolding step
+returns-3 c =
+    let k = c .before .before .before .before .before .before .before .before .before .before .before .before in
+    simp (blocks-length, count, ← k .before .before .before .unplaced-refusal .ensures)
+    (goes-on _ _ _ _ _ _ _ (k .before .before .if1 .left)
+    (simp (ranged, ← k .before .range-refusal .ensures)
+    (goes-on _ _ _ _ _ _ _ (k .if2 .left)
+    (placed-meets _ _ _ _ _ (shape (k .before .before)) _ _ _ (rw (c .before .before .before .before .before .before .before .before .before .before .before .blocks-in .ensures) at (c .before .before .before .before .before .before .before .before .before .clear .ensures)) (c .before .before .before .before .before .lay .ensures) (c .ask-placing .ensures)))))
+
+pub place-spec : {M : Type 1} → statement M
+place-spec =
+    tie.close
+    (tie.spec
+    unplaced-refusal-requires
+    returns
+    range-refusal-requires
+    returns-2
+    blocks-in-requires
+    clear-requires
+    lay-requires
+    ask-placing-requires
+    same-length
+    same-length-2
+    returns-3)

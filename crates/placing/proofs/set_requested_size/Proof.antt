@@ -1,0 +1,78 @@
+-- `placing::set_requested_size` meets its contract: the refusals 12, 7, 5, 11 and then 1, and the new requested size before anything is worked out. Assumes nothing.
+use Prim.Native.Nat.{_*_, _%_}
+use mathlib.Core.Path.{_≡_, refl, sym, _∙_}
+use mathlib.Core.Bool.{true, false, not, _||_}
+use lib.Dec.{ltb, eqb}
+use native.Mathlib.Omega.{arith}
+use Rattle.bitmap.proofs.Laws.{blocks-length}
+use Rattle.rows.proofs.Words.{count, whole}
+use Rattle.record.specs.Shape.{shapedOf}
+use Rattle.record.proofs.Laws.{shaped-is, requested-keeps}
+use Rattle.record.specs.Changes.{requestedTo}
+use denote.Ref.{now}
+use Rattle.step.specs.World.{worldOf}
+use Rattle.step.specs.Step.{step, deviceOf, setRequestedSize}
+use Rattle.placing.proofs.Laws.{refused-meets, stops, goes-on, ready-shaped, resizes-meets, Asked, asked-is}
+use borrow.Author.Needs.{needs}
+use Rattle.placing.proofs.set_requested_size.Statement.{statement}
+use Rattle.placing.proofs.set_requested_size.Tie as tie
+
+-- past 12, 7, 5 and 11
+shape : (c : tie.Else1) → shapedOf (c .before .before .before .before .args .d) ≡ true
+shape c = ready-shaped _ _ _ (sym (c .before .ready-refusal .ensures) ∙ c .if1 .left)
+
+-- past 1
+size : (c : tie.Else2) → (let a = c .before .before .before .before .before .before .args in Asked (a .requested-mib * 1048576) (a .d .config .«region_size»))
+size c = asked-is _ _ _ (c .before .requested-refused .ensures) (c .if2 .left)
+
+ready-refusal-requires : tie.Need-ready-refusal-requires
+ready-refusal-requires c κs = search needs
+
+returns : tie.Need-returns
+unfolding step
+returns c = simp (blocks-length, count, ← c .before .ready-refusal .ensures) (stops _ _ _ _ _ (c .if1 .taken))
+
+requested-refused-requires : tie.Need-requested-refused-requires
+requested-refused-requires c κs = search needs
+
+returns-2 : tie.Need-returns-2
+unfolding step setRequestedSize
+returns-2 c =
+    let b = c .before .before .before .before .before .before in
+    simp (blocks-length, count, ← c .before .before .before .ready-refusal .ensures)
+    (goes-on _ _ _ _ _ _ _ (c .before .before .if1 .left)
+    (refused-meets _ _ _ 1 _ (simp (shaped-is (b .args .d) (shape (c .before .before)) .block-size, ← c .before .requested-refused .ensures, c .if2 .taken))))
+
+mul-requested : tie.Need-mul-requested
+mul-requested c = omega (arith, size c .within)
+
+resize-requires : tie.Need-resize-requires
+resize-requires c κs =
+    let before = shape (c .before .before .before) in
+    let after = requested-keeps _ before _ (size (c .before) .whole) (size (c .before) .within) in
+    cc
+
+returns-3 : tie.Need-returns-3
+unfolding step setRequestedSize
+returns-3 c =
+    let a = c .before .before .before .before .before .before .before .before .args in
+    let bytes = a .requested-mib * 1048576 in
+    let block-size = shaped-is (a .d) (shape (c .before .before .before .before)) .block-size in
+    let test : (ltb (a .d .config .«region_size») bytes || not (eqb (bytes % a .d .config .«block_size») 0)) ≡ false =
+    rw block-size (sym (c .before .before .before .requested-refused .ensures) ∙ c .before .before .if2 .left) in
+    simp (blocks-length, count, ← c .before .before .before .before .before .ready-refusal .ensures)
+    (goes-on _ _ _ _ _ _ _ (c .before .before .before .before .if1 .left)
+    (simp test
+    (resizes-meets _ (deviceOf (requestedTo bytes (a .d)) (worldOf (a .d) (now (a .bitmap)) (now (a .table)))) _ _ _ _ (c .resize .ensures) refl (sym (whole _)))))
+
+pub set-requested-size-spec : {M : Type 1} → statement M
+set-requested-size-spec =
+    tie.close
+    (tie.spec
+    ready-refusal-requires
+    returns
+    requested-refused-requires
+    returns-2
+    mul-requested
+    resize-requires
+    returns-3)
