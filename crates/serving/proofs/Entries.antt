@@ -1,0 +1,130 @@
+-- What the calls come to: the refusals before them, a request by its chain, and the host's answer to a discard. Assumes nothing.
+use Prim.Native.Nat.{ℕ, _+_, _-_, _*_, _/_}
+use mathlib.Core.Path.{_≡_, refl, sym, _∙_}
+use mathlib.Core.Bool.{Bool, true, false, not}
+use mathlib.Core.List.{List, [], _∷_}
+use native.Mathlib.Omega.{arith}
+use lib.ListN.{length}
+use borrow.Author.Tests.{eq-eqb, ne-eqb, not-true, not-false}
+use types.Run.{OneOf, miss}
+use denote.Enum.Declared.{tagOf}
+use Rattle.units.proofs.Tests.{by-test}
+use Rattle.units.specs.Numbers.{bytesOf}
+use Rattle.bitmap.specs.Blocks.{blocks, Filled}
+use Rattle.bitmap.proofs.Laws.{blocks-length}
+use Rattle.units.specs.declared.GuestAddr.{GuestAddr}
+use Rattle.rows.specs.Rows.{rowsOf}
+use Rattle.rows.proofs.Words.{count}
+use Rattle.wire.specs.declared.VirtioMemReq.{VirtioMemReq}
+use Rattle.chain.specs.declared.Parsed.{Parsed}
+use Rattle.chain.specs.declared.Parsed.the-variants.{Request as Got, Bad}
+use Rattle.chain.proofs.Parsed.{the-type as parsed-type}
+use Rattle.chain.specs.Chain.{parsed, reasonOf}
+use Rattle.record.specs.declared.Device.{Device}
+use Rattle.record.specs.declared.Pending.{Pending}
+use Rattle.record.specs.declared.Pending.the-variants.{Nothing, Create, Discard, DiscardOne}
+use Rattle.record.proofs.Pending.{the-type as pending-type}
+use Rattle.record.specs.Shape.{shapedOf, pendingOk}
+use Rattle.record.specs.Changes.{pluggedTo, pendingTo}
+use Rattle.record.proofs.Laws.{shaped-is, pending-keeps}
+use Rattle.step.specs.declared.Answered.{Answered}
+use Rattle.step.specs.World.{World, Guest, Request, worldOf, Responded, Meets}
+use Rattle.serving.specs.Discards.{discardAnswer, discardAnswered}
+use Rattle.step.specs.Step.{unserved, hostAnswer, serve, request, step, unless, readyRefusal, pendingRefusal, ack, error, refused as refusedWith, unplugAll}
+use Rattle.serving.proofs.Ends.{serves}
+
+-- a chain that is no request
+bad-is : (p : Parsed) → OneOf (1 ∷ []) (tagOf parsed-type p) → (reason : ℕ) → reason ≡ reasonOf p → (w : World) (g : Guest) → request p w g ≡ unserved reason w g
+unfolding request
+bad-is (Got req status) k reason e w g = absurd (miss (1 ∷ []) 0 tt k)
+bad-is (Bad n) k reason e w g = rw e
+
+-- past 12 the record is shaped
+pub ready-shaped : (d : Device) (n m : ℕ) {number : ℕ} → number ≡ readyRefusal d n m → number ≡ 0 → shapedOf d ≡ true
+unfolding readyRefusal
+ready-shaped d n m e h =
+    let r = sym e ∙ h in
+    by-test (shapedOf d) (λ t. t) (λ t. let z = rw t at r in absurd (omega arith))
+
+pub pending-shaped : (d : Device) (n m : ℕ) {number : ℕ} → number ≡ pendingRefusal d n m → number ≡ 0 → shapedOf d ≡ true
+unfolding pendingRefusal
+pending-shaped d n m e h =
+    let r = sym e ∙ h in
+    by-test (shapedOf d) (λ t. t) (λ t. let z = rw t at r in absurd (omega arith))
+
+module _ (d : Device) (bitmap table : List ℕ) (number : ℕ) where
+  module _ (number-is : number ≡ readyRefusal d (8 * length bitmap) (length table / 3)) where
+    same-ready : readyRefusal d (length (blocks bitmap)) (length (rowsOf table)) ≡ number
+    same-ready = rw (blocks-length bitmap, count table, ← number-is)
+
+    module _ (g : Guest) (at head : ℕ) where
+      pub request-refused : (number ≡ 0 → ⊥) → step (worldOf d bitmap table) (Request g at head) ≡ refusedWith number (worldOf d bitmap table) (g .mem)
+      unfolding step unless
+      request-refused h = rw (same-ready, ne-eqb number 0 h)
+
+      module _ (h : number ≡ 0) (p : Parsed) (e : p ≡ parsed (g .mem) (g .base) at head) where
+        request-ready : step (worldOf d bitmap table) (Request g at head) ≡ request p (worldOf d bitmap table) g
+        unfolding step unless
+        request-ready = rw (same-ready, eq-eqb number 0 h, ← e)
+
+        pub request-bad : OneOf (1 ∷ []) (tagOf parsed-type p) → (reason : ℕ) → reason ≡ reasonOf p → step (worldOf d bitmap table) (Request g at head) ≡ unserved reason (worldOf d bitmap table) g
+        request-bad k reason r = request-ready ∙ bad-is p k reason r (worldOf d bitmap table) g
+
+        pub request-got : (req : VirtioMemReq) (status : GuestAddr) → p ≡ Got req status → step (worldOf d bitmap table) (Request g at head) ≡ serve (worldOf d bitmap table) req (status .0) g
+        unfolding request
+        request-got req status q = request-ready ∙ rw q
+
+  module _ (number-is : number ≡ pendingRefusal d (8 * length bitmap) (length table / 3)) where
+    same-pending : pendingRefusal d (length (blocks bitmap)) (length (rowsOf table)) ≡ number
+    same-pending = rw (blocks-length bitmap, count table, ← number-is)
+
+    module _ (g : Guest) (ok : Bool) where
+      pub discard-refused : (number ≡ 0 → ⊥) → discardAnswered (worldOf d bitmap table) g ok ≡ refusedWith number (worldOf d bitmap table) (g .mem)
+      unfolding discardAnswered unless
+      discard-refused h = rw (same-pending, ne-eqb number 0 h)
+
+      discard-ready : number ≡ 0 → discardAnswered (worldOf d bitmap table) g ok ≡ discardAnswer (d .pending) (worldOf d bitmap table) g ok
+      unfolding discardAnswered unless
+      discard-ready h = rw (same-pending, eq-eqb number 0 h)
+
+      pub discard-one : number ≡ 0 → (block : ℕ) (status : GuestAddr) → d .pending ≡ DiscardOne block status → discardAnswered (worldOf d bitmap table) g ok ≡ hostAnswer (DiscardOne block status) (worldOf d bitmap table) g ok 0
+      unfolding discardAnswer
+      discard-one h block status e = discard-ready h ∙ rw e
+
+      pub discard-range : number ≡ 0 → (first n : ℕ) (status : GuestAddr) → d .pending ≡ Discard first n status → discardAnswered (worldOf d bitmap table) g ok ≡ hostAnswer (Discard first n status) (worldOf d bitmap table) g ok 0
+      unfolding discardAnswer
+      discard-range h first n status e = discard-ready h ∙ rw e
+
+      none-pending : (p : Pending) → OneOf (0 ∷ 1 ∷ []) (tagOf pending-type p) → discardAnswer p (worldOf d bitmap table) g ok ≡ refusedWith 8 (worldOf d bitmap table) (g .mem)
+      unfolding discardAnswer
+      none-pending Nothing k = refl
+      none-pending (Create first last) k = refl
+      none-pending (Discard first n status) k = absurd (miss (0 ∷ 1 ∷ []) 2 tt k)
+      none-pending (DiscardOne block status) k = absurd (miss (0 ∷ 1 ∷ []) 3 tt k)
+
+      pub discard-none : number ≡ 0 → OneOf (0 ∷ 1 ∷ []) (tagOf pending-type (d .pending)) → discardAnswered (worldOf d bitmap table) g ok ≡ refusedWith 8 (worldOf d bitmap table) (g .mem)
+      discard-none h k = discard-ready h ∙ none-pending (d .pending) k
+
+-- ---- the host's answer to a discard, by its pending case
+pub idle-shaped : (d idle : Device) → shapedOf d ≡ true → idle ≡ pendingTo Nothing d → shapedOf idle ≡ true
+unfolding pendingOk
+idle-shaped d idle shape same = rw same (pending-keeps d shape Nothing refl)
+
+module _ (d : Device) (bitmap table : List ℕ) (shape : shapedOf d ≡ true) (g : Guest) (s : Answered) {bytes : List ℕ} (ok : Bool) (status : GuestAddr) where
+  pub unplug-fails : (first count : ℕ) → not ok ≡ true → (d′ : Device) → d′ ≡ pendingTo Nothing d → Responded g (status .0) error d′ s bytes → Meets (hostAnswer (Discard first count status) (worldOf d bitmap table) g ok 0) s bitmap table table bytes
+  unfolding hostAnswer
+  unplug-fails first count t d′ same p = rw (not-true ok t) (serves _ bitmap table (rw same at p) refl refl)
+
+  pub unplug-done : (first count : ℕ) → not ok ≡ false → (bitmap′ : List ℕ) → Filled bitmap bitmap′ first count false → (d′ d″ : Device) → d′ ≡ pluggedTo (d .config .«plugged_size» - bytesOf 4194304 count) d → d″ ≡ pendingTo Nothing d′ → Responded g (status .0) ack d″ s bytes → Meets (hostAnswer (Discard first count status) (worldOf d bitmap table) g ok 0) s bitmap′ table table bytes
+  unfolding hostAnswer
+  unplug-done first count t bitmap′ filled d′ d″ same same′ p =
+      let e : bytesOf 4194304 count ≡ bytesOf (d .config .«block_size») count = rw (shaped-is d shape .block-size) in
+      rw (not-false ok t) (serves _ bitmap′ table (rw (same′, same, e) at p) (filled .as-blocks) refl)
+
+  pub one-fails : (block : ℕ) → not ok ≡ true → (d′ : Device) → d′ ≡ pendingTo Nothing d → Responded g (status .0) error d′ s bytes → Meets (hostAnswer (DiscardOne block status) (worldOf d bitmap table) g ok 0) s bitmap table table bytes
+  unfolding hostAnswer
+  one-fails block t d′ same p = rw (not-true ok t) (serves _ bitmap table (rw same at p) refl refl)
+
+  pub one-done : (block : ℕ) → not ok ≡ false → (bitmap′ : List ℕ) → Filled bitmap bitmap′ block 1 false → (d′ : Device) → d′ ≡ pendingTo Nothing d → Meets (unplugAll (worldOf d′ bitmap′ table) (block + 1) (status .0) g) s bitmap′ table table bytes → Meets (hostAnswer (DiscardOne block status) (worldOf d bitmap table) g ok 0) s bitmap′ table table bytes
+  unfolding hostAnswer
+  one-done block t bitmap′ filled d′ same m = rw (not-false ok t) (rw (same, filled .as-blocks) at m)

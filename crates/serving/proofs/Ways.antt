@@ -1,0 +1,192 @@
+-- What the ways through a request come to: each lemma takes what the code knows on a way and shows the leaf of `Step.antt` there. Assumes nothing.
+use Prim.Native.Nat.{ℕ, _+_, _≤_, _<_}
+use mathlib.Core.Path.{_≡_, refl, sym, _∙_}
+use mathlib.Core.Bool.{Bool, true, false, not}
+use mathlib.Core.List.{List, [], _∷_}
+use native.Mathlib.Omega.{arith}
+use lib.Dec.{leb, ltb}
+use borrow.Author.Tests.{lt-ltb, le-ltb, leb-true, leb-false, ne-eqb}
+use types.Run.{OneOf, miss}
+use denote.Enum.Declared.{tagOf}
+use Rattle.units.proofs.Tests.{passed, refused}
+use Rattle.units.specs.Numbers.{held, bytesOf, blocksIn}
+use Rattle.units.specs.declared.RegionOffset.{RegionOffset}
+use Rattle.units.specs.declared.HostAddr.{HostAddr}
+use Rattle.bitmap.specs.declared.Found.{Found}
+use Rattle.bitmap.specs.declared.Found.the-variants.{At, Nothing as NoneSet}
+use Rattle.bitmap.specs.Blocks.{blocks, nextSet, Filled}
+use Rattle.bitmap.proofs.Laws.{next-at}
+use Rattle.units.specs.declared.GuestAddr.{GuestAddr}
+use Rattle.rows.specs.Rows.{rowsOf}
+use Rattle.rows.proofs.Words.{count}
+use Rattle.change.specs.declared.Change.{Change}
+use Rattle.change.specs.declared.Change.the-variants.{Legal, Outside, WrongState, NoHost}
+use Rattle.change.proofs.Change.{the-type as change-type}
+use Rattle.change.proofs.Range.{the-type as range-type}
+use Rattle.change.specs.declared.Range.{Range}
+use Rattle.change.specs.declared.Range.the-variants.{Inside, Misaligned, NoBlocks, Overflows, BelowStart, PastUsable, EndPastUsable}
+use Rattle.change.specs.Change.{changeOf, rangeOf, stateOf}
+use Rattle.wire.specs.declared.VirtioMemReq.{VirtioMemReq}
+use Rattle.wire.specs.declared.VirtioMemResp.{VirtioMemResp}
+use Rattle.record.specs.declared.Device.{Device}
+use Rattle.record.specs.declared.Pending.the-variants.{Nothing, Discard, DiscardOne}
+use Rattle.record.specs.Shape.{shapedOf}
+use Rattle.record.specs.Changes.{pluggedTo, pendingTo}
+use Rattle.record.proofs.Laws.{shaped-is}
+use Rattle.step.specs.declared.Answered.{Answered}
+use Rattle.step.specs.declared.Answer.the-variants.{Refused}
+use Rattle.step.specs.World.{World, Guest, worldOf, Responded, Meets}
+use Rattle.serving.specs.Discards.{asksFor, unplug, unplugOne}
+use Rattle.step.specs.Step.{served, unserved, respond, serve, request, stateResp, ack, nack, error, plug, plugAs, unplugAs, oneAs, nextAs, unplugAll, stops, changing, stateType}
+use Rattle.serving.proofs.Ends.{serves, answers}
+
+-- where `let .. else` found another case than Legal, only its number is known
+abbrev pub others : List ℕ
+others = 1 ∷ 2 ∷ 3 ∷ []
+
+plug-error : (ch : Change) → OneOf others (tagOf change-type ch) → (w : World) (count status : ℕ) (g : Guest) → plugAs ch w count status g ≡ served error status w g
+unfolding plugAs
+plug-error (Legal first offset host) k w count status g = absurd (miss others 0 tt k)
+plug-error (Outside part) k w count status g = refl
+plug-error WrongState k w count status g = refl
+plug-error (NoHost part) k w count status g = refl
+
+module _ (d : Device) (bitmap table : List ℕ) (shape : shapedOf d ≡ true) (addr count status : ℕ) (g : Guest) (s : Answered) (bytes : List ℕ)
+    (size : ℕ) (size-is : size ≡ bytesOf 4194304 count) (within : Bool) (within-is : within ≡ leb (d .config .«plugged_size» + size) (d .config .«requested_size»)) where
+  -- (a) failed
+  pub plug-nacks : not within ≡ true → Responded g status nack d s bytes → Meets (plug (worldOf d bitmap table) addr count status g) s bitmap table table bytes
+  unfolding plug
+  plug-nacks t p =
+      let h = leb-false (d .config .«plugged_size» + size) (d .config .«requested_size») (refused _ _ within-is t) in
+      let e : ltb (d .config .«requested_size») (d .config .«plugged_size» + bytesOf (d .config .«block_size») count) ≡ true = rw (shaped-is d shape .block-size, ← size-is) (lt-ltb (d .config .«requested_size») (d .config .«plugged_size» + size) h) in
+      rw e (serves (worldOf d bitmap table) bitmap table p refl refl)
+
+  module _ (t : not within ≡ false) (ch : Change) (ch-is : ch ≡ changeOf 4194304 (d .config .addr .0) (d .config .«usable_region_size») (d .«multi_region») addr count true (blocks bitmap) (rowsOf table)) where
+    asks : plug (worldOf d bitmap table) addr count status g ≡ plugAs ch (worldOf d bitmap table) count status g
+    unfolding plug
+    asks =
+        let h = leb-true (d .config .«plugged_size» + size) (d .config .«requested_size») (passed _ _ within-is t) in
+        let e : ltb (d .config .«requested_size») (d .config .«plugged_size» + bytesOf (d .config .«block_size») count) ≡ false = rw (shaped-is d shape .block-size, ← size-is) (le-ltb (d .config .«requested_size») (d .config .«plugged_size» + size) h) in
+        rw (e, shaped-is d shape .block-size, ← ch-is)
+
+    pub plug-errs : OneOf others (tagOf change-type ch) → Responded g status error d s bytes → Meets (plug (worldOf d bitmap table) addr count status g) s bitmap table table bytes
+    plug-errs k p = rw (asks, plug-error ch k (worldOf d bitmap table) count status g) (serves (worldOf d bitmap table) bitmap table p refl refl)
+
+    pub plug-acks : (first : ℕ) (offset : RegionOffset) (host : HostAddr) → ch ≡ Legal first offset host → (bitmap′ : List ℕ) → Filled bitmap bitmap′ first count true → (d′ : Device) → d′ ≡ pluggedTo (d .config .«plugged_size» + size) d → Responded g status ack d′ s bytes → Meets (plug (worldOf d bitmap table) addr count status g) s bitmap′ table table bytes
+    unfolding plugAs
+    plug-acks first offset host legal bitmap′ filled d′ same p =
+        let e : d .config .«plugged_size» + size ≡ d .config .«plugged_size» + bytesOf (d .config .«block_size») count = rw (shaped-is d shape .block-size, size-is) in
+        rw (asks, legal) (serves _ bitmap′ table (rw (same, e) at p) (filled .as-blocks) refl)
+
+unplug-error : (ch : Change) → OneOf others (tagOf change-type ch) → (w : World) (count status : ℕ) (g : Guest) → unplugAs ch w count status g ≡ served error status w g
+unfolding unplugAs
+unplug-error (Legal first offset host) k w count status g = absurd (miss others 0 tt k)
+unplug-error (Outside part) k w count status g = refl
+unplug-error WrongState k w count status g = refl
+unplug-error (NoHost part) k w count status g = refl
+
+one-error : (ch : Change) → OneOf others (tagOf change-type ch) → (w : World) (block status : ℕ) (g : Guest) → oneAs ch w block status g ≡ stops w status g
+unfolding oneAs
+one-error (Legal first offset host) k w block status g = absurd (miss others 0 tt k)
+one-error (Outside part) k w block status g = refl
+one-error WrongState k w block status g = refl
+one-error (NoHost part) k w block status g = refl
+
+module _ (d : Device) (bitmap table : List ℕ) (shape : shapedOf d ≡ true) (status : ℕ) (g : Guest) (s : Answered) where
+  module _ (addr count : ℕ) (ch : Change) (ch-is : ch ≡ changeOf 4194304 (d .config .addr .0) (d .config .«usable_region_size») (d .«multi_region») addr count false (blocks bitmap) (rowsOf table)) where
+    same-change : changing (worldOf d bitmap table) addr count false ≡ ch
+    same-change = rw (shaped-is d shape .block-size, ← ch-is)
+
+    pub unplug-errs : {bytes : List ℕ} → OneOf others (tagOf change-type ch) → Responded g status error d s bytes → Meets (unplug (worldOf d bitmap table) addr count status g) s bitmap table table bytes
+    unplug-errs k p = rw (same-change, unplug-error ch k (worldOf d bitmap table) count status g) (serves (worldOf d bitmap table) bitmap table p refl refl)
+
+    module _ (first : ℕ) (offset : RegionOffset) (host : HostAddr) (legal : ch ≡ Legal first offset host) (size : ℕ) (size-is : size ≡ bytesOf 4194304 count) where
+      -- larger than the plugged size
+      pub unplug-refuses : d .config .«plugged_size» < size → s ≡ record { device = d; answer = Refused 12 } → Meets (unplug (worldOf d bitmap table) addr count status g) s bitmap table table (g .mem)
+      unfolding unplugAs
+      unplug-refuses h e =
+          let larger : ltb (d .config .«plugged_size») (bytesOf (d .config .«block_size») count) ≡ true = rw (shaped-is d shape .block-size, ← size-is) (lt-ltb (d .config .«plugged_size») size h) in
+          rw (same-change, legal, larger) (answers (worldOf d bitmap table) (Refused 12) bitmap table (g .mem) e refl refl)
+
+      pub unplug-asks : size ≤ d .config .«plugged_size» → s ≡ asksFor d (Discard first count (record { 0 = status })) offset size host → Meets (unplug (worldOf d bitmap table) addr count status g) s bitmap table table (g .mem)
+      unfolding unplugAs
+      unplug-asks h e =
+          let b = shaped-is d shape .block-size in
+          let fits : ltb (d .config .«plugged_size») (bytesOf (d .config .«block_size») count) ≡ false = rw (b, ← size-is) (le-ltb (d .config .«plugged_size») size h) in
+          let same : size ≡ bytesOf (d .config .«block_size») count = rw b size-is in
+          rw (same-change, legal, fits) (answers _ _ bitmap table (g .mem) (rw same at e) refl refl)
+
+  -- one block of an unplug-all
+  module _ (block : ℕ) (inside : block < blocksIn 4194304 (d .config .«region_size»)) (offset : RegionOffset) (offset-is : offset .0 ≡ held (bytesOf 4194304 block)) (addr : GuestAddr) (addr-is : addr .0 ≡ held (d .config .addr .0 + offset .0))
+      (ch : Change) (ch-is : ch ≡ changeOf 4194304 (d .config .addr .0) (d .config .«usable_region_size») (d .«multi_region») (addr .0) 1 false (blocks bitmap) (rowsOf table)) where
+    same-block : changing (worldOf d bitmap table) (d .config .addr .0 + bytesOf (d .config .«block_size») block) 1 false ≡ ch
+    same-block =
+        let h = shaped-is d shape in
+        let o : offset .0 ≡ bytesOf 4194304 block = omega arith in
+        let a : addr .0 ≡ d .config .addr .0 + bytesOf 4194304 block = omega arith in
+        rw (h .block-size, ← a, ← ch-is)
+
+    pub one-errs : {bytes : List ℕ} → OneOf others (tagOf change-type ch) → (d′ : Device) → d′ ≡ pendingTo Nothing d → Responded g status error d′ s bytes → Meets (unplugOne (worldOf d bitmap table) block status g) s bitmap table table bytes
+    one-errs k d′ same p = rw (same-block, one-error ch k (worldOf d bitmap table) block status g) (serves _ bitmap table (rw same at p) refl refl)
+
+    pub one-asks : (first : ℕ) (at : RegionOffset) (host : HostAddr) → ch ≡ Legal first at host → s ≡ asksFor d (DiscardOne block (record { 0 = status })) at 4194304 host → Meets (unplugOne (worldOf d bitmap table) block status g) s bitmap table table (g .mem)
+    unfolding oneAs
+    one-asks first at host legal e =
+        let same : 4194304 ≡ bytesOf (d .config .«block_size») 1 = rw (shaped-is d shape .block-size) in
+        rw (same-block, legal) (answers _ _ bitmap table (g .mem) (rw same at e) refl refl)
+
+  -- the next block of an unplug-all
+  module _ (from last : ℕ) (last-is : last ≡ blocksIn 4194304 (d .config .«region_size»)) (found : Found) (found-is : found ≡ nextSet (blocks bitmap) from last) where
+    same-found : nextSet (blocks bitmap) from (blocksIn (d .config .«block_size») (d .config .«region_size»)) ≡ found
+    same-found = rw (shaped-is d shape .block-size, ← last-is, ← found-is)
+
+    pub all-ends : {bytes : List ℕ} → found ≡ NoneSet → (d′ d″ : Device) → d′ ≡ pluggedTo 0 d → d″ ≡ pendingTo Nothing d′ → Responded g status ack d″ s bytes → Meets (unplugAll (worldOf d bitmap table) from status g) s bitmap table table bytes
+    unfolding nextAs
+    all-ends e d′ d″ same same′ p = rw (same-found, e) (serves _ bitmap table (rw (same′, same) at p) refl refl)
+
+    pub all-goes-on : {bytes : List ℕ} (block : ℕ) → found ≡ At block → Meets (unplugOne (worldOf d bitmap table) block status g) s bitmap table table bytes → Meets (unplugAll (worldOf d bitmap table) from status g) s bitmap table table bytes
+    unfolding nextAs
+    all-goes-on block e m = rw (same-found, e) m
+
+-- the block that an unplug-all finds is one of the region
+pub block-inside : (region from last : ℕ) (bs : List Bool) {found : Found} (block : ℕ) → last ≡ blocksIn 4194304 region → found ≡ nextSet bs from last → found ≡ At block → block < blocksIn 4194304 region
+block-inside region from last bs block last-is found-is e = rw last-is at (next-at bs from last block (sym found-is ∙ e) .before-end)
+
+-- a state request whose range does not lie inside
+pub state-errs : (range : Range) → OneOf (1 ∷ 2 ∷ 3 ∷ 4 ∷ 5 ∷ 6 ∷ []) (tagOf range-type range) → 3 ≡ stateType range
+unfolding stateType
+state-errs (Inside o) k = absurd (miss (1 ∷ 2 ∷ 3 ∷ 4 ∷ 5 ∷ 6 ∷ []) 0 tt k)
+state-errs Misaligned k = refl
+state-errs NoBlocks k = refl
+state-errs Overflows k = refl
+state-errs BelowStart k = refl
+state-errs PastUsable k = refl
+state-errs EndPastUsable k = refl
+
+module _ (w : World) (req : VirtioMemReq) (status : ℕ) (g : Guest) where
+  pub serve-plug : req .«req_type» ≡ 0 → serve w req status g ≡ plug w (req .addr .0) (req .«nb_blocks») status g
+  unfolding serve
+  serve-plug e = rw e
+
+  pub serve-unplug : req .«req_type» ≡ 1 → serve w req status g ≡ unplug w (req .addr .0) (req .«nb_blocks») status g
+  unfolding serve
+  serve-unplug e = rw e
+
+  pub serve-unplug-all : req .«req_type» ≡ 2 → serve w req status g ≡ unplugAll w 0 status g
+  unfolding serve
+  serve-unplug-all e = rw e
+
+  pub serve-state : req .«req_type» ≡ 3 → serve w req status g ≡ served (stateResp w (req .addr .0) (req .«nb_blocks»)) status w g
+  unfolding serve
+  serve-state e = rw e
+
+  pub serve-unknown : (req .«req_type» ≡ 0 → ⊥) → (req .«req_type» ≡ 1 → ⊥) → (req .«req_type» ≡ 2 → ⊥) → (req .«req_type» ≡ 3 → ⊥) → serve w req status g ≡ unserved 0 w g
+  unfolding serve
+  serve-unknown e0 e1 e2 e3 =
+      rw (ne-eqb (req .«req_type») 0 e0, ne-eqb (req .«req_type») 1 e1, ne-eqb (req .«req_type») 2 e2, ne-eqb (req .«req_type») 3 e3)
+
+module _ (d : Device) (bitmap table : List ℕ) (shape : shapedOf d ≡ true) (g : Guest) (s : Answered) where
+  pub states : {bytes : List ℕ} (req : VirtioMemReq) (status : ℕ) → req .«req_type» ≡ 3 → (resp : VirtioMemResp) → resp ≡ respond (stateType (rangeOf 4194304 (d .config .addr .0) (d .config .«usable_region_size») (req .addr .0) (req .«nb_blocks»))) (stateOf 4194304 (d .config .addr .0) (d .config .«region_size») (req .addr .0) (req .«nb_blocks») (blocks bitmap)) → Responded g status resp d s bytes → Meets (serve (worldOf d bitmap table) req status g) s bitmap table table bytes
+  states req status t resp e p =
+      let same : stateResp (worldOf d bitmap table) (req .addr .0) (req .«nb_blocks») ≡ resp = rw (shaped-is d shape .block-size, ← e) in
+      rw (serve-state (worldOf d bitmap table) req status g t, same) (serves (worldOf d bitmap table) bitmap table p refl refl)

@@ -1,0 +1,60 @@
+-- `serving::request` meets its contract: 12, 7, 5 and 11, then the chain's reason, then the request. Assumes nothing.
+use mathlib.Core.Path.{refl}
+use Rattle.serving.proofs.Ends.{as-met, answers}
+use Rattle.serving.proofs.Entries.{ready-shaped, request-refused, request-bad, request-got}
+use borrow.Author.Needs.{needs}
+use Rattle.serving.proofs.request.Statement.{statement}
+use Rattle.serving.proofs.request.Tie as tie
+
+ready-refusal-requires : tie.Need-ready-refusal-requires
+ready-refusal-requires c κs = search needs
+
+returns : tie.Need-returns
+returns c = as-met (request-refused _ _ _ _ (c .before .ready-refusal .ensures) _ _ _ (c .if1 .taken)) (answers _ _ _ _ _ refl refl refl)
+
+parse-requires : tie.Need-parse-requires
+parse-requires c κs = search needs
+
+enum-known-parsed : tie.Need-enum-known-parsed
+enum-known-parsed c = search needs
+
+enum-told : tie.Need-enum-told
+enum-told c = search needs
+
+reason-requires : tie.Need-reason-requires
+reason-requires c κs = search needs
+
+same-length : tie.Need-same-length
+same-length c = search needs
+
+returns-2 : tie.Need-returns-2
+returns-2 c = as-met (request-bad _ _ _ _ (c .before .before .before .before .before .before .ready-refusal .ensures) _ _ _ (c .before .before .before .before .before .if1 .left) _ (c .before .before .before .parse .ensures) (c .before .before .match .keys2) _ (c .reason .ensures)) (answers _ _ _ _ _ refl refl refl)
+
+serve-requires : tie.Need-serve-requires
+serve-requires c κs = ready-shaped _ _ _ (c .before .before .before .before .before .before .before .before .ready-refusal .ensures) (c .before .before .before .before .before .before .before .if1 .left)
+
+same-length-2 : tie.Need-same-length-2
+same-length-2 c = search needs
+
+same-length-3 : tie.Need-same-length-3
+same-length-3 c = search needs
+
+returns-3 : tie.Need-returns-3
+returns-3 c = as-met (request-got _ _ _ _ (c .before .before .before .before .before .before .before .before .before .before .before .before .before .ready-refusal .ensures) _ _ _ (c .before .before .before .before .before .before .before .before .before .before .before .before .if1 .left) _ (c .before .before .before .before .before .before .before .before .before .before .parse .ensures) _ _ (c .before .before .before .before .before .before .before .before .parsed .given .1)) (c .before .before .before .before .serve .ensures)
+
+pub request-spec : {M : Type 1} → statement M
+request-spec =
+    tie.close
+    (tie.spec
+    ready-refusal-requires
+    returns
+    parse-requires
+    enum-known-parsed
+    enum-told
+    reason-requires
+    same-length
+    returns-2
+    serve-requires
+    same-length-2
+    same-length-3
+    returns-3)

@@ -1,0 +1,402 @@
+// SPDX-License-Identifier: Apache-2.0 AND BSD-3-Clause
+// Requests of the guest: plug, unplug, unplug-all and state, and the host's answers to their discards.
+use bitmap::Found;
+use bitmap::next_set;
+use bitmap::set_range;
+use chain::Parsed;
+use chain::parse;
+use change::Change;
+use change::Range;
+use change::change_of;
+use change::range_of;
+use change::state_of;
+use record::Device;
+use record::HostCall;
+use record::Pending;
+use step::Answer;
+use step::Answered;
+use step::pending_refusal;
+use step::ready_refusal;
+use step::respond;
+use units::GuestAddr;
+use units::HostAddr;
+use units::MemTool;
+use units::RegionOffset;
+use units::sum_within;
+use wire::VirtioMemConfig;
+use wire::VirtioMemReq;
+use wire::VirtioMemResp;
+ghost use mathlib.Core.Path.{_≡_};
+ghost use mathlib.Core.Bool.{true, false};
+ghost use Prim.Native.Nat.{_<_};
+ghost use Rattle.bitmap.specs.Blocks.{blocks};
+ghost use Rattle.change.specs.Change.{rangeOf, stateOf};
+ghost use Rattle.record.specs.declared.Pending.the-variants.{Discard, DiscardOne};
+ghost use Rattle.record.specs.Shape.{shapedOf};
+ghost use Rattle.record.specs.Changes.{pendingTo, pluggedTo};
+ghost use Rattle.step.specs.World.{Request, guestOf, worldOf, Responded, Meets};
+ghost use Rattle.step.specs.Step.{step, plug as plugOf, unplugAll, stateType, serve as serveOf, hostAnswer, respond as respondOf};
+ghost use Rattle.units.specs.Numbers.{blocksIn};
+ghost use Rattle.serving.specs.Discards.{asksFor, unplug as unplugOf, unplugOne, discardAnswered};
+
+// The types of a response.
+const ACK: u16 = 0;
+
+const NACK: u16 = 1;
+
+const ERROR: u16 = 3;
+
+// The record with another plugged size.
+fn plugged_to(d: Device, plugged: u64) -> Device
+    ensures { λ r. ⌜ r ≡ pluggedTo plugged d ⌝ }
+{
+    let c = d.config;
+    Device {
+        config: VirtioMemConfig {
+            plugged_size: plugged,
+            ..c
+        },
+        ..d
+    }
+}
+
+// The record with another pending call.
+fn pending_to(d: Device, pending: Pending) -> Device
+    ensures { λ r. ⌜ r ≡ pendingTo pending d ⌝ }
+{
+    Device {
+        pending: pending,
+        ..d
+    }
+}
+
+// Ends a request with a response whose state is 0.
+fn ended(d: Device, mem: &mut [u8], base: GuestAddr, status: GuestAddr, resp_type: u16) -> Answered
+    ensures { λ r. ⌜ Responded (guestOf (now (mem .entry)) base) (status .0) (respondOf «resp_type» 0) d r (now (mem .exit)) ⌝ }
+{
+    respond(
+        d,
+        mem,
+        base,
+        status,
+        VirtioMemResp {
+            resp_type: resp_type,
+            state: 0,
+        },
+    )
+}
+
+// A plug: NACK before every test of the range.
+fn plug(
+    d: Device,
+    bitmap: &mut [u8],
+    table: &[u64],
+    mem: &mut [u8],
+    base: GuestAddr,
+    addr: GuestAddr,
+    nb_blocks: u16,
+    status: GuestAddr,
+) -> Answered
+    requires { ⌜ shapedOf d ≡ true ⌝ }
+    ensures { λ r. ⌜ Meets (plugOf (worldOf d (now (bitmap .entry)) (now (table .entry))) (addr .0) «nb_blocks» (status .0) (guestOf (now (mem .entry)) base)) r (now (bitmap .exit)) (now (table .entry)) (now (table .entry)) (now (mem .exit)) ⌝ }
+{
+    let plugged = d.config.plugged_size;
+    let size = MemTool::bytes_of(nb_blocks);
+    if !sum_within(plugged, size, d.config.requested_size) {
+        return ended(d, mem, base, status, NACK);
+    }
+    let start = d.config.addr;
+    let usable = d.config.usable_region_size;
+    let Change::Legal(first, _, _) = change_of(
+        start,
+        usable,
+        d.multi_region,
+        addr,
+        nb_blocks,
+        true,
+        &bitmap[..],
+        table,
+    ) else {
+        return ended(d, mem, base, status, ERROR);
+    };
+    set_range(bitmap, first as usize, nb_blocks as usize, true);
+    ended(plugged_to(d, plugged + size), mem, base, status, ACK)
+}
+
+// Asks the host for a discard: the answer ends what is pending then.
+fn asked(d: Device, pending: Pending, offset: RegionOffset, size: u64, host: HostAddr) -> Answered
+    ensures { λ r. ⌜ r ≡ asksFor d pending offset size host ⌝ }
+{
+    let call = HostCall::Discard {
+        offset: offset,
+        size: size,
+        host: host,
+    };
+    let device = pending_to(d, pending);
+    Answered {
+        device: device,
+        answer: Answer::Wants(call),
+    }
+}
+
+// An unplug: one discard of the range, unless it is more than is plugged.
+fn unplug(
+    d: Device,
+    bitmap: &[u8],
+    table: &[u64],
+    mem: &mut [u8],
+    base: GuestAddr,
+    addr: GuestAddr,
+    nb_blocks: u16,
+    status: GuestAddr,
+) -> Answered
+    requires { ⌜ shapedOf d ≡ true ⌝ }
+    ensures { λ r. ⌜ Meets (unplugOf (worldOf d (now (bitmap .entry)) (now (table .entry))) (addr .0) «nb_blocks» (status .0) (guestOf (now (mem .entry)) base)) r (now (bitmap .entry)) (now (table .entry)) (now (table .entry)) (now (mem .exit)) ⌝ }
+{
+    let start = d.config.addr;
+    let usable = d.config.usable_region_size;
+    let Change::Legal(first, offset, host) = change_of(
+        start,
+        usable,
+        d.multi_region,
+        addr,
+        nb_blocks,
+        false,
+        bitmap,
+        table,
+    ) else {
+        return ended(d, mem, base, status, ERROR);
+    };
+    let size = MemTool::bytes_of(nb_blocks);
+    if d.config.plugged_size < size {
+        return Answered {
+            device: d,
+            answer: Answer::Refused(12),
+        };
+    }
+    let pending = Pending::Discard {
+        first: first,
+        count: nb_blocks as u64,
+        status: status,
+    };
+    asked(d, pending, offset, size, host)
+}
+
+// One block of an unplug-all, which neither tests nor changes the plugged size.
+fn unplug_one(
+    d: Device,
+    bitmap: &[u8],
+    table: &[u64],
+    mem: &mut [u8],
+    base: GuestAddr,
+    block: u64,
+    status: GuestAddr,
+) -> Answered
+    requires { ⌜ (shapedOf d ≡ true) × (block < blocksIn 4194304 (d .config .«region_size»)) ⌝ }
+    ensures { λ r. ⌜ Meets (unplugOne (worldOf d (now (bitmap .entry)) (now (table .entry))) block (status .0) (guestOf (now (mem .entry)) base)) r (now (bitmap .entry)) (now (table .entry)) (now (table .entry)) (now (mem .exit)) ⌝ }
+{
+    let start = d.config.addr;
+    let usable = d.config.usable_region_size;
+    let addr = RegionOffset::of_block(block).guest_from(start);
+    let Change::Legal(_, offset, host) = change_of(
+        start,
+        usable,
+        d.multi_region,
+        addr,
+        1,
+        false,
+        bitmap,
+        table,
+    ) else {
+        return ended(pending_to(d, Pending::Nothing), mem, base, status, ERROR);
+    };
+    let pending = Pending::DiscardOne {
+        block: block,
+        status: status,
+    };
+    asked(d, pending, offset, MemTool::BLOCK_SIZE, host)
+}
+
+// The next block of an unplug-all from block `from` on, or its end.
+fn unplug_all(
+    d: Device,
+    bitmap: &[u8],
+    table: &[u64],
+    mem: &mut [u8],
+    base: GuestAddr,
+    from: u64,
+    status: GuestAddr,
+) -> Answered
+    requires { ⌜ shapedOf d ≡ true ⌝ }
+    ensures { λ r. ⌜ Meets (unplugAll (worldOf d (now (bitmap .entry)) (now (table .entry))) from (status .0) (guestOf (now (mem .entry)) base)) r (now (bitmap .entry)) (now (table .entry)) (now (table .entry)) (now (mem .exit)) ⌝ }
+{
+    let end = MemTool::blocks_in(d.config.region_size);
+    let Found::At(block) = next_set(bitmap, from as usize, end as usize) else {
+        let none = pending_to(plugged_to(d, 0), Pending::Nothing);
+        return ended(none, mem, base, status, ACK);
+    };
+    unplug_one(d, bitmap, table, mem, base, block as u64, status)
+}
+
+// The type of a state request's response.
+fn state_type(range: Range) -> u16
+    ensures { λ r. ⌜ r ≡ stateType range ⌝ }
+{
+    let Range::Inside(_) = range else {
+        return ERROR;
+    };
+    ACK
+}
+
+// The response to a state request.
+fn state(d: Device, bitmap: &[u8], addr: GuestAddr, nb_blocks: u16) -> VirtioMemResp
+    ensures { λ r. ⌜ r ≡ respondOf (stateType (rangeOf 4194304 (d .config .addr .0) (d .config .«usable_region_size») (addr .0) «nb_blocks»)) (stateOf 4194304 (d .config .addr .0) (d .config .«region_size») (addr .0) «nb_blocks» (blocks (now (bitmap .entry)))) ⌝ }
+{
+    let start = d.config.addr;
+    let usable = d.config.usable_region_size;
+    let region = d.config.region_size;
+    let resp_type = state_type(range_of(start, usable, addr, nb_blocks));
+    let state = state_of(start, region, addr, nb_blocks, bitmap);
+    VirtioMemResp {
+        resp_type: resp_type,
+        state: state,
+    }
+}
+
+// A request, by its type.
+fn serve(
+    d: Device,
+    bitmap: &mut [u8],
+    table: &[u64],
+    mem: &mut [u8],
+    base: GuestAddr,
+    req: VirtioMemReq,
+    status: GuestAddr,
+) -> Answered
+    requires { ⌜ shapedOf d ≡ true ⌝ }
+    ensures { λ r. ⌜ Meets (serveOf (worldOf d (now (bitmap .entry)) (now (table .entry))) req (status .0) (guestOf (now (mem .entry)) base)) r (now (bitmap .exit)) (now (table .entry)) (now (table .entry)) (now (mem .exit)) ⌝ }
+{
+    let addr = req.addr;
+    let nb_blocks = req.nb_blocks;
+    let req_type = req.req_type;
+    match req_type {
+        0 => plug(d, bitmap, table, mem, base, addr, nb_blocks, status),
+        1 => unplug(d, &bitmap[..], table, mem, base, addr, nb_blocks, status),
+        2 => unplug_all(d, &bitmap[..], table, mem, base, 0, status),
+        3 => respond(d, mem, base, status, state(d, &bitmap[..], addr, nb_blocks)),
+        _ => Answered {
+            device: d,
+            answer: Answer::Unserved(0),
+        },
+    }
+}
+
+// One chain of the guest. What it asks, and where its response goes, is read here and nowhere else.
+pub fn request(
+    d: Device,
+    bitmap: &mut [u8],
+    table: &[u64],
+    mem: &mut [u8],
+    base: GuestAddr,
+    descriptors: GuestAddr,
+    head: u16,
+) -> Answered
+    ensures { λ r. ⌜ Meets (step (worldOf d (now (bitmap .entry)) (now (table .entry))) (Request (guestOf (now (mem .entry)) base) (descriptors .0) head)) r (now (bitmap .exit)) (now (table .entry)) (now (table .entry)) (now (mem .exit)) ⌝ }
+{
+    let number = ready_refusal(d, bitmap.len(), table.len());
+    if number != 0 {
+        return Answered {
+            device: d,
+            answer: Answer::Refused(number),
+        };
+    }
+    let parsed = parse(&mem[..], base, descriptors, head);
+    let Parsed::Request(req, status) = parsed else {
+        return Answered {
+            device: d,
+            answer: Answer::Unserved(parsed.reason()),
+        };
+    };
+    serve(d, bitmap, table, mem, base, req, status)
+}
+
+// The host's answer to the discard of an unplug.
+fn unplug_answered(
+    d: Device,
+    bitmap: &mut [u8],
+    table: &[u64],
+    mem: &mut [u8],
+    base: GuestAddr,
+    first: u64,
+    count: u64,
+    status: GuestAddr,
+    ok: bool,
+) -> Answered
+    requires { ⌜ (shapedOf d ≡ true) × (d .pending ≡ Discard first count status) ⌝ }
+    ensures { λ r. ⌜ Meets (hostAnswer (Discard first count status) (worldOf d (now (bitmap .entry)) (now (table .entry))) (guestOf (now (mem .entry)) base) ok 0) r (now (bitmap .exit)) (now (table .entry)) (now (table .entry)) (now (mem .exit)) ⌝ }
+{
+    if !ok {
+        return ended(pending_to(d, Pending::Nothing), mem, base, status, ERROR);
+    }
+    let left = d.config.plugged_size - count * MemTool::BLOCK_SIZE;
+    set_range(bitmap, first as usize, count as usize, false);
+    let unplugged = pending_to(plugged_to(d, left), Pending::Nothing);
+    ended(unplugged, mem, base, status, ACK)
+}
+
+// The host's answer to the discard of one block of an unplug-all, which goes on behind that block.
+fn one_answered(
+    d: Device,
+    bitmap: &mut [u8],
+    table: &[u64],
+    mem: &mut [u8],
+    base: GuestAddr,
+    block: u64,
+    status: GuestAddr,
+    ok: bool,
+) -> Answered
+    requires { ⌜ (shapedOf d ≡ true) × (d .pending ≡ DiscardOne block status) ⌝ }
+    ensures { λ r. ⌜ Meets (hostAnswer (DiscardOne block status) (worldOf d (now (bitmap .entry)) (now (table .entry))) (guestOf (now (mem .entry)) base) ok 0) r (now (bitmap .exit)) (now (table .entry)) (now (table .entry)) (now (mem .exit)) ⌝ }
+{
+    let idle = pending_to(d, Pending::Nothing);
+    if !ok {
+        return ended(idle, mem, base, status, ERROR);
+    }
+    set_range(bitmap, block as usize, 1, false);
+    unplug_all(idle, &bitmap[..], table, mem, base, block + 1, status)
+}
+
+// The host's answer to a discard: 8 where none is pending.
+pub fn discard_answered(
+    d: Device,
+    bitmap: &mut [u8],
+    table: &[u64],
+    mem: &mut [u8],
+    base: GuestAddr,
+    ok: bool,
+) -> Answered
+    ensures { λ r. ⌜ Meets (discardAnswered (worldOf d (now (bitmap .entry)) (now (table .entry))) (guestOf (now (mem .entry)) base) ok) r (now (bitmap .exit)) (now (table .entry)) (now (table .entry)) (now (mem .exit)) ⌝ }
+{
+    let number = pending_refusal(d, bitmap.len(), table.len());
+    if number != 0 {
+        return Answered {
+            device: d,
+            answer: Answer::Refused(number),
+        };
+    }
+    let pending = d.pending;
+    match pending {
+        Pending::Discard {
+            first,
+            count,
+            status,
+        } => unplug_answered(d, bitmap, table, mem, base, first, count, status, ok),
+        Pending::DiscardOne { block, status } => {
+            one_answered(d, bitmap, table, mem, base, block, status, ok)
+        }
+        _ => Answered {
+            device: d,
+            answer: Answer::Refused(8),
+        },
+    }
+}
