@@ -1,0 +1,124 @@
+-- Demand 3 over every run: each call keeps the invariant.
+use Prim.Native.Nat.{ℕ, _+_, _≤_}
+use mathlib.Core.Path.{_≡_, refl, ap, _∙_, sym}
+use mathlib.Core.Bool.{true, false}
+use mathlib.Core.List.{List, [], _∷_, _++_}
+use native.Mathlib.Omega.{arith}
+use lib.Dec.{leb}
+use lib.Seq.{take-nil}
+use borrow.Author.Tests.{leb-true}
+use Rattle.units.specs.Numbers.{bytesOf, blocksIn}
+use Rattle.units.specs.declared.GuestAddr.{GuestAddr}
+use Rattle.units.proofs.Tests.{and-left, and-right}
+use Rattle.bitmap.specs.Blocks.{ones}
+use Rattle.record.specs.declared.Device.{Device}
+use Rattle.record.specs.declared.Pending.{Pending}
+use Rattle.record.specs.declared.Pending.the-variants.{Discard}
+use Rattle.record.specs.Shape.{pendingOk}
+use Rattle.step.specs.World.{World, Call, Outcome}
+use Rattle.step.specs.Step.{blockSize, region, plugged, regionBlocks, cleared}
+use Rattle.history.specs.History.{Event, Discarded, Story, next, after, Fresh, begun, lastOn, wasPlug, since, inPlugs, inUnplugs, inDiscards, Told}
+use Rattle.history.proofs.Shaped.{clash}
+use Rattle.history.proofs.Invariant.{discarding, Asked, Inv, quiet-asks, idle-quiet, goes-on, inv-plugs, inv-unplugs, inv-cleared, inv-ends, placed-by, inv-placed, still, over}
+use Rattle.history.proofs.Observer.{openOf, sees}
+use Rattle.history.proofs.Calls.{Endings, each-call}
+
+-- a pending unplug lies in the region, and is at most the plugged size
+module _ (w : World) (f c : ℕ) (status : GuestAddr) (e : pendingOk (Discard f c status) (blockSize w) (region w) (w .device .«multi_region») (plugged w) ≡ true) where
+  pub discard-ends : f + c ≤ regionBlocks w
+  unfolding pendingOk
+  discard-ends = leb-true (f + c) (regionBlocks w) (and-left _ _ e)
+
+  pub discard-enough : bytesOf (blockSize w) c ≤ plugged w
+  unfolding pendingOk
+  discard-enough = leb-true (bytesOf (blockSize w) c) (plugged w) (and-right (leb (f + c) (regionBlocks w)) _ e)
+
+-- ---- each ending keeps the invariant
+abbrev pub Kept : (before : List Event) → Call → Outcome → (new : List Event) → Type 0
+Kept before c o new = Inv (o .world) (new ++ before)
+
+module _ (w : World) (es : List Event) (h : Inv w es) where
+  -- a discard is pending, so the device is placed
+  there : (p : Pending) → w .device .pending ≡ p → discarding p ≡ true → w .device .placed ≡ true
+  there p q d = placed-by w es h (ap discarding q ∙ d)
+
+  pub kept : Endings w (Kept es)
+  unfolding discarding Asked
+  kept =
+      record {
+        refuses = λ c n bytes _ _. h;
+        reads = λ offset buffer bytes. h;
+        writes = λ offset buffer. h;
+        unserves = λ a reason. h;
+        responds = λ a resp. h;
+        plugs-range = λ a addr count first offset _ l.
+            inv-plugs w es h (a .is-placed) (a .status) (a .guest) (a .entry .is-long) first count (a .entry .is-idle) (l .ends) (l .state);
+        asks-range = λ a addr count first offset host _ l. still w es h _ _ _ _ _ _ (λ q. clash (a .is-placed) q) (l .state);
+        spoils = λ a addr count first offset _ _. h;
+        ends-at-once = λ a r. inv-ends w es h (a .is-placed) (a .status) (a .guest) r;
+        asks-first = λ a block offset host r _. still w es h _ _ _ _ _ _ (λ q. clash (a .is-placed) q) r;
+        stops-at-once = λ a. over w es h _ _ _ (λ q. q);
+        maps = λ i last a. over w es h _ _ _ (λ q. clash refl q);
+        create-fails = λ i last a. over w es h _ _ _ (λ q. q);
+        unplugs-range = λ first count status a.
+            let fine = rw (a .waits) at (a .entry .is-shaped .pending-ok) in
+            inv-unplugs w es h (there _ (a .waits) refl) (status .0) (a .guest) (a .entry .is-long) first count (rw (a .waits) at (h .asked))
+            (discard-ends w first count status fine) (discard-enough w first count status fine);
+        discard-fails = λ first count status a. over w es h _ _ _ (λ q. q);
+        ends-all = λ j status a r.
+            let p = there _ (a .waits) refl in
+            let lowest = rw (a .waits) at (h .asked) in
+            inv-ends (cleared w j) (Discarded j ∷ es) (inv-cleared w es h p (status .0) (a .guest) (a .entry .is-long) j lowest) p (status .0) (a .guest)
+            (sym (goes-on (regionBlocks w) (w .blocks) j lowest) ∙ r);
+        asks-next = λ j status a block offset host r _.
+            let p = there _ (a .waits) refl in
+            let lowest = rw (a .waits) at (h .asked) in
+            still (cleared w j) (Discarded j ∷ es) (inv-cleared w es h p (status .0) (a .guest) (a .entry .is-long) j lowest) _ _ _ _ _ _ (λ q. clash p q)
+            (sym (goes-on (regionBlocks w) (w .blocks) j lowest) ∙ r);
+        stops-after = λ j status a. inv-cleared w es h (there _ (a .waits) refl) (status .0) (a .guest) (a .entry .is-long) j (rw (a .waits) at (h .asked));
+        one-fails = λ j status a. over w es h _ _ _ (λ q. q);
+        resizes = λ a. still w es h _ _ _ _ _ _ (λ q. clash refl q) (h .asked);
+        resize-asks = λ a i last size _. still w es h _ _ _ _ _ _ (λ q. clash (a .is-placed) q) refl;
+        places = λ a. inv-placed w es h _ _ _ _ (a .bits) _ (a .not-placed) (a .entry .is-long) (idle-quiet (w .device .pending) (a .entry .is-idle));
+        place-asks = λ a i last size _. inv-placed w es h _ _ _ _ (a .bits) _ (a .not-placed) (a .entry .is-long) refl;
+        place-asks-whole = λ a _. inv-placed w es h _ _ _ _ (a .bits) _ (a .not-placed) (a .entry .is-long) refl;
+      }
+
+-- ---- over any calls
+always-open : (s : Story) (cs : List Call) → openOf (s .world .device .pending) ≡ s .«open» → openOf (after s cs .world .device .pending) ≡ after s cs .«open»
+unfolding after next
+always-open s [] o = o
+always-open s (c ∷ cs) o = always-open (next s c) cs (rw o at (sees (s .world) c))
+
+always : (s : Story) (cs : List Call) → openOf (s .world .device .pending) ≡ s .«open» → Inv (s .world) (s .events) → Inv (after s cs .world) (after s cs .events)
+unfolding after next
+always s [] o h = h
+always s (c ∷ cs) o h = always (next s c) cs (rw o at (sees (s .world) c)) (rw o at (each-call (s .world) (Kept (s .events)) (kept (s .world) (s .events) h) c))
+
+module _ (d : Device) (fresh : Fresh d) where
+  at-first : Inv (begun d .world) []
+  unfolding lastOn wasPlug since inPlugs inUnplugs inDiscards discarding ones
+  at-first =
+      let quiet : discarding (d .pending) ≡ false = rw (fresh .waits-for-nothing) in
+      record {
+        told = record {
+          bits = λ i l. refl;
+          size = omega (arith, fresh .nothing-plugged);
+          count = rw (take-nil (blocksIn (d .config .«block_size») (d .config .«region_size»))) (omega (arith, fresh .nothing-plugged));
+        };
+        early = λ p. record { none-yet = refl; not-asked = quiet; no-size = fresh .nothing-plugged };
+        asked = quiet-asks (d .pending) _ _ quiet;
+      }
+
+  -- what the observer holds open is what is pending
+  pub open-is : (cs : List Call) → openOf (after (begun d) cs .world .device .pending) ≡ after (begun d) cs .«open»
+  unfolding openOf
+  open-is cs = always-open (begun d) cs (rw (fresh .waits-for-nothing))
+
+  pub invariant : (cs : List Call) → Inv (after (begun d) cs .world) (after (begun d) cs .events)
+  unfolding openOf
+  invariant cs = always (begun d) cs (rw (fresh .waits-for-nothing)) at-first
+
+  -- demand 3, of every run of calls from a newly made device; while a host call is pending too
+  pub demand-3 : (cs : List Call) → Told (after (begun d) cs .world) (after (begun d) cs .events)
+  demand-3 cs = invariant cs .told

@@ -1,0 +1,130 @@
+-- The whole example of 01 as a run, guest bytes and all, and a second run with every kind of event. Both begin with a newly made device, so what is said of every run is said of something. Computed, by `refl`.
+use Prim.Native.Nat.{ℕ}
+use mathlib.Core.Path.{_≡_, refl}
+use mathlib.Core.Bool.{true, false}
+use mathlib.Core.List.{List, [], _∷_, _++_}
+use lib.ListN.{replicate}
+use Rattle.units.specs.Numbers.{mapRegions}
+use Rattle.bitmap.specs.Blocks.{every, fill, firstSet}
+use Rattle.wire.specs.Bytes.{value, littleEndian, part, put}
+use Rattle.wire.specs.Layout.{requestAt, responseBytes}
+use Rattle.chain.specs.Standard.{virtqDesc, descriptorAt, descriptorAddr}
+use Rattle.chain.specs.Chain.{inside, linkAt, linkAfter, withSecond, withFirst, parsed, reaches, delivered}
+use Rattle.rows.specs.Rows.{mappingOf, fillRows, laid}
+use Rattle.record.specs.declared.Device.{Device}
+use Rattle.record.specs.declared.Pending.the-variants.{Nothing}
+use Rattle.record.specs.declared.HostCall.the-variants.{Create, Discard}
+use Rattle.record.specs.Shape.{alignmentOk, regionOk, sizeOk, spanOf, startOk, severalOk, pendingOk, shapedOf}
+use Rattle.resize.specs.Resize.{newSize, growthOf}
+use Rattle.change.specs.Change.{insideOf, rangeOf, hostSum, hostIn, hostOf, legalAt, changeIn, stateIn, stateOf}
+use Rattle.step.specs.declared.Answer.{Answer}
+use Rattle.step.specs.declared.Answer.the-variants.{Wants, Sized, Served}
+use Rattle.step.specs.World.{World, Guest, Call, Place, SetRequestedSize, Request, HostAnswer}
+use Rattle.step.specs.Step.{tablesFit, readyRefusal, unplacedRefusal, pendingRefusal, unless, plugAs, plug, unplugAs, oneAs, nextAs, stateType, serve, request, resizes, placing, place, setRequestedSize, hostAnswer, step, plugged, respond}
+use Rattle.history.specs.History.{PlugAck, UnplugAck, Discarded, UnplugAllAck, ackToType, ackToRequest, ackToHost, acknowledges, discardOf, reports, ifAck, unlessRefused, eventsOf, openedByType, openedByRequest, goesOn, openedBy, askedBy, openAfter, next, after, Fresh, begun}
+
+-- capacity_mib=256 requested_mib=16 multi=0 node=none boot=1073741824
+pub device : Device
+device =
+    record {
+      config = record {
+        «block_size» = 4194304;
+        «node_id» = 0;
+        addr = record { 0 = 0 };
+        «region_size» = 268435456;
+        «usable_region_size» = 0;
+        «plugged_size» = 0;
+        «requested_size» = 16777216;
+      };
+      alignment = 134217728;
+      «multi_region» = false;
+      «avail_features» = 4294967296;
+      placed = false;
+      pending = Nothing;
+    }
+
+pub is-fresh : Fresh device
+unfolding device shapedOf alignmentOk regionOk sizeOk spanOf startOk severalOk pendingOk
+is-fresh = record { shaped = refl; unplaced = refl; waits-for-nothing = refl; nothing-plugged = refl; nothing-usable = refl }
+
+-- two descriptors from address 0 on, a request of 24 bytes at 32, and 10 bytes for the response at 56, the last of the memory; the address of a request is 4 GiB + 64 KiB x third
+chainTo : (status type third count : ℕ) → Guest
+chainTo status type third count =
+    record {
+      mem =
+          (32 ∷ 0 ∷ 0 ∷ 0 ∷ 0 ∷ 0 ∷ 0 ∷ 0 ∷ 24 ∷ 0 ∷ 0 ∷ 0 ∷ 1 ∷ 0 ∷ 1 ∷ 0 ∷ [])
+          ++ (status ∷ 0 ∷ 0 ∷ 0 ∷ 0 ∷ 0 ∷ 0 ∷ 0 ∷ 10 ∷ 0 ∷ 0 ∷ 0 ∷ 2 ∷ 0 ∷ 0 ∷ 0 ∷ [])
+          ++ (type ∷ 0 ∷ 0 ∷ 0 ∷ 0 ∷ 0 ∷ 0 ∷ 0 ∷ 0 ∷ 0 ∷ third ∷ 0 ∷ 1 ∷ 0 ∷ 0 ∷ 0 ∷ count ∷ 0 ∷ 0 ∷ 0 ∷ 0 ∷ 0 ∷ 0 ∷ 0 ∷ [])
+          ++ replicate 10 255;
+      base = 0;
+    }
+
+chain : (type third count : ℕ) → Guest
+chain type third count = chainTo 56 type third count
+
+-- addr=4294967296 slot=1, and the host's answer; the tables that are lent hold anything
+place-it : List Call
+place-it =
+    Place 4294967296 268435456 (1 ∷ []) (replicate 72 true) (record { slot = 9; mapped = 7; host = record { 0 = 5 } } ∷ [])
+    ∷ HostAnswer (chain 0 0 0) true 140737488355328
+    ∷ []
+
+pub calls : List Call
+calls =
+    place-it
+    ++ Request (chain 0 0 2) 0 0
+    ∷ Request (chain 0 128 3) 0 0
+    ∷ Request (chain 3 64 2) 0 0
+    ∷ Request (chain 2 0 0) 0 0
+    ∷ HostAnswer (chain 0 0 0) true 0
+    ∷ HostAnswer (chain 0 0 0) false 0
+    ∷ SetRequestedSize 20
+    ∷ []
+
+-- two blocks plugged with an ACK that could not be delivered, the first unplugged, and all
+pub more : List Call
+more =
+    place-it
+    ++ Request (chainTo 57 0 0 2) 0 0
+    ∷ Request (chain 1 0 1) 0 0
+    ∷ HostAnswer (chain 0 0 0) true 0
+    ∷ Request (chain 2 0 0) 0 0
+    ∷ HostAnswer (chain 0 0 0) true 0
+    ∷ []
+
+pub answers : World → List Call → List Answer
+answers w [] = []
+answers w (c ∷ cs) = step w c .answer ∷ answers (step w c .world) cs
+
+-- 01's output: its answers, its events, newest first, and the plugged size that the unplug-all that was refused has kept
+pub record Example : Type 0 where
+  pub answered :
+      answers (begun device .world) calls
+      ≡ Wants (Create (record { 0 = 4294967296 }) 268435456 1)
+      ∷ Sized
+      ∷ Served (respond 0 0) 10
+      ∷ Served (respond 1 0) 10
+      ∷ Served (respond 0 2) 10
+      ∷ Wants (Discard (record { 0 = 0 }) 4194304 (record { 0 = 140737488355328 }))
+      ∷ Wants (Discard (record { 0 = 4194304 }) 4194304 (record { 0 = 140737492549632 }))
+      ∷ Served (respond 3 0) 10
+      ∷ Sized
+      ∷ []
+  pub told : after (begun device) calls .events ≡ Discarded 0 ∷ PlugAck 0 2 ∷ []
+  pub kept : plugged (after (begun device) calls .world) ≡ 8388608
+  pub more-answered :
+      answers (begun device .world) more
+      ≡ Wants (Create (record { 0 = 4294967296 }) 268435456 1)
+      ∷ Sized
+      ∷ Served (respond 0 0) 0
+      ∷ Wants (Discard (record { 0 = 0 }) 4194304 (record { 0 = 140737488355328 }))
+      ∷ Served (respond 0 0) 10
+      ∷ Wants (Discard (record { 0 = 4194304 }) 4194304 (record { 0 = 140737492549632 }))
+      ∷ Served (respond 0 0) 10
+      ∷ []
+  pub more-told : after (begun device) more .events ≡ UnplugAllAck ∷ Discarded 1 ∷ UnplugAck 0 1 ∷ PlugAck 0 2 ∷ []
+  pub more-kept : plugged (after (begun device) more .world) ≡ 0
+
+pub example : Example
+unfolding device chainTo chain place-it calls more answers mapRegions every fill firstSet value littleEndian part put requestAt responseBytes virtqDesc descriptorAt descriptorAddr inside linkAt linkAfter withSecond withFirst parsed reaches delivered mappingOf fillRows laid alignmentOk regionOk sizeOk spanOf startOk severalOk pendingOk shapedOf newSize growthOf insideOf rangeOf hostSum hostIn hostOf legalAt changeIn stateIn stateOf tablesFit readyRefusal unplacedRefusal pendingRefusal unless plugAs plug unplugAs oneAs nextAs stateType serve request resizes placing place setRequestedSize hostAnswer step ackToType ackToRequest ackToHost acknowledges discardOf reports ifAck unlessRefused eventsOf openedByType openedByRequest goesOn openedBy askedBy openAfter next after
+example = record { answered = refl; told = refl; kept = refl; more-answered = refl; more-told = refl; more-kept = refl }

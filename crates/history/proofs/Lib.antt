@@ -1,0 +1,12 @@
+pub mod Shaped
+pub mod Cases
+pub mod Invariant
+pub mod Observer
+pub mod Calls
+pub mod Demand3
+pub mod KeepsShape
+pub mod Sizes
+pub mod SizeChange
+pub mod Whole
+pub mod HostCalls
+pub mod Example

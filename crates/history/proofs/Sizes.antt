@@ -1,0 +1,140 @@
+-- The sizes over every run: 12 never appears, the usable size never shrinks, and a plug never takes the plugged size past the requested size.
+use Prim.Native.Nat.{ℕ, _+_, _-_, _*_, max, _≤_, _<_}
+use mathlib.Core.Path.{_≡_, refl, ap}
+use mathlib.Core.Bool.{Bool, false}
+use mathlib.Core.List.{List}
+use native.Mathlib.Omega.{arith}
+use native.Mathlib.Nat.{le-of-mul-le-mul-right, add-mul}
+use lib.Dec.{eqb}
+use borrow.Author.Tests.{ne-eqb}
+use Rattle.step.specs.declared.Answer.{Answer}
+use Rattle.step.specs.declared.Answer.the-variants.{Refused, Wants, Sized, Unserved, Served, Done}
+use Rattle.step.specs.World.{World, Call, Outcome}
+use Rattle.step.specs.Step.{blockSize, usable, plugged, requested, regionBlocks}
+use Rattle.history.specs.History.{Event, next, after, begun}
+use Rattle.history.specs.Rules.{InEveryRun, Never12, PluggedSize, UsableNeverShrinks, PlugWithinRequested}
+use Rattle.history.proofs.Shaped.{Shaped, shaped-when, block-is, clash}
+use Rattle.history.proofs.Invariant.{Inv, used-unplugged}
+use Rattle.history.proofs.Calls.{Endings, each-call}
+use Rattle.history.proofs.Demand3.{invariant, demand-3}
+use Rattle.history.proofs.KeepsShape.{is-shaped}
+
+-- ---- 12 never appears
+unfoldable is12 : Answer → Bool
+is12 (Refused n) = eqb n 12
+is12 (Wants call) = false
+is12 Sized = false
+is12 (Unserved reason) = false
+is12 (Served resp length) = false
+is12 Done = false
+
+abbrev Not12 : Call → Outcome → List Event → Type 0
+Not12 c o new = is12 (o .answer) ≡ false
+
+-- the blocks of a legal unplug are counted in the plugged size
+not-spoiled : (b s c a n k : ℕ) → n + c ≡ a → s ≡ (a + k) * b → s < c * b → ⊥
+not-spoiled b s c a n k p q r = let e : s ≡ (n + c + k) * b = rw p q in omega arith
+
+module _ (w : World) (s : Shaped (w .device)) (es : List Event) (h : Inv w es) where
+  not-12 : Endings w Not12
+  unfolding is12
+  not-12 =
+      record {
+        refuses = λ c n bytes _ spoilt. ne-eqb n 12 (λ e. clash (shaped-when (w .device) s) (spoilt e));
+        reads = λ offset buffer bytes. refl;
+        writes = λ offset buffer. refl;
+        unserves = λ a reason. refl;
+        responds = λ a resp. refl;
+        plugs-range = λ a addr count first offset _ _. refl;
+        asks-range = λ a addr count first offset host _ _. refl;
+        spoils = λ a addr count first offset less l.
+            let fewer = used-unplugged (regionBlocks w) (w .blocks) (a .entry .is-long) first count (l .ends) (l .state) in
+            absurd (not-spoiled (blockSize w) (plugged w) count _ _ _ fewer (h .told .count) less);
+        ends-at-once = λ a r. refl;
+        asks-first = λ a block offset host r _. refl;
+        stops-at-once = λ a. refl;
+        maps = λ i last a. refl;
+        create-fails = λ i last a. refl;
+        unplugs-range = λ first count status a. refl;
+        discard-fails = λ first count status a. refl;
+        ends-all = λ j status a r. refl;
+        asks-next = λ j status a block offset host r _. refl;
+        stops-after = λ j status a. refl;
+        one-fails = λ j status a. refl;
+        resizes = λ a. refl;
+        resize-asks = λ a i last size _. refl;
+        places = λ a. refl;
+        place-asks = λ a i last size _. refl;
+        place-asks-whole = λ a _. refl;
+      }
+
+pub never-12 : InEveryRun Never12
+unfolding is12
+never-12 d fresh cs c e =
+    let w = after (begun d) cs .world in
+    clash (ap is12 e) (each-call w Not12 (not-12 w (is-shaped d fresh cs) (after (begun d) cs .events) (invariant d fresh cs)) c)
+
+-- ---- the usable size never shrinks, and a plug never takes the plugged size past the requested size
+abbrev Moved : (u n : ℕ) → Call → Outcome → List Event → Type 0
+Moved u n c o new = (u ≤ usable (o .world)) × (n < plugged (o .world) → plugged (o .world) ≤ requested (o .world))
+
+same : (u n r : ℕ) → (u ≤ u) × (n < n → n ≤ r)
+same u n r = (omega arith, λ more. absurd (omega arith))
+
+grown : (u v n r : ℕ) → (u ≤ max u v) × (n < n → n ≤ r)
+grown u v n r = (omega arith, λ more. absurd (omega arith))
+
+fewer : (u m n r : ℕ) → m ≤ n → (u ≤ u) × (n < m → m ≤ r)
+fewer u m n r l = (omega arith, λ more. absurd (omega arith))
+
+moved : (w : World) → Endings w (Moved (usable w) (plugged w))
+moved w =
+    let kept = same (usable w) (plugged w) (requested w) in
+    record {
+      refuses = λ c n bytes _ _. kept;
+      reads = λ offset buffer bytes. kept;
+      writes = λ offset buffer. kept;
+      unserves = λ a reason. kept;
+      responds = λ a resp. kept;
+      plugs-range = λ a addr count first offset fits _. (kept .0, λ more. fits);
+      asks-range = λ a addr count first offset host _ _. kept;
+      spoils = λ a addr count first offset _ _. kept;
+      ends-at-once = λ a r. fewer _ _ _ _ (omega arith);
+      asks-first = λ a block offset host r _. kept;
+      stops-at-once = λ a. kept;
+      maps = λ i last a. grown _ _ _ _;
+      create-fails = λ i last a. kept;
+      unplugs-range = λ first count status a. fewer _ _ _ _ (omega arith);
+      discard-fails = λ first count status a. kept;
+      ends-all = λ j status a r. fewer _ _ _ _ (omega arith);
+      asks-next = λ j status a block offset host r _. kept;
+      stops-after = λ j status a. kept;
+      one-fails = λ j status a. kept;
+      resizes = λ a. grown _ _ _ _;
+      resize-asks = λ a i last size _. same _ _ _;
+      places = λ a. grown _ _ _ _;
+      place-asks = λ a i last size _. kept;
+      place-asks-whole = λ a _. kept;
+    }
+
+pub usable-never-shrinks : InEveryRun UsableNeverShrinks
+unfolding next
+usable-never-shrinks d fresh cs c = let w = after (begun d) cs .world in each-call w (Moved (usable w) (plugged w)) (moved w) c .0
+
+pub plug-within-requested : InEveryRun PlugWithinRequested
+unfolding next
+plug-within-requested d fresh cs c = let w = after (begun d) cs .world in each-call w (Moved (usable w) (plugged w)) (moved w) c .1
+
+-- ---- demand 3's second sentence as a difference
+difference : (b size unplugged plugs : ℕ) → 0 < b → size + unplugged * b ≡ plugs * b → size ≡ (plugs - unplugged) * b
+difference b size unplugged plugs positive e =
+    let least : unplugged ≤ plugs = le-of-mul-le-mul-right {k = b} (omega arith) positive in
+    let whole : unplugged + (plugs - unplugged) ≡ plugs = omega arith in
+    let parts = add-mul unplugged (plugs - unplugged) b in
+    let same-bytes : (unplugged + (plugs - unplugged)) * b ≡ plugs * b = ap (λ n. n * b) whole in
+    omega arith
+
+pub plugged-size : InEveryRun PluggedSize
+plugged-size d fresh cs c =
+    let positive = block-is _ (is-shaped d fresh cs) in
+    difference (blockSize (after (begun d) cs .world)) _ _ _ (omega arith) (demand-3 d fresh cs .size)

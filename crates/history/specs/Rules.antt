@@ -1,0 +1,171 @@
+-- The rule of the mission, sentence by sentence: each is what holds of every call c at every point s of every run.
+use Prim.Native.Nat.{ℕ, _+_, _-_, _*_, _≤_, _<_}
+use mathlib.Core.Path.{_≡_}
+use mathlib.Core.Bool.{Bool, true, false, cond, _&&_}
+use mathlib.Core.List.{List, [], _∷_}
+use lib.Dec.{leb, ltb, eqb}
+use Rattle.units.specs.Numbers.{bytesOf}
+use Rattle.bitmap.specs.Blocks.{blockAt, allAre, fill}
+use Rattle.rows.specs.declared.MapRow.{MapRow}
+use Rattle.rows.specs.Rows.{rowAt}
+use Rattle.record.specs.declared.Device.{Device}
+use Rattle.record.specs.declared.Pending.{Pending}
+use Rattle.record.specs.declared.Pending.the-variants.{Nothing, Create, Discard, DiscardOne}
+use Rattle.record.specs.Shape.{shapedOf}
+use Rattle.step.specs.declared.Answer.{Answer}
+use Rattle.step.specs.declared.Answer.the-variants.{Refused, Wants, Sized, Unserved, Served, Done}
+use Rattle.step.specs.World.{World, Call, Place, SetRequestedSize, Request, HostAnswer, ReadConfig, WriteConfig}
+use Rattle.step.specs.Step.{step, blockSize, usable, plugged, requested, newUsable, regionBlocks}
+use Rattle.history.specs.History.{Event, PlugAck, UnplugAck, Discarded, UnplugAllAck, eventsOf, since, inPlugs, inUnplugs, Story, next, after, Fresh, begun}
+
+-- of any list of calls from any newly made device, and of any call after them
+abbrev pub InEveryRun : (Story → Call → Type 0) → Type 0
+InEveryRun P = (d : Device) → Fresh d → (cs : List Call) (c : Call) → P (after (begun d) cs) c
+
+-- demand 3's second sentence as a difference; `Told` says it as a sum, where nothing is cut off at 0
+abbrev pub PluggedSize : Story → Call → Type 0
+PluggedSize s c = plugged (s .world) ≡ bytesOf (blockSize (s .world)) (inPlugs (since (s .events)) - inUnplugs (since (s .events)))
+
+-- the record keeps its shape
+abbrev pub KeepsShape : Story → Call → Type 0
+KeepsShape s c = shapedOf (next s c .world .device) ≡ true
+
+-- so 12 never appears
+abbrev pub Never12 : Story → Call → Type 0
+Never12 s c = step (s .world) c .answer ≡ Refused 12 → ⊥
+
+-- the usable size never shrinks
+abbrev pub UsableNeverShrinks : Story → Call → Type 0
+UsableNeverShrinks s c = usable (s .world) ≤ usable (next s c .world)
+
+-- a plug never takes the plugged size past the requested size: no call that raises it does
+abbrev pub PlugWithinRequested : Story → Call → Type 0
+PlugWithinRequested s c = plugged (s .world) < plugged (next s c .world) → plugged (next s c .world) ≤ requested (next s c .world)
+
+-- ---- lowering the requested size changes no block and no row
+pub record Untouched (w w′ : World) : Type 0 where
+  pub same-blocks : w′ .blocks ≡ w .blocks
+  pub same-rows : w′ .rows ≡ w .rows
+  pub same-plugged : plugged w′ ≡ plugged w
+
+-- nor does raising it: rows change when the host has answered
+abbrev pub SizeChangeTouchesNothing : Story → Call → Type 0
+SizeChangeTouchesNothing s c = (mib : ℕ) → c ≡ SetRequestedSize mib → Untouched (s .world) (next s c .world)
+
+-- where the usable size is all that the requested size is worth (a creation that failed leaves it behind), lowering leaves it as it is and asks the host for nothing
+abbrev pub LoweringAsksNothing : Story → Call → Type 0
+LoweringAsksNothing s c = (mib : ℕ) → c ≡ SetRequestedSize mib → mib * 1048576 ≤ requested (s .world) → newUsable (s .world) ≤ usable (s .world)
+    → (usable (next s c .world) ≡ usable (s .world)) × (next s c .world .device .pending ≡ s .world .device .pending)
+
+-- ---- every plug and unplug happens whole or not at all
+-- what an event does to the blocks, and to the plugged size of blocks of b bytes
+unfoldable pub marks : Event → List Bool → List Bool
+marks (PlugAck first count) bs = fill bs first count true
+marks (UnplugAck first count) bs = fill bs first count false
+marks (Discarded block) bs = fill bs block 1 false
+marks UnplugAllAck bs = bs
+
+unfoldable pub counts : (b : ℕ) → Event → ℕ → ℕ
+counts b (PlugAck first count) size = size + bytesOf b count
+counts b (UnplugAck first count) size = size - bytesOf b count
+counts b (Discarded block) size = size
+counts b UnplugAllAck size = 0
+
+-- what must be so before it, in a region of n blocks: a plug finds all its blocks unplugged, an unplug all of them plugged, an unplug-all discards the lowest plugged block, and acknowledges where none is left
+unfoldable pub could : Event → List Bool → (n : ℕ) → Bool
+could (PlugAck first count) bs n = leb (first + count) n && allAre bs first count false
+could (UnplugAck first count) bs n = leb (first + count) n && allAre bs first count true
+could (Discarded block) bs n = ltb block n && (blockAt bs block && allAre bs 0 block false)
+could UnplugAllAck bs n = allAre bs 0 n false
+
+-- of a list of events, newest first
+unfoldable pub marked : List Event → List Bool → List Bool
+marked [] bs = bs
+marked (e ∷ es) bs = marks e (marked es bs)
+
+unfoldable pub counted : (b : ℕ) → List Event → ℕ → ℕ
+counted b [] size = size
+counted b (e ∷ es) size = counts b e (counted b es size)
+
+unfoldable pub allCould : List Event → List Bool → (n : ℕ) → Bool
+allCould [] bs n = true
+allCould (e ∷ es) bs n = allCould es bs n && could e (marked es bs) n
+
+pub record Whole (w : World) (new : List Event) (w′ : World) : Type 0 where
+  pub blocks-by : w′ .blocks ≡ marked new (w .blocks)
+  pub size-by : plugged w′ ≡ counted (blockSize w) new (plugged w)
+  pub all-could : allCould new (w .blocks) (regionBlocks w) ≡ true
+
+-- placing alone brings another bitmap
+unfoldable pub isPlace : Call → Bool
+isPlace (Place at size slots blocks rows) = true
+isPlace (SetRequestedSize mib) = false
+isPlace (Request guest table head) = false
+isPlace (HostAnswer guest ok host) = false
+isPlace (ReadConfig offset buffer) = false
+isPlace (WriteConfig offset buffer) = false
+
+-- a call changes the blocks by its events alone, and each event is of a whole range
+abbrev pub WholeOrNotAtAll : Story → Call → Type 0
+WholeOrNotAtAll s c = isPlace c ≡ false → Whole (s .world) (eventsOf (s .world) (s .«open») c (step (s .world) c .answer)) (next s c .world)
+
+-- ---- no host call is asked twice or left unanswered
+-- the questions to the host in an answer
+unfoldable pub asks : Answer → ℕ
+asks (Refused n) = 0
+asks (Wants call) = 1
+asks Sized = 0
+asks (Unserved reason) = 0
+asks (Served resp length) = 0
+asks Done = 0
+
+-- a host answer is taken unless it is refused; 10 says that it was taken, and that it was no
+unfoldable pub taken : Answer → ℕ
+taken (Refused n) = cond (eqb n 10) 1 0
+taken (Wants call) = 1
+taken Sized = 1
+taken (Unserved reason) = 1
+taken (Served resp length) = 1
+taken Done = 1
+
+unfoldable pub takes : Call → Answer → ℕ
+takes (Place at size slots blocks rows) a = 0
+takes (SetRequestedSize mib) a = 0
+takes (Request guest table head) a = 0
+takes (HostAnswer guest ok host) a = taken a
+takes (ReadConfig offset buffer) a = 0
+takes (WriteConfig offset buffer) a = 0
+
+unfoldable pub waits : Pending → ℕ
+waits Nothing = 0
+waits (Create first last) = 1
+waits (Discard first count status) = 1
+waits (DiscardOne block status) = 1
+
+-- over the calls from a world on
+unfoldable pub askedIn : World → List Call → ℕ
+askedIn w [] = 0
+askedIn w (c ∷ cs) = asks (step w c .answer) + askedIn (step w c .world) cs
+
+unfoldable pub takenIn : World → List Call → ℕ
+takenIn w [] = 0
+takenIn w (c ∷ cs) = takes c (step w c .answer) + takenIn (step w c .world) cs
+
+-- each question has one answer before the next is asked; where nothing is pending none is left unanswered
+abbrev pub EachAskedAnswered : Type 0
+EachAskedAnswered = (d : Device) → Fresh d → (cs : List Call)
+    → askedIn (begun d .world) cs ≡ takenIn (begun d .world) cs + waits (after (begun d) cs .world .device .pending)
+
+-- a pending call stays as it is but where a question is asked or an answer is taken
+abbrev pub PendingStays : Story → Call → Type 0
+PendingStays s c = let a = step (s .world) c .answer in asks a ≡ 0 → takes c a ≡ 0 → next s c .world .device .pending ≡ s .world .device .pending
+
+-- what is asked for is due: the blocks of an unplug are all plugged, the block of an unplug-all is the lowest that is plugged, and the first row of a creation has no mapping; so what the host has done is not asked for again
+unfoldable pub due : Pending → List Bool → List MapRow → (n : ℕ) → Bool
+due Nothing bs rows n = true
+due (Create first last) bs rows n = eqb (rowAt rows first .mapped) 0
+due (Discard first count status) bs rows n = could (UnplugAck first count) bs n
+due (DiscardOne block status) bs rows n = could (Discarded block) bs n
+
+abbrev pub AsksWhatIsDue : Story → Call → Type 0
+AsksWhatIsDue s c = due (s .world .device .pending) (s .world .blocks) (s .world .rows) (regionBlocks (s .world)) ≡ true
