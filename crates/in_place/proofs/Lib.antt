@@ -1,0 +1,3 @@
+mod Walk
+mod Lent
+pub mod Laws

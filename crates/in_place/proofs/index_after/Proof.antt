@@ -1,0 +1,36 @@
+-- `in_place::index_after` meets its contract: each return is the case of `indexAfter` that the tests led to.
+use borrow.Author.Needs.{needs}
+use Rattle.in_place.specs.Reader.{indexAfter}
+use Rattle.in_place.proofs.index_after.Statement.{statement}
+use Rattle.in_place.proofs.index_after.Tie as tie
+
+link-at-requires : tie.Need-link-at-requires
+link-at-requires c κs = search needs
+
+enum-known-current : tie.Need-enum-known-current
+enum-known-current c = search needs
+
+enum-told : tie.Need-enum-told
+enum-told c = search needs
+
+returns : tie.Need-returns
+unfolding indexAfter
+returns c = simp (← c .before .before .link-at .ensures, c .enum-told .given .1)
+
+has-next-requires : tie.Need-has-next-requires
+has-next-requires c κs = search needs
+
+returns-2 : tie.Need-returns-2
+unfolding indexAfter
+returns-2 c =
+    let f = c .before .before in
+    simp (← f .before .before .before .link-at .ensures, f .before .current .given .1, ← c .before .has-next .ensures, c .if1 .taken)
+
+returns-3 : tie.Need-returns-3
+unfolding indexAfter
+returns-3 c =
+    let f = c .before .before in
+    simp (← f .before .before .before .link-at .ensures, f .before .current .given .1, ← c .before .has-next .ensures, c .if1 .left)
+
+pub index-after-spec : {M : Type 1} → statement M
+index-after-spec = tie.close (tie.spec link-at-requires enum-known-current enum-told returns has-next-requires returns-2 returns-3)

@@ -1,0 +1,22 @@
+-- Where a chain reader goes on: the index after a descriptor, and the second descriptor of a chain.
+use Prim.Native.Nat.{ℕ}
+use mathlib.Core.Bool.{cond}
+use mathlib.Core.List.{List}
+use Rattle.chain.specs.declared.Link.{Link}
+use Rattle.chain.specs.declared.Link.the-variants.{Is, Missing}
+use Rattle.chain.specs.Standard.{hasNext}
+use Rattle.chain.specs.Chain.{linkAt, linkAfter}
+
+-- "index 128 or more" is missing: past the end a reader stands at 128
+unfoldable pub indexAfter : Link → ℕ
+indexAfter Missing = 128
+indexAfter (Is d) = cond (hasNext d) (d .next) 128
+
+-- the descriptor after a link
+unfoldable pub linkBehind : List ℕ → ℕ → ℕ → Link → Link
+linkBehind mem base table Missing = Missing
+linkBehind mem base table (Is d) = linkAfter mem base table d
+
+-- the second descriptor of the chain that starts at head, as `parsed` finds it
+unfoldable pub secondLink : List ℕ → ℕ → ℕ → ℕ → Link
+secondLink mem base table head = linkBehind mem base table (linkAt mem base table head)
