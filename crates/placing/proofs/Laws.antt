@@ -1,7 +1,7 @@
 -- How the outcomes of placing, of a size change and of a creation's answer come about, test by test. Assumes nothing.
 use Prim.Native.Nat.{ℕ, _+_, _*_, _%_, _≤_}
 use mathlib.Core.Path.{_≡_, refl, ap, sym, _∙_}
-use mathlib.Core.Bool.{Bool, true, false, not, _||_}
+use mathlib.Core.Bool.{Bool, true, false, cond, not, _||_}
 use mathlib.Core.List.{List, []}
 use native.Mathlib.Omega.{arith}
 use lib.Dec.{ltb, eqb}
@@ -10,7 +10,7 @@ use Rattle.units.specs.Numbers.{top, mapRegion, mapRegions}
 use Rattle.units.proofs.Tests.{by-test}
 use Rattle.bitmap.specs.Blocks.{blocks}
 use Rattle.rows.specs.declared.MapRow.{MapRow}
-use Rattle.rows.specs.Rows.{rowsOf, written}
+use Rattle.rows.specs.Rows.{written}
 use Rattle.rows.proofs.Words.{whole as table-whole}
 use Rattle.record.specs.declared.Device.{Device}
 use Rattle.record.specs.Shape.{shapedOf}
@@ -42,19 +42,23 @@ pub goes-on : (n : ℕ) (w : World) (o : Outcome) (s : Answered) (bm tb tb′ : 
 unfolding unless
 goes-on n w o s bm tb tb′ h m = rw (eq-eqb n 0 h) m
 
--- a call that goes on has a record of the stated shape
+-- a call that goes on has a record of the stated shape: 12 is the first test of each
+past-12 : (t : Bool) (n : ℕ) → cond t n 12 ≡ 0 → t ≡ true
+past-12 true n e = refl
+past-12 false n e = absurd (omega arith)
+
 module _ (d : Device) (bs rs : ℕ) where
   pub ready-shaped : readyRefusal d bs rs ≡ 0 → shapedOf d ≡ true
   unfolding readyRefusal
-  ready-shaped e = by-test (shapedOf d) (λ t. t) (λ t. let z : 12 ≡ 0 = rw t at e in absurd (omega arith))
+  ready-shaped e = past-12 (shapedOf d) _ e
 
   pub unplaced-shaped : unplacedRefusal d bs rs ≡ 0 → shapedOf d ≡ true
   unfolding unplacedRefusal
-  unplaced-shaped e = by-test (shapedOf d) (λ t. t) (λ t. let z : 12 ≡ 0 = rw t at e in absurd (omega arith))
+  unplaced-shaped e = past-12 (shapedOf d) _ e
 
   pub pending-shaped : pendingRefusal d bs rs ≡ 0 → shapedOf d ≡ true
   unfolding pendingRefusal
-  pending-shaped e = by-test (shapedOf d) (λ t. t) (λ t. let z : 12 ≡ 0 = rw t at e in absurd (omega arith))
+  pending-shaped e = past-12 (shapedOf d) _ e
 
 -- ---- the usable size
 -- where it is worked out, and where a creation is asked for, no table is touched

@@ -1,19 +1,18 @@
 -- What holds of a device that was just made: here every history begins. Assumes nothing.
 use Prim.Native.Nat.{ℕ, _+_, _-_, _*_, _%_, _^_, _≤_, _<_}
-use mathlib.Core.Path.{_≡_, refl, sym, _∙_}
-use mathlib.Core.Bool.{Bool, true, false, not, _&&_, _||_}
-use native.Mathlib.Nat.{div-mul-le-self, mul-mod-left, zero-mod}
+use mathlib.Core.Path.{_≡_, refl}
+use mathlib.Core.Bool.{Bool, true, false, _&&_}
+use native.Mathlib.Nat.{div-mul-le-self, zero-mod}
 use native.Mathlib.Omega.{arith}
-use lib.Dec.{leb, ltb, eqb}
+use lib.Dec.{ltb, eqb}
 use borrow.Author.Tests.{eq-eqb, eqb-true, eqb-false, le-leb, lt-ltb, ltb-false}
-use Rattle.units.specs.Numbers.{top, mapRegion, mapRegions, between, twos, alignmentOf, roundUp, capacityOf}
+use Rattle.units.specs.Numbers.{top, mapRegion, between, twos, alignmentOf, roundUp, capacityOf}
 use Rattle.units.proofs.Tests.{by-test}
 use Rattle.record.specs.declared.Device.{Device}
 use Rattle.record.specs.declared.Pending.the-variants.{Nothing}
 use Rattle.record.specs.Shape.{alignmentOk, regionOk, spanOf, startOk, severalOk, pendingOk, shapedOf}
 use Rattle.record.proofs.Laws.{by-alignment, spans, size-ok, whole}
 use Rattle.placing.specs.declared.Node.{Node}
-use Rattle.placing.specs.declared.Made.{Made}
 use Rattle.placing.specs.declared.Made.the-variants.{Device as MadeDevice, Refused}
 use Rattle.placing.specs.Made.{requestedBad, newDevice, made}
 use Rattle.placing.proofs.Laws.{Asked, asked-is}
@@ -27,16 +26,11 @@ power-ok m l h =
     (λ u. by-test (eqb m 29) (λ v. rw (eqb-true m 29 v))
     (λ v. by-test (eqb m 30) (λ w. rw (eqb-true m 30 w))
     (λ w.
-    let e : m ≡ 31 = last t u v w in
+    let e : m ≡ 31 = only (eqb-false m 27 t) (eqb-false m 28 u) (eqb-false m 29 v) (eqb-false m 30 w) in
     rw e))))
   where
-    last : eqb m 27 ≡ false → eqb m 28 ≡ false → eqb m 29 ≡ false → eqb m 30 ≡ false → m ≡ 31
-    last t u v w =
-        by-test (eqb m 31) (λ x. eqb-true m 31 x)
-        (λ x. absurd (none (eqb-false m 27 t) (eqb-false m 28 u) (eqb-false m 29 v) (eqb-false m 30 w) (eqb-false m 31 x)))
-      where
-        none : (m ≡ 27 → ⊥) → (m ≡ 28 → ⊥) → (m ≡ 29 → ⊥) → (m ≡ 30 → ⊥) → (m ≡ 31 → ⊥) → ⊥
-        none a b d e f = omega arith
+    only : (m ≡ 27 → ⊥) → (m ≡ 28 → ⊥) → (m ≡ 29 → ⊥) → (m ≡ 30 → ⊥) → m ≡ 31
+    only a b d e = omega arith
 
 pub alignment-ok : (boot : ℕ) → alignmentOk (alignmentOf boot) ≡ true
 unfolding alignmentOf

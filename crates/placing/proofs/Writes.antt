@@ -1,12 +1,11 @@
 -- Placing past its first tests: 3, 4, and what it writes and asks. Assumes nothing.
-use Prim.Native.Nat.{ℕ, _+_, _*_, _/_, _%_}
-use mathlib.Core.Path.{_≡_, refl, ap, sym, _∙_}
-use mathlib.Core.Bool.{Bool, true, false, not, _&&_}
+use Prim.Native.Nat.{ℕ, _*_, _/_, _%_}
+use mathlib.Core.Path.{_≡_, refl, ap, _∙_}
+use mathlib.Core.Bool.{true, false, _&&_}
 use mathlib.Core.List.{List, []}
 use native.Mathlib.Omega.{arith}
 use lib.Dec.{eqb}
 use lib.ListN.{length}
-use borrow.Author.Tests.{not-false}
 use Rattle.units.specs.Numbers.{blocksIn, mapRegions}
 use Rattle.units.proofs.Tests.{by-test, and-left}
 use Rattle.bitmap.specs.Blocks.{blocks, fill, Filled}
@@ -18,8 +17,8 @@ use Rattle.record.specs.Changes.{startTo}
 use Rattle.record.specs.Shape.{alignmentOk, regionOk, shapedOf, startOk}
 use Rattle.record.proofs.Laws.{by-alignment, parts, shaped-is}
 use Rattle.step.specs.declared.Answered.{Answered}
-use Rattle.step.specs.World.{World, Outcome, Meets, worldOf}
-use Rattle.step.specs.Step.{unless, several, place, placed, placing}
+use Rattle.step.specs.World.{World, Meets, worldOf}
+use Rattle.step.specs.Step.{unless, place, placed, placing}
 use Rattle.placing.specs.Placing.{answeredBy, rangeRefusal}
 use Rattle.placing.proofs.Laws.{resizes-meets, placing-several, placing-single}
 

@@ -3,7 +3,6 @@ use Prim.Native.Nat.{ℕ, _+_, _*_}
 use mathlib.Core.Path.{_≡_, ap}
 use native.Mathlib.Omega.{arith}
 use Rattle.units.specs.Numbers.{mapRegion}
-use Rattle.units.specs.declared.GuestAddr.{GuestAddr}
 use borrow.Author.Needs.{needs}
 use Rattle.placing.proofs.ask_creation.Statement.{statement}
 use Rattle.placing.proofs.ask_creation.Tie as tie

@@ -1,5 +1,5 @@
 -- `placing::resize` meets its contract. Assumes nothing.
-use mathlib.Core.Path.{_≡_, sym, _∙_}
+use mathlib.Core.Path.{sym, _∙_}
 use Rattle.record.proofs.Laws.{shaped-is}
 use Rattle.step.specs.Step.{resizes}
 use Rattle.placing.proofs.Laws.{asked-within}

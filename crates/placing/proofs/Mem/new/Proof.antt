@@ -1,7 +1,5 @@
 -- `placing::Mem::new` meets its contract: 2 before 1, and only then a record. Assumes nothing.
 use Prim.Native.Nat.{_*_}
-use mathlib.Core.Path.{_≡_, sym}
-use mathlib.Core.Bool.{false}
 use native.Mathlib.Omega.{arith}
 use borrow.Author.Tests.{lt-ltb, le-ltb, eq-eqb, ne-eqb}
 use Rattle.record.proofs.Laws.{aligned}
