@@ -1,3 +1,4 @@
+pub mod Laws
 mod Ends
 mod Ways
 mod Entries

@@ -27,7 +27,7 @@ use wire::VirtioMemConfig;
 use wire::VirtioMemReq;
 use wire::VirtioMemResp;
 ghost use mathlib.Core.Path.{_≡_};
-ghost use mathlib.Core.Bool.{true, false};
+ghost use mathlib.Core.Bool.{true};
 ghost use Prim.Native.Nat.{_<_};
 ghost use Rattle.bitmap.specs.Blocks.{blocks};
 ghost use Rattle.change.specs.Change.{rangeOf, stateOf};

@@ -4,9 +4,13 @@ use record::Device;
 use record::HostCall;
 use record::Pending;
 use step::Answer;
-use step::Answered;
 use units::GuestAddr;
 use wire::VirtioMemConfig;
+
+// The length, flags and next index of the two descriptors: 24 bytes with the next flag, then 10 to be written.
+const FIRST: u64 = 24 + (1 << 32) + (1 << 48);
+
+const SECOND: u64 = 10 + (2 << 32);
 
 fn text(s: &[u8]) {
     io::write_all(STDOUT_FILENO, s);
@@ -47,12 +51,9 @@ fn show_answer(answer: Answer) {
     }
 }
 
-// The answer, the plugged size, blocks 0 to 63 and 512 to 575 as numbers, and the type and state at the usual status address.
-fn show(s: Answered, bitmap: &[u8], mem: &[u8]) {
-    text(b" -> ");
-    let answer = s.answer;
-    show_answer(answer);
-    number(b" plugged=", s.device.config.plugged_size);
+// The plugged size, blocks 0 to 63 and 512 to 575 as numbers, and the type and state at the usual status address.
+fn show_left(plugged: u64, bitmap: &[u8], mem: &[u8]) {
+    number(b" plugged=", plugged);
     number(b" blocks=", wire::read_u64(bitmap, 0));
     number(b",", wire::read_u64(bitmap, 64));
     number(b" status=", wire::read_u16(mem, 96) as u64);
@@ -60,21 +61,23 @@ fn show(s: Answered, bitmap: &[u8], mem: &[u8]) {
     text(b"\n");
 }
 
-// Guest memory from 4096 on: a chain of two descriptors, a request at 64, and room for a response at 96, all ones.
+fn show_request(req_type: u16, addr: u64, blocks: u64) {
+    number(b"type=", req_type as u64);
+    number(b" addr=", addr);
+    number(b" blocks=", blocks);
+    text(b" -> ");
+}
+
+// Guest memory from 4096 on: a chain of two descriptors, a request at 64, and ones everywhere else, at 96 too, where the response goes.
 fn laid(req_type: u16, addr: u64, blocks: u64, status: u64) -> [u8; 112] {
-    let mut mem: [u8; 112] = [0; 112];
+    let mut mem: [u8; 112] = [255; 112];
     wire::write_u64(&mut mem, 0, 4160);
-    wire::write_u32(&mut mem, 8, 24);
-    wire::write_u16(&mut mem, 12, 1);
-    wire::write_u16(&mut mem, 14, 1);
+    wire::write_u64(&mut mem, 8, FIRST);
     wire::write_u64(&mut mem, 16, status);
-    wire::write_u32(&mut mem, 24, 10);
-    wire::write_u16(&mut mem, 28, 2);
+    wire::write_u64(&mut mem, 24, SECOND);
     wire::write_u16(&mut mem, 64, req_type);
     wire::write_u64(&mut mem, 72, addr);
     wire::write_u16(&mut mem, 80, (blocks % 65536) as u16);
-    wire::write_u64(&mut mem, 96, 18446744073709551615);
-    wire::write_u16(&mut mem, 104, 65535);
     mem
 }
 
@@ -94,9 +97,7 @@ fn asked(
     blocks: u64,
     status: u64,
 ) -> Scene {
-    number(b"type=", req_type as u64);
-    number(b" addr=", addr);
-    number(b" blocks=", blocks);
+    show_request(req_type, addr, blocks);
     let d = scene.device;
     let mut mem = laid(req_type, addr, blocks, status);
     let s = serving::request(
@@ -108,7 +109,9 @@ fn asked(
         GuestAddr(4096),
         0,
     );
-    show(s, &bitmap[..], &mem);
+    let answer = s.answer;
+    show_answer(answer);
+    show_left(s.device.config.plugged_size, &bitmap[..], &mem);
     let device = s.device;
     Scene {
         device: device,
@@ -119,10 +122,13 @@ fn asked(
 // One answer of the host.
 fn answered(scene: Scene, bitmap: &mut [u8], table: &[u64], ok: bool) -> Scene {
     number(b"host ok=", ok as u64);
+    text(b" -> ");
     let d = scene.device;
     let mut mem = scene.mem;
     let s = serving::discard_answered(d, bitmap, table, &mut mem, GuestAddr(4096), ok);
-    show(s, &bitmap[..], &mem);
+    let answer = s.answer;
+    show_answer(answer);
+    show_left(s.device.config.plugged_size, &bitmap[..], &mem);
     let device = s.device;
     Scene {
         device: device,
