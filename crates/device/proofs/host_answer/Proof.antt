@@ -1,7 +1,10 @@
 -- `device::host_answer` meets its contract: each arm is the answer to what is pending. Assumes nothing.
-use mathlib.Core.Path.{refl}
+use Prim.Native.Nat.{ℕ}
+use mathlib.Core.Path.{_≡_}
+use native.Mathlib.Omega.{arith}
+use Rattle.placing.proofs.Creation.{host-answers}
 use Rattle.step.specs.World.{worldOf, guestOf}
-use Rattle.device.proofs.Answers.{creation-is, none-is, discard-is, one-is}
+use Rattle.serving.proofs.Laws.{answered-is}
 use borrow.Author.Needs.{needs}
 use Rattle.device.proofs.host_answer.Statement.{statement}
 use Rattle.device.proofs.host_answer.Tie as tie
@@ -39,9 +42,9 @@ same-length-2 c = search needs
 returns : tie.Need-returns
 returns c =
     let a = c .before .before .before .before .before .before .before .before .before .before .args in
-    let m = c .before .before .creation-answered .ensures in
-    rw (creation-is (worldOf (a .d) (a .bitmap .now) (a .table .now)) (guestOf (a .mem .now) (a .base)) (a .ok) (a .host .0) _ _ (c .before .before .before .before .before .enum-told .given .1))
-    (record { answered = m .answered; recorded = m .recorded; marked = m .marked; mapped = m .mapped; left = refl })
+    host-answers (worldOf (a .d) (a .bitmap .now) (a .table .now)) (guestOf (a .mem .now) (a .base)) (a .ok) (a .host .0) _ _
+    (c .before .before .before .before .before .enum-told .given .1) _ _ _ _
+    (c .before .before .creation-answered .ensures)
 
 same-length-3 : tie.Need-same-length-3
 same-length-3 c = search needs
@@ -55,7 +58,7 @@ same-length-5 c = search needs
 returns-2 : tie.Need-returns-2
 returns-2 c =
     let a = c .before .before .before .before .before .before .before .before .before .before .before .before .before .args in
-    rw (none-is (worldOf (a .d) (a .bitmap .now) (a .table .now)) (guestOf (a .mem .now) (a .base)) (a .ok) (a .host .0) (c .before .before .before .before .before .before .before .before .enum-told2 .given .1)) (c .before .before .before .before .discard-answered .ensures)
+    rw (← answered-is (worldOf (a .d) (a .bitmap .now) (a .table .now)) (guestOf (a .mem .now) (a .base)) (a .ok) (a .host .0) (λ first last e. let z : _≡_ {A = ℕ} 0 1 = cc (c .before .before .before .before .before .before .before .before .enum-told2 .given .1) in omega arith)) (c .before .before .before .before .discard-answered .ensures)
 
 same-length-6 : tie.Need-same-length-6
 same-length-6 c = search needs
@@ -69,7 +72,7 @@ same-length-8 c = search needs
 returns-3 : tie.Need-returns-3
 returns-3 c =
     let a = c .before .before .before .before .before .before .before .before .before .before .before .before .before .args in
-    rw (discard-is (worldOf (a .d) (a .bitmap .now) (a .table .now)) (guestOf (a .mem .now) (a .base)) (a .ok) (a .host .0) _ _ _ (c .before .before .before .before .before .before .before .before .enum-told3 .given .1)) (c .before .before .before .before .discard-answered2 .ensures)
+    rw (← answered-is (worldOf (a .d) (a .bitmap .now) (a .table .now)) (guestOf (a .mem .now) (a .base)) (a .ok) (a .host .0) (λ first last e. let z : _≡_ {A = ℕ} 0 1 = cc (c .before .before .before .before .before .before .before .before .enum-told3 .given .1) in omega arith)) (c .before .before .before .before .discard-answered2 .ensures)
 
 same-length-9 : tie.Need-same-length-9
 same-length-9 c = search needs
@@ -83,7 +86,7 @@ same-length-11 c = search needs
 returns-4 : tie.Need-returns-4
 returns-4 c =
     let a = c .before .before .before .before .before .before .before .before .before .before .before .before .before .args in
-    rw (one-is (worldOf (a .d) (a .bitmap .now) (a .table .now)) (guestOf (a .mem .now) (a .base)) (a .ok) (a .host .0) _ _ (c .before .before .before .before .before .before .before .before .enum-told4 .given .1)) (c .before .before .before .before .discard-answered3 .ensures)
+    rw (← answered-is (worldOf (a .d) (a .bitmap .now) (a .table .now)) (guestOf (a .mem .now) (a .base)) (a .ok) (a .host .0) (λ first last e. let z : _≡_ {A = ℕ} 0 1 = cc (c .before .before .before .before .before .before .before .before .enum-told4 .given .1) in omega arith)) (c .before .before .before .before .discard-answered3 .ensures)
 
 pub host-answer-spec : {M : Type 1} → statement M
 host-answer-spec =
