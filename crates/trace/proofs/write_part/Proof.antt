@@ -1,0 +1,22 @@
+-- `trace::write_part` is safe: the part that it lends is as long as it says. Assumes nothing.
+use native.Mathlib.Omega.{arith}
+use borrow.Author.Needs.{needs}
+use Rattle.trace.proofs.Parts.{part-length}
+use Rattle.trace.proofs.write_part.Statement.{statement}
+use Rattle.trace.proofs.write_part.Tie as tie
+
+slice-aggregate-write-all : tie.Need-slice-aggregate-write-all
+slice-aggregate-write-all c = part-length _ _ (omega arith)
+
+write-all-requires : tie.Need-write-all-requires
+write-all-requires c κs = search needs
+
+returns : tie.Need-returns
+returns c = search needs
+
+returns-2 : tie.Need-returns-2
+returns-2 c = search needs
+
+pub write-part-spec : {M : Type 1} → statement M
+write-part-spec =
+    tie.close (tie.spec slice-aggregate-write-all write-all-requires returns returns-2)
