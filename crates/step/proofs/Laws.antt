@@ -1,0 +1,55 @@
+-- What the endings of a call do and leave alone: each plug and unplug is of its whole range, and an ending that is no ACK changes nothing but the response. Assumes nothing.
+use Prim.Native.Nat.{ℕ, _+_, _-_, _≤_, _<_}
+use mathlib.Core.Path.{_≡_, refl}
+use mathlib.Core.Bool.{Bool, true, false}
+use mathlib.Core.List.{List}
+use lib.ListN.{length}
+use Rattle.units.specs.Numbers.{bytesOf}
+use Rattle.bitmap.specs.Blocks.{blockAt}
+use Rattle.bitmap.proofs.Laws.{at-inside, at-before, at-after}
+use Rattle.wire.specs.declared.VirtioMemResp.{VirtioMemResp}
+use Rattle.step.specs.World.{World, Guest}
+use Rattle.step.specs.Step.{blockSize, plugged, refused, served, plugs, unplugs, stops, endsAll}
+
+module _ (w : World) (first count status : ℕ) (g : Guest) where
+  -- ---- an acknowledged plug sets exactly its blocks, and adds their size
+  pub plug-inside : (i : ℕ) → first ≤ i → i < first + count → i < length (w .blocks) → blockAt (plugs w first count status g .world .blocks) i ≡ true
+  plug-inside i l h e = at-inside (w .blocks) first count true i l h e
+
+  pub plug-before : (i : ℕ) → i < first → blockAt (plugs w first count status g .world .blocks) i ≡ blockAt (w .blocks) i
+  plug-before i h = at-before (w .blocks) first count true i h
+
+  pub plug-behind : (i : ℕ) → first + count ≤ i → blockAt (plugs w first count status g .world .blocks) i ≡ blockAt (w .blocks) i
+  plug-behind i h = at-after (w .blocks) first count true i h
+
+  pub plug-adds : plugged (plugs w first count status g .world) ≡ plugged w + bytesOf (blockSize w) count
+  plug-adds = refl
+
+  -- ---- an acknowledged unplug clears exactly its blocks, and takes their size off
+  pub unplug-inside : (i : ℕ) → first ≤ i → i < first + count → i < length (w .blocks) → blockAt (unplugs w first count status g .world .blocks) i ≡ false
+  unplug-inside i l h e = at-inside (w .blocks) first count false i l h e
+
+  pub unplug-before : (i : ℕ) → i < first → blockAt (unplugs w first count status g .world .blocks) i ≡ blockAt (w .blocks) i
+  unplug-before i h = at-before (w .blocks) first count false i h
+
+  pub unplug-behind : (i : ℕ) → first + count ≤ i → blockAt (unplugs w first count status g .world .blocks) i ≡ blockAt (w .blocks) i
+  unplug-behind i h = at-after (w .blocks) first count false i h
+
+  pub unplug-subtracts : plugged (unplugs w first count status g .world) ≡ plugged w - bytesOf (blockSize w) count
+  unplug-subtracts = refl
+
+-- ---- a refused call changes nothing at all
+pub refused-changes-nothing : (n : ℕ) (w : World) (bytes : List ℕ) → (refused n w bytes .world ≡ w) × (refused n w bytes .bytes ≡ bytes)
+refused-changes-nothing n w bytes = (refl, refl)
+
+-- ---- NACK and ERROR change nothing but the response
+pub response-alone : (resp : VirtioMemResp) (status : ℕ) (w : World) (g : Guest) → served resp status w g .world ≡ w
+response-alone resp status w g = refl
+
+-- ---- a discard that failed, also of an unplug-all, takes no block and no size: "cleared blocks stay cleared, the plugged size keeps its old number"
+pub failure-takes-nothing : (w : World) (status : ℕ) (g : Guest) → (stops w status g .world .blocks ≡ w .blocks) × (stops w status g .world .rows ≡ w .rows) × (plugged (stops w status g .world) ≡ plugged w)
+failure-takes-nothing w status g = (refl, refl, refl)
+
+-- ---- "If all succeed, plugged size is 0, usable stays"
+pub all-leaves-none : (w : World) (status : ℕ) (g : Guest) → (plugged (endsAll w status g .world) ≡ 0) × (endsAll w status g .world .device .config .«usable_region_size» ≡ w .device .config .«usable_region_size»)
+all-leaves-none w status g = (refl, refl)
