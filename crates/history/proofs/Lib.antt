@@ -10,3 +10,4 @@ pub mod SizeChange
 pub mod Whole
 pub mod HostCalls
 pub mod Example
+pub mod Newly

@@ -1,0 +1,176 @@
+-- Encoding and decoding are inverse: a record reads back from its words, and words that are a record's are what it is written as. Assumes nothing.
+use Prim.Native.Nat.{ℕ, _+_, _≤_}
+use mathlib.Core.Path.{_≡_, refl, sym, ap}
+use mathlib.Core.Bool.{Bool, true, false, _&&_}
+use mathlib.Core.List.{List, [], _∷_, _++_}
+use native.Mathlib.Omega.{arith}
+use lib.Dec.{leb, eqb}
+use lib.ListN.{length, drop, length-append}
+use lib.Seq.{set-getD}
+use borrow.Author.Tests.{le-leb, leb-true, eqb-true, eqb-false}
+use Rattle.units.proofs.Tests.{by-test, and-left, and-right}
+use Rattle.wire.specs.Bytes.{put}
+use Rattle.wire.proofs.Laws.{put-fits}
+use Rattle.record.specs.declared.Device.{Device}
+use Rattle.record.specs.declared.Pending.{Pending}
+use Rattle.record.specs.declared.Pending.the-variants.{Nothing, Create, Discard, DiscardOne}
+use Rattle.record.specs.Changes.{pendingTo}
+use Rattle.words.specs.declared.Decoded.{Decoded}
+use Rattle.words.specs.declared.Decoded.the-variants.{Is, NoRecord}
+use Rattle.words.specs.Record.{bit, word, pendingWords, wordsOf, pendingOf, pendingFits, isRecord, recordOf, decodedOf}
+
+both : (a b : Bool) → (a && b) ≡ true → (a ≡ true) × (b ≡ true)
+both a b h = (and-left a b h, and-right a b h)
+
+-- what the tests of `isRecord` say
+pub record Fits (ws : List ℕ) : Type 0 where
+  pub long : 15 ≤ length ws
+  pub node : word ws 1 ≤ 65535
+  pub several : word ws 8 ≤ 1
+  pub placed : word ws 10 ≤ 1
+  pub pending : pendingFits (word ws 11) (word ws 12) (word ws 13) (word ws 14) ≡ true
+
+pub record-fits : (ws : List ℕ) → isRecord ws ≡ true → Fits ws
+unfolding isRecord
+record-fits ws h =
+    let p = pendingFits (word ws 11) (word ws 12) (word ws 13) (word ws 14) in
+    let h₀ = both (leb 15 (length ws)) (leb (word ws 1) 65535 && (leb (word ws 8) 1 && (leb (word ws 10) 1 && p))) h in
+    let h₁ = both (leb (word ws 1) 65535) (leb (word ws 8) 1 && (leb (word ws 10) 1 && p)) (h₀ .1) in
+    let h₂ = both (leb (word ws 8) 1) (leb (word ws 10) 1 && p) (h₁ .1) in
+    let h₃ = both (leb (word ws 10) 1) p (h₂ .1) in
+    record {
+      long = leb-true 15 (length ws) (h₀ .0);
+      node = leb-true (word ws 1) 65535 (h₁ .0);
+      several = leb-true (word ws 8) 1 (h₂ .0);
+      placed = leb-true (word ws 10) 1 (h₃ .0);
+      pending = h₃ .1;
+    }
+
+-- ---- a record reads back
+
+bit-flag : (flag : Bool) → leb (bit flag) 1 ≡ true
+bit-flag true = refl
+bit-flag false = refl
+
+bit-back : (flag : Bool) → eqb (bit flag) 1 ≡ flag
+bit-back true = refl
+bit-back false = refl
+
+length-words : (d : Device) (p : Pending) → length (wordsOf (pendingTo p d)) ≡ 15
+unfolding wordsOf
+length-words d Nothing = refl
+length-words d (Create first last) = refl
+length-words d (Discard first count status) = refl
+length-words d (DiscardOne block status) = refl
+
+-- whatever is behind them
+words-long : (d : Device) (p : Pending) (rest : List ℕ) → 15 ≤ length (wordsOf (pendingTo p d) ++ rest)
+words-long d p rest = rw (length-append, length-words d p) (omega arith)
+
+words-back : (d : Device) (p : Pending) (rest : List ℕ) → d .config .«node_id» ≤ 65535
+    → decodedOf (wordsOf (pendingTo p d) ++ rest) ≡ Is (pendingTo p d)
+unfolding wordsOf decodedOf isRecord recordOf pendingOf pendingFits
+words-back d Nothing rest h =
+    simp (
+      le-leb _ _ (words-long d Nothing rest),
+      le-leb _ 65535 h,
+      bit-flag (d .«multi_region»),
+      bit-flag (d .placed),
+      bit-back (d .«multi_region»),
+      bit-back (d .placed),
+    )
+words-back d (Create first last) rest h =
+    simp (
+      le-leb _ _ (words-long d (Create first last) rest),
+      le-leb _ 65535 h,
+      bit-flag (d .«multi_region»),
+      bit-flag (d .placed),
+      bit-back (d .«multi_region»),
+      bit-back (d .placed),
+    )
+words-back d (Discard first count status) rest h =
+    simp (
+      le-leb _ _ (words-long d (Discard first count status) rest),
+      le-leb _ 65535 h,
+      bit-flag (d .«multi_region»),
+      bit-flag (d .placed),
+      bit-back (d .«multi_region»),
+      bit-back (d .placed),
+    )
+words-back d (DiscardOne block status) rest h =
+    simp (
+      le-leb _ _ (words-long d (DiscardOne block status) rest),
+      le-leb _ 65535 h,
+      bit-flag (d .«multi_region»),
+      bit-flag (d .placed),
+      bit-back (d .«multi_region»),
+      bit-back (d .placed),
+    )
+
+-- what was encoded decodes to the record, where there is room for it
+pub encoded-decodes : (d : Device) (ws : List ℕ) → d .config .«node_id» ≤ 65535 → 15 ≤ length ws
+    → decodedOf (put ws 0 (wordsOf d)) ≡ Is d
+encoded-decodes d ws h room =
+    let n : length (wordsOf d) ≡ 15 = length-words d (d .pending) in
+    rw (put-fits ws 0 (wordsOf d) (rw n room)) (words-back d (d .pending) (drop (0 + length (wordsOf d)) ws) h)
+
+-- ---- words are written back
+
+flag-written : (w : ℕ) → w ≤ 1 → bit (eqb w 1) ≡ w
+flag-written w h =
+    by-test (eqb w 1) (λ t. simp t (sym (eqb-true w 1 t)))
+    (λ t. let n = eqb-false w 1 t in simp t (omega (arith, n)))
+
+pending-written : (k a b c : ℕ) → pendingFits k a b c ≡ true → pendingWords (pendingOf k a b c) ≡ k ∷ a ∷ b ∷ c ∷ []
+unfolding pendingFits pendingOf
+pending-written k a b c h =
+    by-test (eqb k 0)
+    (λ t.
+    let e : k ≡ 0 = eqb-true k 0 t in
+    let g : (eqb a 0 && (eqb b 0 && eqb c 0)) ≡ true = simp t at h in
+    let g₀ = both (eqb a 0) (eqb b 0 && eqb c 0) g in
+    let g₁ = both (eqb b 0) (eqb c 0) (g₀ .1) in
+    rw (e, eqb-true a 0 (g₀ .0), eqb-true b 0 (g₁ .0), eqb-true c 0 (g₁ .1)))
+    (λ t₀.
+    by-test (eqb k 1)
+    (λ t. rw (eqb-true k 1 t, eqb-true c 0 (simp (t₀, t) at h)))
+    (λ t₁.
+    by-test (eqb k 2) (λ t. rw (eqb-true k 2 t))
+    (λ t₂.
+    by-test (eqb k 3)
+    (λ t. rw (eqb-true k 3 t, eqb-true b 0 (simp (t₀, t₁, t₂, t) at h)))
+    (λ t₃. let z : false ≡ true = simp (t₀, t₁, t₂, t₃) at h in absurd (let y : _≡_ {A = ℕ} 0 1 = cc in omega arith)))))
+
+record-written : (ws : List ℕ) → isRecord ws ≡ true → put ws 0 (wordsOf (recordOf ws)) ≡ ws
+unfolding wordsOf recordOf put
+record-written ws h =
+    let f = record-fits ws h in
+    simp (
+      flag-written (word ws 8) (f .several),
+      flag-written (word ws 10) (f .placed),
+      pending-written (word ws 11) (word ws 12) (word ws 13) (word ws 14) (f .pending),
+      set-getD,
+    )
+
+-- the record that words mean, if they mean one
+abbrev meant : Device → Decoded → Device
+meant e (Is d) = d
+meant e NoRecord = e
+
+abbrev known : Decoded → ℕ
+known (Is d) = 1
+known NoRecord = 0
+
+-- words that decode are a record's
+pub decoded-fits : (ws : List ℕ) (d : Device) → decodedOf ws ≡ Is d → (isRecord ws ≡ true) × (recordOf ws ≡ d)
+unfolding decodedOf
+decoded-fits ws d h =
+    by-test (isRecord ws) (λ t. let g : Is (recordOf ws) ≡ Is d = simp t at h in (t, ap (meant d) g))
+    (λ t. let g : NoRecord ≡ Is d = simp t at h in let y : _≡_ {A = ℕ} 0 1 = ap known g in absurd (omega arith))
+
+pub decoded-long : (ws : List ℕ) (d : Device) → decodedOf ws ≡ Is d → 15 ≤ length ws
+decoded-long ws d h = record-fits ws (decoded-fits ws d h .0) .long
+
+-- what decodes encodes to the same words
+pub decoded-encodes : (ws : List ℕ) (d : Device) → decodedOf ws ≡ Is d → put ws 0 (wordsOf d) ≡ ws
+decoded-encodes ws d h = let f = decoded-fits ws d h in rw (← f .1) (record-written ws (f .0))

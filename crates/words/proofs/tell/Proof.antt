@@ -1,0 +1,40 @@
+-- `words::tell` meets its contract. Assumes nothing.
+use mathlib.Core.Path.{ap, _∙_}
+use Rattle.wire.specs.Bytes.{put}
+use borrow.Author.Needs.{needs}
+use Rattle.words.proofs.tell.Statement.{statement}
+use Rattle.words.proofs.tell.Tie as tie
+
+answer-words-requires : tie.Need-answer-words-requires
+answer-words-requires c κs = search needs
+
+slice-aggregate-write-words : tie.Need-slice-aggregate-write-words
+slice-aggregate-write-words c = search needs
+
+write-words-requires : tie.Need-write-words-requires
+write-words-requires c κs = search needs
+
+array-read-result : tie.Need-array-read-result
+array-read-result c = search needs
+
+same-length : tie.Need-same-length
+same-length c = search needs
+
+returns : tie.Need-returns
+returns c =
+    let told = c .before .before .before .before .before .answer-words .ensures in (
+      rw told,
+      c .before .before .write-words .ensures
+          ∙ ap (put (c .before .before .before .before .before .before .before .args .words .now) 0) told,
+    )
+
+pub tell-spec : {M : Type 1} → statement M
+tell-spec =
+    tie.close
+    (tie.spec
+    answer-words-requires
+    slice-aggregate-write-words
+    write-words-requires
+    array-read-result
+    same-length
+    returns)

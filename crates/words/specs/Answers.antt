@@ -1,0 +1,26 @@
+-- An answer as nine words: its kind, 01's number, the question (an address, a size, a slot or host address), the response (type and state), the used length, and the reason. Assumes nothing.
+use Prim.Native.Nat.{ℕ}
+use mathlib.Core.List.{List, [], _∷_}
+use lib.ListN.{getD}
+use Rattle.record.specs.declared.HostCall.{HostCall}
+use Rattle.record.specs.declared.HostCall.the-variants.{Create, Discard}
+use Rattle.step.specs.declared.Answer.{Answer}
+use Rattle.step.specs.declared.Answer.the-variants.{Refused, Wants, Sized, Unserved, Served, Done}
+
+-- a question: creation is kind 1, discard kind 2
+abbrev pub questionWords : HostCall → List ℕ
+questionWords (Create guest size slot) = 1 ∷ 0 ∷ guest .0 ∷ size ∷ slot ∷ 0 ∷ 0 ∷ 0 ∷ 0 ∷ []
+questionWords (Discard offset size host) = 2 ∷ 0 ∷ offset .0 ∷ size ∷ host .0 ∷ 0 ∷ 0 ∷ 0 ∷ 0 ∷ []
+
+-- an answer: 0 for what it has not
+abbrev pub answerWords : Answer → List ℕ
+answerWords (Refused number) = 0 ∷ number ∷ 0 ∷ 0 ∷ 0 ∷ 0 ∷ 0 ∷ 0 ∷ 0 ∷ []
+answerWords (Wants call) = questionWords call
+answerWords Sized = 3 ∷ 0 ∷ 0 ∷ 0 ∷ 0 ∷ 0 ∷ 0 ∷ 0 ∷ 0 ∷ []
+answerWords (Unserved reason) = 4 ∷ 0 ∷ 0 ∷ 0 ∷ 0 ∷ 0 ∷ 0 ∷ 0 ∷ reason ∷ []
+answerWords (Served resp used) = 5 ∷ 0 ∷ 0 ∷ 0 ∷ 0 ∷ resp .«resp_type» ∷ resp .state ∷ used ∷ 0 ∷ []
+answerWords Done = 6 ∷ 0 ∷ 0 ∷ 0 ∷ 0 ∷ 0 ∷ 0 ∷ 0 ∷ 0 ∷ []
+
+-- 01's number of an answer: 0 unless it is refused
+abbrev pub numberOf : Answer → ℕ
+numberOf answer = getD (answerWords answer) 1 0

@@ -1,0 +1,242 @@
+// SPDX-License-Identifier: Apache-2.0 AND BSD-3-Clause
+// The record and the answers as words, for callers that have no enums: what is no encoding of a record is told apart from one.
+use record::Device;
+use record::HostCall;
+use record::Pending;
+use step::Answer;
+use units::GuestAddr;
+use wire::VirtioMemConfig;
+ghost use mathlib.Core.Path.{_≡_};
+ghost use Prim.Native.Nat.{_≤_};
+ghost use lib.ListN.{length};
+ghost use Rattle.wire.specs.Bytes.{put};
+ghost use Rattle.words.specs.declared.Decoded.the-variants.{Is};
+ghost use Rattle.words.specs.Record.{bit, word, pendingOf, pendingFits, isRecord, recordOf, decodedOf, wordsOf, pendingWords};
+ghost use Rattle.words.specs.Answers.{answerWords, questionWords, numberOf};
+
+// A record's length in words.
+pub const RECORD_WORDS: usize = 15;
+
+// What words mean.
+pub enum Decoded {
+    Is(Device),
+    NoRecord,
+}
+
+fn bit(flag: bool) -> u64
+    ensures { λ r. ⌜ r ≡ bit flag ⌝ }
+{
+    if flag { 1 } else { 0 }
+}
+
+// The pending call that four words mean; only where they fit is that the whole meaning.
+fn pending_of(kind: u64, first: u64, second: u64, status: u64) -> Pending
+    ensures { λ r. ⌜ r ≡ pendingOf kind first second status ⌝ }
+{
+    match kind {
+        1 => Pending::Create {
+            first: first,
+            last: second,
+        },
+        2 => Pending::Discard {
+            first: first,
+            count: second,
+            status: GuestAddr(status),
+        },
+        3 => Pending::DiscardOne {
+            block: first,
+            status: GuestAddr(status),
+        },
+        _ => Pending::Nothing,
+    }
+}
+
+// Whether four words are a pending call: a known kind, and 0 in each word that the kind has no use for.
+fn pending_fits(kind: u64, first: u64, second: u64, status: u64) -> bool
+    ensures { λ r. ⌜ r ≡ pendingFits kind first second status ⌝ }
+{
+    match kind {
+        0 => (first == 0) & ((second == 0) & (status == 0)),
+        1 => status == 0,
+        2 => true,
+        3 => second == 0,
+        _ => false,
+    }
+}
+
+// Whether the first words are a record's.
+fn is_record(words: &[u64]) -> bool
+    ensures { λ r. ⌜ r ≡ isRecord (now (words .entry)) ⌝ }
+{
+    if words.len() < RECORD_WORDS {
+        return false;
+    }
+    let node = words[1];
+    let several = words[8];
+    let placed = words[10];
+    let kind = words[11];
+    let first = words[12];
+    let second = words[13];
+    let status = words[14];
+    (node <= 65535) & ((several <= 1) & ((placed <= 1) & pending_fits(kind, first, second, status)))
+}
+
+// The record that the first words mean.
+fn record_of(words: &[u64]) -> Device
+    requires { ⌜ (15 ≤ length (now words)) × (word (now words) 1 ≤ 65535) ⌝ }
+    ensures { λ r. ⌜ r ≡ recordOf (now (words .entry)) ⌝ }
+{
+    let block_size = words[0];
+    let node = words[1];
+    let start = words[2];
+    let region = words[3];
+    let usable = words[4];
+    let plugged = words[5];
+    let requested = words[6];
+    let alignment = words[7];
+    let several = words[8];
+    let features = words[9];
+    let placed = words[10];
+    let kind = words[11];
+    let first = words[12];
+    let second = words[13];
+    let status = words[14];
+    let pending = pending_of(kind, first, second, status);
+    Device {
+        config: VirtioMemConfig {
+            block_size: block_size,
+            node_id: node as u16,
+            addr: GuestAddr(start),
+            region_size: region,
+            usable_region_size: usable,
+            plugged_size: plugged,
+            requested_size: requested,
+        },
+        alignment: alignment,
+        multi_region: several == 1,
+        avail_features: features,
+        placed: placed == 1,
+        pending: pending,
+    }
+}
+
+// The record that words begin with, if they do.
+pub fn decode(words: &[u64]) -> Decoded
+    ensures { λ r. ⌜ r ≡ decodedOf (now (words .entry)) ⌝ }
+{
+    if !is_record(words) {
+        return Decoded::NoRecord;
+    }
+    Decoded::Is(record_of(words))
+}
+
+// `what` from the first word on; none past the end.
+fn write_words(words: &mut [u64], what: &[u64])
+    ensures { λ _. ⌜ now (words .exit) ≡ put (now (words .entry)) 0 (now (what .entry)) ⌝ }
+{
+    let mut i = 0;
+    while i < words.len() {
+        if what.len() <= i {
+            return;
+        }
+        words[i] = what[i];
+        i += 1;
+    }
+}
+
+// A pending call as four words.
+fn pending_words(pending: Pending) -> [u64; 4]
+    ensures { λ r. ⌜ r ≡ pendingWords pending ⌝ }
+{
+    match pending {
+        Pending::Nothing => [0, 0, 0, 0],
+        Pending::Create { first, last } => [1, first, last, 0],
+        Pending::Discard {
+            first,
+            count,
+            status,
+        } => [2, first, count, status.0],
+        Pending::DiscardOne { block, status } => [3, block, 0, status.0],
+    }
+}
+
+// Writes a record as words; none past the end.
+pub fn encode(d: Device, words: &mut [u64])
+    ensures { λ _. ⌜ now (words .exit) ≡ put (now (words .entry)) 0 (wordsOf d) ⌝ }
+    ensures { λ _. ⌜ (15 ≤ length (now (words .entry)) → decodedOf (now (words .exit)) ≡ Is d) ⌝ }
+{
+    let p = d.pending;
+    let pending = pending_words(p);
+    let all: [u64; 15] = [
+        d.config.block_size,
+        d.config.node_id as u64,
+        d.config.addr.0,
+        d.config.region_size,
+        d.config.usable_region_size,
+        d.config.plugged_size,
+        d.config.requested_size,
+        d.alignment,
+        bit(d.multi_region),
+        d.avail_features,
+        bit(d.placed),
+        pending[0],
+        pending[1],
+        pending[2],
+        pending[3],
+    ];
+    write_words(words, &all);
+}
+
+// What the host is asked, as the words of an answer.
+fn question_words(call: HostCall) -> [u64; 9]
+    ensures { λ r. ⌜ r ≡ questionWords call ⌝ }
+{
+    match call {
+        HostCall::Create { guest, size, slot } => [1, 0, guest.0, size, slot, 0, 0, 0, 0],
+        HostCall::Discard { offset, size, host } => [2, 0, offset.0, size, host.0, 0, 0, 0, 0],
+    }
+}
+
+// An answer as words.
+fn answer_words(answer: Answer) -> [u64; 9]
+    ensures { λ r. ⌜ r ≡ answerWords answer ⌝ }
+{
+    match answer {
+        Answer::Refused(number) => [0, number, 0, 0, 0, 0, 0, 0, 0],
+        Answer::Wants(call) => question_words(call),
+        Answer::Sized => [3, 0, 0, 0, 0, 0, 0, 0, 0],
+        Answer::Unserved(reason) => [4, 0, 0, 0, 0, 0, 0, 0, reason],
+        Answer::Served(resp, length) => {
+            [
+                5,
+                0,
+                0,
+                0,
+                0,
+                resp.resp_type as u64,
+                resp.state as u64,
+                length as u64,
+                0,
+            ]
+        }
+        Answer::Done => [6, 0, 0, 0, 0, 0, 0, 0, 0],
+    }
+}
+
+// 01's number of an answer: 0 unless it is refused.
+pub fn number_of(answer: Answer) -> u64
+    ensures { λ r. ⌜ r ≡ numberOf answer ⌝ }
+{
+    let all = answer_words(answer);
+    all[1]
+}
+
+// Writes an answer as words, none past the end, and tells its number.
+pub fn tell(answer: Answer, words: &mut [u64]) -> u64
+    ensures { λ r. ⌜ r ≡ numberOf answer ⌝ }
+    ensures { λ _. ⌜ now (words .exit) ≡ put (now (words .entry)) 0 (answerWords answer) ⌝ }
+{
+    let all = answer_words(answer);
+    write_words(words, &all);
+    all[1]
+}
