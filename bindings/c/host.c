@@ -1,0 +1,172 @@
+/* SPDX-License-Identifier: Apache-2.0 AND BSD-3-Clause */
+/*
+ * A small real host: it creates the device's memory with memfd_create and mmap, gives it back with
+ * madvise(MADV_REMOVE), and plays a guest that plugs, touches and unplugs it. The numbers that it prints are the
+ * kernel's: how much memory the memfd holds (st_blocks).
+ */
+#define _GNU_SOURCE
+#include "jambcopper.h"
+
+#include <inttypes.h>
+#include <linux/virtio_mem.h>
+#include <linux/virtio_ring.h>
+#include <stdio.h>
+#include <stdlib.h>
+#include <string.h>
+#include <sys/mman.h>
+#include <sys/stat.h>
+#include <unistd.h>
+
+#define MIB UINT64_C(1048576)
+/* The guest's own memory, which has the queue and the requests, and where the region of the device lies. */
+#define RAM_BASE UINT64_C(0x40000000)
+#define REGION_START UINT64_C(0x100000000)
+
+/* What the guest lays into its memory: the descriptors, a request, and room for the response. */
+struct ram {
+    struct vring_desc descriptors[128];
+    struct virtio_mem_req request;
+    struct virtio_mem_resp response;
+};
+
+/* What a host keeps for a device. */
+struct host {
+    uint64_t record[JAMBCOPPER_RECORD_WORDS];
+    uint8_t bitmap[JAMBCOPPER_MAX_BITMAP_BYTES];
+    uint64_t table[JAMBCOPPER_ROW_WORDS];
+    uint64_t answer[JAMBCOPPER_ANSWER_WORDS];
+    struct ram ram;
+    int memfd;
+    uint8_t *memory;
+    bool refuse; /* the next discard is refused */
+};
+
+static void fail(const char *what)
+{
+    perror(what);
+    exit(1);
+}
+
+static void expect(bool holds, const char *what)
+{
+    if (!holds) {
+        fprintf(stderr, "host: %s\n", what);
+        exit(1);
+    }
+}
+
+/* Creation: the memory that the device asks for, of which the kernel holds nothing until it is touched. */
+static bool create(struct host *h)
+{
+    uint64_t size = h->answer[JAMBCOPPER_ANSWER_SIZE];
+    h->memfd = memfd_create("virtio-mem", MFD_CLOEXEC);
+    if (h->memfd < 0 || ftruncate(h->memfd, (off_t)size) != 0)
+        return false;
+    void *memory = mmap(NULL, size, PROT_READ | PROT_WRITE, MAP_SHARED, h->memfd, 0);
+    if (memory == MAP_FAILED)
+        return false;
+    h->memory = memory;
+    return true;
+}
+
+/* Discard: the memory goes back to the kernel. */
+static bool discard(struct host *h)
+{
+    if (h->refuse) {
+        h->refuse = false;
+        return false;
+    }
+    void *at = (void *)(uintptr_t)h->answer[JAMBCOPPER_ANSWER_WHERE];
+    return madvise(at, h->answer[JAMBCOPPER_ANSWER_SIZE], MADV_REMOVE) == 0;
+}
+
+/* Answers what the device asks, until it asks no more. */
+static void answer_all(struct host *h)
+{
+    for (;;) {
+        uint64_t kind = h->answer[JAMBCOPPER_ANSWER_KIND];
+        bool ok;
+        if (kind == JAMBCOPPER_KIND_CREATE)
+            ok = create(h);
+        else if (kind == JAMBCOPPER_KIND_DISCARD)
+            ok = discard(h);
+        else
+            return;
+        jambcopper_host_answer(h->record, JAMBCOPPER_RECORD_WORDS, h->bitmap, sizeof h->bitmap, h->table,
+                               JAMBCOPPER_ROW_WORDS, (uint8_t *)&h->ram, sizeof h->ram, RAM_BASE, ok,
+                               (uint64_t)(uintptr_t)h->memory, h->answer, JAMBCOPPER_ANSWER_WORDS);
+    }
+}
+
+/* The guest asks, by a chain of two descriptors, and reads the type of the response. */
+static uint16_t ask(struct host *h, uint16_t type, uint64_t addr, uint16_t blocks)
+{
+    struct ram *ram = &h->ram;
+    memset(ram, 0, sizeof *ram);
+    ram->request.type = type;
+    ram->request.u.plug.addr = addr;
+    ram->request.u.plug.nb_blocks = blocks;
+    ram->response.type = 0xffff;
+    ram->descriptors[0] = (struct vring_desc){ .addr = RAM_BASE + offsetof(struct ram, request),
+                                               .len = sizeof ram->request,
+                                               .flags = VRING_DESC_F_NEXT,
+                                               .next = 1 };
+    ram->descriptors[1] = (struct vring_desc){ .addr = RAM_BASE + offsetof(struct ram, response),
+                                               .len = sizeof ram->response,
+                                               .flags = VRING_DESC_F_WRITE };
+    uint64_t refused = jambcopper_request(h->record, JAMBCOPPER_RECORD_WORDS, h->bitmap, sizeof h->bitmap, h->table,
+                                          JAMBCOPPER_ROW_WORDS, (uint8_t *)ram, sizeof *ram, RAM_BASE, RAM_BASE, 0,
+                                          h->answer, JAMBCOPPER_ANSWER_WORDS);
+    expect(refused == JAMBCOPPER_DONE, "the request is refused");
+    answer_all(h);
+    expect(h->answer[JAMBCOPPER_ANSWER_KIND] == JAMBCOPPER_KIND_SERVED, "the request is not served");
+    expect(h->answer[JAMBCOPPER_ANSWER_LENGTH] == sizeof ram->response, "the response is not delivered");
+    return ram->response.type;
+}
+
+/* How many bytes the kernel holds for the device, and how many the guest reads as plugged. */
+static void print(struct host *h, const char *when)
+{
+    struct stat s;
+    struct virtio_mem_config config;
+    if (fstat(h->memfd, &s) != 0)
+        fail("fstat");
+    expect(jambcopper_read_config(h->record, JAMBCOPPER_RECORD_WORDS, 0, (uint8_t *)&config, sizeof config) == 0,
+           "the config is not read");
+    printf("%-22s held=%" PRIu64 " KiB plugged=%" PRIu64 " KiB\n", when, (uint64_t)s.st_blocks / 2,
+           (uint64_t)config.plugged_size / 1024);
+}
+
+int main(void)
+{
+    static struct host h;
+    const uint32_t slots[] = { 1 };
+    const uint64_t block = JAMBCOPPER_BLOCK_SIZE;
+
+    expect(jambcopper_make(h.record, JAMBCOPPER_RECORD_WORDS, 256, 64, false, false, 0, 1024 * MIB) == 0, "not made");
+    expect(jambcopper_place(h.record, JAMBCOPPER_RECORD_WORDS, h.bitmap, sizeof h.bitmap, h.table, JAMBCOPPER_ROW_WORDS,
+                            REGION_START, h.record[JAMBCOPPER_RECORD_REGION_SIZE], slots, 1, h.answer,
+                            JAMBCOPPER_ANSWER_WORDS) == 0,
+           "not placed");
+    answer_all(&h);
+    expect(h.answer[JAMBCOPPER_ANSWER_KIND] == JAMBCOPPER_KIND_SIZED, "no memory was created");
+    print(&h, "before the plug");
+
+    expect(ask(&h, VIRTIO_MEM_REQ_PLUG, REGION_START, 8) == VIRTIO_MEM_RESP_ACK, "no plug");
+    memset(h.memory, 0x5a, 8 * block);
+    print(&h, "plugged and touched");
+
+    expect(ask(&h, VIRTIO_MEM_REQ_UNPLUG, REGION_START + 2 * block, 3) == VIRTIO_MEM_RESP_ACK, "no unplug");
+    print(&h, "unplugged 3 of 8");
+
+    h.refuse = true;
+    expect(ask(&h, VIRTIO_MEM_REQ_UNPLUG, REGION_START, 2) == VIRTIO_MEM_RESP_ERROR, "an unplug that the host refused");
+    print(&h, "unplug host refused");
+
+    expect(ask(&h, VIRTIO_MEM_REQ_UNPLUG, REGION_START + block, 4) == VIRTIO_MEM_RESP_ERROR, "an unplug that is illegal");
+    print(&h, "unplug device refused");
+
+    expect(ask(&h, VIRTIO_MEM_REQ_UNPLUG_ALL, 0, 0) == VIRTIO_MEM_RESP_ACK, "no unplug-all");
+    print(&h, "unplugged all");
+    return 0;
+}

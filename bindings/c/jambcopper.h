@@ -1,0 +1,191 @@
+/* SPDX-License-Identifier: Apache-2.0 AND BSD-3-Clause */
+/*
+ * Jambcopper, a proved virtio-mem device, for C: what target/staticlib/libcapi.a exports.
+ *
+ * The device has no memory of its own. The caller keeps, and lends to each call:
+ *   - the record, JAMBCOPPER_RECORD_WORDS words;
+ *   - the bitmap, one bit a block of 4 MiB: block 8j+k is bit k of byte j, set when plugged;
+ *   - the map table, JAMBCOPPER_ROW_WORDS words a row;
+ *   - guest memory: a slice, and the guest address of its first byte.
+ * A slice is a pointer and how many elements it has. Elements that a call has no use for are not touched.
+ * Any contents are allowed, every one of them: words that are no record are refused with 12, and a table
+ * that is too short with 11. Two slices of one call must not overlap, and a pointer is never NULL.
+ *
+ * A call never calls back. Where the host must do something, the call asks a question in its answer, the record
+ * holds it as pending, and the host answers it by jambcopper_host_answer. Until then only jambcopper_host_answer,
+ * jambcopper_read_config and jambcopper_write_config are served; the others are refused with 7.
+ *
+ * Each function returns the number of its refusal, or 0. All but 0 and 10 change nothing.
+ */
+#ifndef JAMBCOPPER_H
+#define JAMBCOPPER_H
+
+#include <stdbool.h>
+#include <stddef.h>
+#include <stdint.h>
+
+#ifdef __cplusplus
+extern "C" {
+#endif
+
+/* ---- sizes */
+
+/* The block: what is plugged and unplugged. */
+#define JAMBCOPPER_BLOCK_SIZE UINT64_C(4194304)
+/* The map region: what one row of the map table maps, where a device has several. */
+#define JAMBCOPPER_MAP_REGION_SIZE UINT64_C(2147483648)
+/* The largest capacity: 1 TiB, in MiB. */
+#define JAMBCOPPER_MAX_CAPACITY_MIB UINT64_C(1048576)
+/* A bitmap of so many bytes is long enough for every device; one needs a byte for each 8 blocks of its region. */
+#define JAMBCOPPER_MAX_BITMAP_BYTES 32768
+/* A row of the map table: slot, mapped (0 no, else yes), host address. */
+#define JAMBCOPPER_ROW_WORDS 3
+/* A map table of so many words is long enough for every device; one needs a row for each map region, or one row
+ * where it has a single region. */
+#define JAMBCOPPER_MAX_TABLE_WORDS 1536
+/* The config space, struct virtio_mem_config. */
+#define JAMBCOPPER_CONFIG_BYTES 56
+
+/* ---- the record: which word is what. It may be read, copied, stored and put back. */
+
+#define JAMBCOPPER_RECORD_WORDS 15
+#define JAMBCOPPER_RECORD_BLOCK_SIZE 0     /* bytes; always 4 MiB */
+#define JAMBCOPPER_RECORD_NODE_ID 1        /* below 65536; 0 where no node was given */
+#define JAMBCOPPER_RECORD_START 2          /* guest address of the region; 0 until it is placed */
+#define JAMBCOPPER_RECORD_REGION_SIZE 3    /* bytes */
+#define JAMBCOPPER_RECORD_USABLE_SIZE 4    /* bytes from the start on that the guest may plug; never shrinks */
+#define JAMBCOPPER_RECORD_PLUGGED_SIZE 5   /* bytes */
+#define JAMBCOPPER_RECORD_REQUESTED_SIZE 6 /* bytes; the only lever */
+#define JAMBCOPPER_RECORD_ALIGNMENT 7      /* bytes: 128, 256, 512 MiB, 1 or 2 GiB */
+#define JAMBCOPPER_RECORD_MULTI_REGION 8   /* 1 several map regions, 0 a single one */
+#define JAMBCOPPER_RECORD_FEATURES 9       /* feature bits to offer: 32, and 0 if a node was given */
+#define JAMBCOPPER_RECORD_PLACED 10        /* 1 placed, 0 not */
+#define JAMBCOPPER_RECORD_PENDING 11       /* one of JAMBCOPPER_PENDING_.. */
+#define JAMBCOPPER_RECORD_FIRST 12         /* pending: first row (creation), or first block; else 0 */
+#define JAMBCOPPER_RECORD_SECOND 13        /* pending: last row (creation), or how many blocks (unplug); else 0 */
+#define JAMBCOPPER_RECORD_STATUS 14        /* pending discard: guest address of the response; else 0 */
+
+#define JAMBCOPPER_PENDING_NOTHING 0     /* no host call is pending */
+#define JAMBCOPPER_PENDING_CREATE 1      /* a creation, in placing or in a size change */
+#define JAMBCOPPER_PENDING_DISCARD 2     /* the discard of an unplug */
+#define JAMBCOPPER_PENDING_DISCARD_ONE 3 /* the discard of one block of an unplug-all */
+
+/* ---- the answer: which word is what; a word that the kind has no use for is 0. A slice that is shorter gets the
+ * words that fit. */
+
+#define JAMBCOPPER_ANSWER_WORDS 9
+#define JAMBCOPPER_ANSWER_KIND 0    /* one of JAMBCOPPER_KIND_.. */
+#define JAMBCOPPER_ANSWER_NUMBER 1  /* refused: the number, as the call returns it */
+#define JAMBCOPPER_ANSWER_ADDRESS 2 /* create: guest address; discard: offset in the region */
+#define JAMBCOPPER_ANSWER_SIZE 3    /* create, discard: bytes */
+#define JAMBCOPPER_ANSWER_WHERE 4   /* create: memory slot; discard: host address */
+#define JAMBCOPPER_ANSWER_TYPE 5    /* served: the response's type, VIRTIO_MEM_RESP_.. */
+#define JAMBCOPPER_ANSWER_STATE 6   /* served: the response's state, VIRTIO_MEM_STATE_.. */
+#define JAMBCOPPER_ANSWER_LENGTH 7  /* served: used length, 10, or 0 where the response could not be delivered */
+#define JAMBCOPPER_ANSWER_REASON 8  /* unserved: one of JAMBCOPPER_REASON_.. */
+
+#define JAMBCOPPER_KIND_REFUSED 0  /* refused with the number */
+#define JAMBCOPPER_KIND_CREATE 1   /* the host is to map memory at the guest address */
+#define JAMBCOPPER_KIND_DISCARD 2  /* the host is to give back the memory at the host address */
+#define JAMBCOPPER_KIND_SIZED 3    /* done: the usable size is worked out */
+#define JAMBCOPPER_KIND_UNSERVED 4 /* the chain is no request: it is used with length 0 */
+#define JAMBCOPPER_KIND_SERVED 5   /* the request has ended: the chain is used with the length */
+
+/* ---- the numbers. Order of the tests: 12 (record), 7 or 8, 5 or 6, 11, then 2, 1, 3, 4, 9. */
+
+#define JAMBCOPPER_DONE 0            /* not refused */
+#define JAMBCOPPER_BAD_SIZE 1        /* capacity 0, requested above the region, or requested not a multiple of 4 MiB */
+#define JAMBCOPPER_TOO_LARGE 2       /* capacity above JAMBCOPPER_MAX_CAPACITY_MIB */
+#define JAMBCOPPER_BAD_RANGE 3       /* slot count wrong, or range size not the region size */
+#define JAMBCOPPER_BAD_START 4       /* start not a multiple of the alignment, or the range passes 2^64 - 1 */
+#define JAMBCOPPER_NOT_PLACED 5      /* a request or size change before placing */
+#define JAMBCOPPER_PLACED 6          /* placed already */
+#define JAMBCOPPER_PENDING 7         /* a host call is pending */
+#define JAMBCOPPER_NOT_PENDING 8     /* a host answer while no host call is pending */
+#define JAMBCOPPER_BAD_HOST 9        /* the host address, plus the size asked, passes 2^64 - 1; the call stays pending */
+#define JAMBCOPPER_CREATION_FAILED 10 /* the host could not create; nothing is pending any more */
+#define JAMBCOPPER_SHORT_TABLE 11    /* bitmap or map table too short */
+#define JAMBCOPPER_BAD_RECORD 12     /* the words are no record, or an unplug is larger than the plugged size */
+
+/* ---- why a chain is no request */
+
+#define JAMBCOPPER_REASON_UNKNOWN_TYPE 0     /* request type 4 or more */
+#define JAMBCOPPER_REASON_MISSING 21         /* first or second descriptor missing */
+#define JAMBCOPPER_REASON_WRITE_ONLY 22      /* the first descriptor is write-only */
+#define JAMBCOPPER_REASON_REQUEST_LENGTH 23  /* the first descriptor's length is not 24 */
+#define JAMBCOPPER_REASON_REQUEST_OUTSIDE 24 /* the request is not inside guest memory */
+#define JAMBCOPPER_REASON_NOT_WRITABLE 25    /* the second descriptor is not writable */
+#define JAMBCOPPER_REASON_STATUS_SHORT 26    /* the second descriptor's length is under 10 */
+#define JAMBCOPPER_REASON_INDIRECT 27        /* a descriptor has the indirect flag */
+
+/* ---- the calls */
+
+/*
+ * Makes a device: writes its record, not placed yet. 1, 2, or 12 where the slice has no room for a record.
+ *   capacity_mib, requested_mib  sizes in MiB
+ *   multi_region                 several map regions; kept only if the region exceeds 2 GiB
+ *   node_given, node             the NUMA node, if there is one; node is not looked at otherwise
+ *   boot                         the boot memory's size in bytes, which decides the alignment
+ */
+uint64_t jambcopper_make(uint64_t *record, size_t record_words, uint64_t capacity_mib, uint64_t requested_mib,
+                         bool multi_region, bool node_given, uint16_t node, uint64_t boot);
+
+/*
+ * Places the device in guest memory: clears the bitmap, writes each row of the map table (slot, not mapped), and asks
+ * for the creation that must be first, if there is one. 12, 7, 6, 11, 3, 4.
+ *   start, size  the range of guest addresses; size is the region size
+ *   slots        a memory slot for each map region
+ * Answer: refused, create, or sized.
+ */
+uint64_t jambcopper_place(uint64_t *record, size_t record_words, uint8_t *bitmap, size_t bitmap_bytes, uint64_t *table,
+                          size_t table_words, uint64_t start, uint64_t size, const uint32_t *slots, size_t slot_count,
+                          uint64_t *answer, size_t answer_words);
+
+/*
+ * Changes the requested size, to a number of MiB. The usable size grows with it, which may ask for a creation.
+ * 12, 7, 5, 11, 1. Answer: refused, create, or sized.
+ */
+uint64_t jambcopper_set_requested_size(uint64_t *record, size_t record_words, const uint8_t *bitmap, size_t bitmap_bytes,
+                                       const uint64_t *table, size_t table_words, uint64_t requested_mib,
+                                       uint64_t *answer, size_t answer_words);
+
+/*
+ * Serves one chain of the guest's queue. 12, 7, 5, 11; and 12 for an otherwise legal unplug that is larger than the
+ * plugged size.
+ *   mem, base    guest memory, and the guest address of its first byte
+ *   descriptors  guest address of the table of 128 descriptors
+ *   head         index of the chain's first descriptor
+ * Answer: refused, discard, unserved, or served. The response is written to guest memory; the chain is then to be put
+ * on the used ring with the length of the answer.
+ */
+uint64_t jambcopper_request(uint64_t *record, size_t record_words, uint8_t *bitmap, size_t bitmap_bytes,
+                            const uint64_t *table, size_t table_words, uint8_t *mem, size_t mem_bytes, uint64_t base,
+                            uint64_t descriptors, uint16_t head, uint64_t *answer, size_t answer_words);
+
+/*
+ * The host's answer to the question that is pending. 12, 8, 11, 9, 10.
+ *   mem, base  guest memory, for the response to an unplug; a creation does not look at it
+ *   ok         whether the host did what was asked
+ *   host       creation: the host address of the memory; a discard does not look at it
+ * Answer: refused, sized (creation), served (discard), or discard: the next block of an unplug-all.
+ */
+uint64_t jambcopper_host_answer(uint64_t *record, size_t record_words, uint8_t *bitmap, size_t bitmap_bytes,
+                                uint64_t *table, size_t table_words, uint8_t *mem, size_t mem_bytes, uint64_t base,
+                                bool ok, uint64_t host, uint64_t *answer, size_t answer_words);
+
+/*
+ * Reads the config space from an offset on: up to its end or the buffer's; the rest of the buffer stays. Nothing is
+ * written from offset 56 on. 12.
+ */
+uint64_t jambcopper_read_config(const uint64_t *record, size_t record_words, uint64_t offset, uint8_t *data,
+                                size_t data_bytes);
+
+/* A write of the config space, which does nothing. 12. */
+uint64_t jambcopper_write_config(const uint64_t *record, size_t record_words, uint64_t offset, const uint8_t *data,
+                                 size_t data_bytes);
+
+#ifdef __cplusplus
+}
+#endif
+
+#endif /* JAMBCOPPER_H */

@@ -1,0 +1,463 @@
+// SPDX-License-Identifier: Apache-2.0 AND BSD-3-Clause
+//! A proved virtio-mem device.
+//!
+//! [`Device`] keeps the device's record, its bitmap and its map table, and lends them to the proved functions of the
+//! static library. Its methods are named as in mem.rs of dbs-virtio-devices. It never calls back: where the host must
+//! create or discard memory, a call answers [`Answer::Wants`], and the host answers by [`Device::host_answer`].
+//!
+//! ```
+//! use jambcopper::{Answer, Device, Error, HostAnswer, HostCall};
+//!
+//! // 256 MiB in one region at 4 GiB, of which the guest may have 16 MiB; the boot memory is 1 GiB.
+//! let mut device = Device::new(256, 16, false, None, 1 << 30)?;
+//! let asked = device.set_resource(1 << 32, 256 << 20, &[1])?;
+//! assert_eq!(asked, Answer::Wants(HostCall::Create { guest: 1 << 32, size: 256 << 20, slot: 1 }));
+//!
+//! // The host has mapped the memory, and says where.
+//! assert_eq!(device.host_answer(&mut [], 0, HostAnswer::Created(0x7fff_0000_0000))?, Answer::Sized);
+//! assert_eq!(device.usable_size(), 256 << 20);
+//!
+//! // 17 MiB are no whole blocks of 4 MiB.
+//! assert_eq!(device.set_requested_size(17), Err(Error::BadSize));
+//! assert_eq!(Error::BadSize as u64, 1);
+//! # Ok::<(), Error>(())
+//! ```
+
+#![warn(missing_docs)]
+
+use std::fmt;
+
+mod sys;
+
+use sys::{ANSWER_WORDS, RECORD_WORDS};
+
+/// The block: what is plugged and unplugged.
+pub const BLOCK_SIZE: u64 = 4 << 20;
+
+/// The map region: what one row of the map table maps, where a device has several.
+pub const MAP_REGION_SIZE: u64 = 2 << 30;
+
+/// Why a call is refused. All but [`Error::CreationFailed`] change nothing.
+#[derive(Clone, Copy, Debug, PartialEq, Eq, Hash)]
+#[repr(u64)]
+pub enum Error {
+    /// Capacity 0, requested above the region, or requested not a multiple of 4 MiB.
+    BadSize = 1,
+    /// Capacity above 1,048,576 MiB.
+    TooLarge = 2,
+    /// The slot count is wrong, or the range's size is not the region's.
+    BadRange = 3,
+    /// The start is not a multiple of the alignment, or the range passes 2^64 - 1.
+    BadStart = 4,
+    /// A request or a size change before placing.
+    NotPlaced = 5,
+    /// Placed already.
+    Placed = 6,
+    /// A host call is pending.
+    Pending = 7,
+    /// A host answer while no host call is pending.
+    NotPending = 8,
+    /// The host address, plus the size asked, passes 2^64 - 1. The call stays pending.
+    BadHost = 9,
+    /// The host could not create. Nothing is pending any more.
+    CreationFailed = 10,
+    /// The bitmap or the map table is too short.
+    ShortTable = 11,
+    /// The record is not of the stated shape, or an otherwise legal unplug is larger than the plugged size.
+    BadRecord = 12,
+}
+
+impl Error {
+    /// The error of a number, and none for 0.
+    fn check(number: u64) -> Result<(), Error> {
+        Err(match number {
+            0 => return Ok(()),
+            1 => Error::BadSize,
+            2 => Error::TooLarge,
+            3 => Error::BadRange,
+            4 => Error::BadStart,
+            5 => Error::NotPlaced,
+            6 => Error::Placed,
+            7 => Error::Pending,
+            8 => Error::NotPending,
+            9 => Error::BadHost,
+            10 => Error::CreationFailed,
+            11 => Error::ShortTable,
+            12 => Error::BadRecord,
+            _ => unreachable!("the device refuses with 1 to 12"),
+        })
+    }
+}
+
+impl fmt::Display for Error {
+    fn fmt(&self, f: &mut fmt::Formatter<'_>) -> fmt::Result {
+        let what = match self {
+            Error::BadSize => {
+                "capacity 0, or a requested size that is too large or no multiple of 4 MiB"
+            }
+            Error::TooLarge => "capacity above 1 TiB",
+            Error::BadRange => "wrong slot count, or a range that has not the region's size",
+            Error::BadStart => "a start that is not aligned, or a range that passes 2^64 - 1",
+            Error::NotPlaced => "the device is not placed yet",
+            Error::Placed => "the device is placed already",
+            Error::Pending => "a host call is pending",
+            Error::NotPending => "no host call is pending",
+            Error::BadHost => "a host address from which the memory would pass 2^64 - 1",
+            Error::CreationFailed => "the host could not create the memory",
+            Error::ShortTable => "bitmap or map table too short",
+            Error::BadRecord => "no record of a device, or an unplug of more than is plugged",
+        };
+        write!(f, "{what} ({})", *self as u64)
+    }
+}
+
+impl std::error::Error for Error {}
+
+/// What the host is asked.
+#[derive(Clone, Copy, Debug, PartialEq, Eq, Hash)]
+pub enum HostCall {
+    /// Map `size` bytes at a guest address, as the memory slot `slot`.
+    Create {
+        /// The guest address.
+        guest: u64,
+        /// How many bytes.
+        size: u64,
+        /// The memory slot.
+        slot: u64,
+    },
+    /// Give back the `size` bytes at a host address.
+    Discard {
+        /// Where in the region.
+        offset: u64,
+        /// How many bytes.
+        size: u64,
+        /// The host address.
+        host: u64,
+    },
+}
+
+/// What the host answers.
+#[derive(Clone, Copy, Debug, PartialEq, Eq, Hash)]
+pub enum HostAnswer {
+    /// The memory is mapped, from this host address on.
+    Created(u64),
+    /// The memory is given back.
+    Discarded,
+    /// The host could not.
+    Failed,
+}
+
+/// What a call is answered where it is not refused.
+#[derive(Clone, Copy, Debug, PartialEq, Eq, Hash)]
+pub enum Answer {
+    /// The host is asked, and the call goes on with its answer.
+    Wants(HostCall),
+    /// The usable size is worked out.
+    Sized,
+    /// The chain is no request and is used with length 0: the reason is 21 to 27, or 0 for an unknown type.
+    Unserved {
+        /// Why.
+        reason: u64,
+    },
+    /// The request has ended, and the chain is used with the length.
+    Served {
+        /// The response's type: 0 ACK, 1 NACK, 3 ERROR.
+        resp_type: u16,
+        /// The response's state: 0 plugged, 1 unplugged, 2 mixed.
+        state: u16,
+        /// 10, or 0 where the response could not be delivered.
+        length: u32,
+    },
+}
+
+impl Answer {
+    /// The words of an answer that is not refused.
+    fn of(words: &[u64; ANSWER_WORDS]) -> Answer {
+        let [kind, _, address, size, place, resp_type, state, length, reason] = *words;
+        match kind {
+            1 => Answer::Wants(HostCall::Create {
+                guest: address,
+                size,
+                slot: place,
+            }),
+            2 => Answer::Wants(HostCall::Discard {
+                offset: address,
+                size,
+                host: place,
+            }),
+            3 => Answer::Sized,
+            4 => Answer::Unserved { reason },
+            5 => Answer::Served {
+                resp_type: resp_type as u16,
+                state: state as u16,
+                length: length as u32,
+            },
+            _ => unreachable!("the device answers with 1 to 5"),
+        }
+    }
+
+    fn told(number: u64, words: &[u64; ANSWER_WORDS]) -> Result<Answer, Error> {
+        Error::check(number).map(|()| Answer::of(words))
+    }
+}
+
+/// A virtio-mem device with its bitmap and its map table.
+#[derive(Clone, PartialEq, Eq)]
+pub struct Device {
+    record: [u64; RECORD_WORDS],
+    bitmap: Vec<u8>,
+    table: Vec<u64>,
+}
+
+impl Device {
+    /// Makes a device from sizes in MiB; `boot` is the boot memory's size in bytes, which decides the alignment. Several
+    /// regions are kept only if the region exceeds 2 GiB.
+    pub fn new(
+        capacity_mib: u64,
+        requested_mib: u64,
+        multi_region: bool,
+        node: Option<u16>,
+        boot: u64,
+    ) -> Result<Device, Error> {
+        let mut record = [0; RECORD_WORDS];
+        // SAFETY: the slice is a live, unshared array; the function writes nothing else.
+        Error::check(unsafe {
+            sys::jambcopper_make(
+                record.as_mut_ptr(),
+                record.len(),
+                capacity_mib,
+                requested_mib,
+                multi_region,
+                node.is_some(),
+                node.unwrap_or(0),
+                boot,
+            )
+        })?;
+        let mut device = Device {
+            record,
+            bitmap: Vec::new(),
+            table: Vec::new(),
+        };
+        device.bitmap = vec![0; device.region_size().div_ceil(8 * BLOCK_SIZE) as usize];
+        device.table = vec![0; 3 * device.map_regions()];
+        Ok(device)
+    }
+
+    /// Places the device at a range of guest addresses, with a memory slot for each map region.
+    pub fn set_resource(&mut self, start: u64, size: u64, slots: &[u32]) -> Result<Answer, Error> {
+        let mut answer = [0; ANSWER_WORDS];
+        // SAFETY: each pointer and length is one live slice, and no two of them overlap.
+        let number = unsafe {
+            sys::jambcopper_place(
+                self.record.as_mut_ptr(),
+                self.record.len(),
+                self.bitmap.as_mut_ptr(),
+                self.bitmap.len(),
+                self.table.as_mut_ptr(),
+                self.table.len(),
+                start,
+                size,
+                slots.as_ptr(),
+                slots.len(),
+                answer.as_mut_ptr(),
+                answer.len(),
+            )
+        };
+        Answer::told(number, &answer)
+    }
+
+    /// Changes the requested size, in MiB.
+    pub fn set_requested_size(&mut self, requested_mib: u64) -> Result<Answer, Error> {
+        let mut answer = [0; ANSWER_WORDS];
+        // SAFETY: as in `set_resource`.
+        let number = unsafe {
+            sys::jambcopper_set_requested_size(
+                self.record.as_mut_ptr(),
+                self.record.len(),
+                self.bitmap.as_ptr(),
+                self.bitmap.len(),
+                self.table.as_ptr(),
+                self.table.len(),
+                requested_mib,
+                answer.as_mut_ptr(),
+                answer.len(),
+            )
+        };
+        Answer::told(number, &answer)
+    }
+
+    /// Serves one chain of the guest's queue: `mem` is guest memory from the guest address `base` on, `descriptors` the
+    /// guest address of the table of 128 descriptors, and `head` the chain's first.
+    pub fn process_queue(
+        &mut self,
+        mem: &mut [u8],
+        base: u64,
+        descriptors: u64,
+        head: u16,
+    ) -> Result<Answer, Error> {
+        let mut answer = [0; ANSWER_WORDS];
+        // SAFETY: as in `set_resource`.
+        let number = unsafe {
+            sys::jambcopper_request(
+                self.record.as_mut_ptr(),
+                self.record.len(),
+                self.bitmap.as_mut_ptr(),
+                self.bitmap.len(),
+                self.table.as_ptr(),
+                self.table.len(),
+                mem.as_mut_ptr(),
+                mem.len(),
+                base,
+                descriptors,
+                head,
+                answer.as_mut_ptr(),
+                answer.len(),
+            )
+        };
+        Answer::told(number, &answer)
+    }
+
+    /// The host's answer to what it was asked. Guest memory is for the response to an unplug; a creation does not look
+    /// at it.
+    pub fn host_answer(
+        &mut self,
+        mem: &mut [u8],
+        base: u64,
+        told: HostAnswer,
+    ) -> Result<Answer, Error> {
+        let (ok, host) = match told {
+            HostAnswer::Created(host) => (true, host),
+            HostAnswer::Discarded => (true, 0),
+            HostAnswer::Failed => (false, 0),
+        };
+        let mut answer = [0; ANSWER_WORDS];
+        // SAFETY: as in `set_resource`.
+        let number = unsafe {
+            sys::jambcopper_host_answer(
+                self.record.as_mut_ptr(),
+                self.record.len(),
+                self.bitmap.as_mut_ptr(),
+                self.bitmap.len(),
+                self.table.as_mut_ptr(),
+                self.table.len(),
+                mem.as_mut_ptr(),
+                mem.len(),
+                base,
+                ok,
+                host,
+                answer.as_mut_ptr(),
+                answer.len(),
+            )
+        };
+        Answer::told(number, &answer)
+    }
+
+    /// Reads the config space from `offset` on: up to its end or the buffer's; the rest of the buffer stays.
+    pub fn read_config(&self, offset: u64, data: &mut [u8]) {
+        // SAFETY: as in `set_resource`; the record is only read.
+        let number = unsafe {
+            sys::jambcopper_read_config(
+                self.record.as_ptr(),
+                self.record.len(),
+                offset,
+                data.as_mut_ptr(),
+                data.len(),
+            )
+        };
+        debug_assert_eq!(number, 0);
+    }
+
+    /// A write of the config space, which does nothing.
+    pub fn write_config(&mut self, offset: u64, data: &[u8]) {
+        // SAFETY: as in `read_config`.
+        let number = unsafe {
+            sys::jambcopper_write_config(
+                self.record.as_ptr(),
+                self.record.len(),
+                offset,
+                data.as_ptr(),
+                data.len(),
+            )
+        };
+        debug_assert_eq!(number, 0);
+    }
+
+    /// The feature bits to offer, 32 a page.
+    pub fn get_avail_features(&self, page: u32) -> u32 {
+        match page {
+            0 => self.record[9] as u32,
+            1 => (self.record[9] >> 32) as u32,
+            _ => 0,
+        }
+    }
+
+    /// The guest address of the region; 0 until it is placed.
+    pub fn start(&self) -> u64 {
+        self.record[2]
+    }
+
+    /// The region's size in bytes.
+    pub fn region_size(&self) -> u64 {
+        self.record[3]
+    }
+
+    /// How many bytes from the start on the guest may plug.
+    pub fn usable_size(&self) -> u64 {
+        self.record[4]
+    }
+
+    /// How many bytes are plugged.
+    pub fn plugged_size(&self) -> u64 {
+        self.record[5]
+    }
+
+    /// How many bytes the guest is asked to have.
+    pub fn requested_size(&self) -> u64 {
+        self.record[6]
+    }
+
+    /// What the start must be a multiple of.
+    pub fn alignment(&self) -> u64 {
+        self.record[7]
+    }
+
+    /// How many map regions there are: so many slots does [`Device::set_resource`] take.
+    pub fn map_regions(&self) -> usize {
+        if self.record[8] == 1 {
+            self.region_size().div_ceil(MAP_REGION_SIZE) as usize
+        } else {
+            1
+        }
+    }
+
+    /// Whether the device is placed.
+    pub fn is_placed(&self) -> bool {
+        self.record[10] == 1
+    }
+
+    /// Whether a host call is pending.
+    pub fn is_pending(&self) -> bool {
+        self.record[11] != 0
+    }
+
+    /// The plugged blocks: block 8j+k is bit k of byte j.
+    pub fn bitmap(&self) -> &[u8] {
+        &self.bitmap
+    }
+}
+
+impl fmt::Debug for Device {
+    fn fmt(&self, f: &mut fmt::Formatter<'_>) -> fmt::Result {
+        f.debug_struct("Device")
+            .field("start", &self.start())
+            .field("region_size", &self.region_size())
+            .field("usable_size", &self.usable_size())
+            .field("plugged_size", &self.plugged_size())
+            .field("requested_size", &self.requested_size())
+            .field("alignment", &self.alignment())
+            .field("map_regions", &self.map_regions())
+            .field("placed", &self.is_placed())
+            .field("pending", &self.is_pending())
+            .finish_non_exhaustive()
+    }
+}

@@ -1,0 +1,99 @@
+-- The two ways through every export: what the device's call promises, as words, and 12 where there is no record. Assumes nothing.
+use Prim.Native.Nat.{ℕ, _≤_, _<_}
+use mathlib.Core.Path.{_≡_, refl, sym, ap, _∙_}
+use mathlib.Core.List.{List, []}
+use native.Mathlib.Omega.{arith}
+use lib.ListN.{length}
+use borrow.Author.Tests.{le-leb, lt-leb}
+use Rattle.units.proofs.Tests.{by-test}
+use Rattle.wire.specs.Bytes.{put}
+use Rattle.wire.proofs.Laws.{put-past}
+use Rattle.record.specs.declared.Device.{Device}
+use Rattle.step.specs.declared.Answered.{Answered}
+use Rattle.step.specs.declared.Answer.the-variants.{Refused}
+use Rattle.step.specs.World.{Outcome, Meets, worldOf, ReadConfig, WriteConfig}
+use Rattle.step.specs.Step.{step, readConfig, writeConfig}
+use Rattle.record.specs.Shape.{shapedOf}
+use Rattle.placing.specs.declared.Made.{Made}
+use Rattle.placing.specs.declared.Made.the-variants.{Device as MadeDevice, Refused as MadeRefused}
+use Rattle.words.specs.declared.Decoded.{Decoded}
+use Rattle.words.specs.declared.Decoded.the-variants.{Is, NoRecord}
+use Rattle.words.specs.Record.{wordsOf, decodedOf}
+use Rattle.words.specs.Answers.{answerWords, numberOf}
+use Rattle.words.proofs.Laws.{decoded-encodes, decoded-long}
+use Rattle.capi.specs.Exports.{madeNumber, madeWords, MadeIn, lent, Finished, Called, Exported}
+
+-- what the device's call promises, written out as words, is what the export promises
+pub served : (call : Device → Outcome) (words : List ℕ) (r : Decoded) → r ≡ decodedOf words → (d : Device) → r ≡ Is d
+    → (s : Answered) (words′ answer answer′ bitmap bitmap′ table table′ bytes bytes′ : List ℕ) (number : ℕ)
+    → Meets (call d) s bitmap′ table table′ bytes′ → Finished s words words′ answer answer′ number
+    → Exported call (lent words answer bitmap table bytes) (lent words′ answer′ bitmap′ table′ bytes′) number
+unfolding Called
+served call words r e d f s words′ answer answer′ bitmap bitmap′ table table′ bytes bytes′ number m w =
+    let is : decodedOf words ≡ Is d = sym e ∙ f in
+    let long = decoded-long words d is in
+    rw is
+    (record {
+      numbered = w .numbered ∙ ap numberOf (m .answered);
+      recorded = w .recorded ∙ ap (λ (d : Device). put words 0 (wordsOf d)) (m .recorded);
+      decodes = w .decodes long ∙ ap Is (m .recorded);
+      told = w .told ∙ ap (λ a. put answer 0 (answerWords a)) (m .answered);
+      marked = m .marked;
+      mapped = m .mapped;
+      left = m .left;
+    })
+
+-- no record: only the answer is written
+pub foreign : (call : Device → Outcome) (words : List ℕ) (r : Decoded) → r ≡ decodedOf words → r ≡ NoRecord
+    → (answer answer′ bitmap table bytes : List ℕ) (number : ℕ) → number ≡ 12
+    → answer′ ≡ put answer 0 (answerWords (Refused 12))
+    → Exported call (lent words answer bitmap table bytes) (lent words answer′ bitmap table bytes) number
+unfolding Called
+foreign call words r e f answer answer′ bitmap table bytes number n t =
+    let is : decodedOf words ≡ NoRecord = sym e ∙ f in
+    rw is (record { numbered = n; told = t; recorded = refl; marked = refl; mapped = refl; left = refl })
+
+-- a call that leaves the record as it is need not write it
+pub unwritten : (words : List ℕ) (r : Decoded) → r ≡ decodedOf words → (d : Device) → r ≡ Is d → (s : Answered)
+    → s .device ≡ d → (number : ℕ) → number ≡ numberOf (s .answer) → Finished s words words [] [] number
+unwritten words r e d f s same number n =
+    let is : decodedOf words ≡ Is d = sym e ∙ f in
+    record {
+      numbered = n;
+      recorded = sym (ap (λ (d : Device). put words 0 (wordsOf d)) same ∙ decoded-encodes words d is);
+      decodes = λ long. is ∙ sym (ap Is same);
+      told = sym (put-past [] 0 (answerWords (s .answer)) (omega arith));
+    }
+
+-- no record, and no answer slice
+pub unserved : (call : Device → Outcome) (words : List ℕ) (r : Decoded) → r ≡ decodedOf words → r ≡ NoRecord
+    → (bytes : List ℕ) → Exported call (lent words [] [] [] bytes) (lent words [] [] [] bytes) 12
+unserved call words r e f bytes =
+    foreign call words r e f [] [] [] [] bytes 12 refl (sym (put-past [] 0 (answerWords (Refused 12)) (omega arith)))
+
+-- the config's calls leave the record as it is
+pub read-keeps : (d : Device) (offset : ℕ) (buffer : List ℕ) → step (worldOf d [] []) (ReadConfig offset buffer) .world .device ≡ d
+unfolding step readConfig
+read-keeps d offset buffer = by-test (shapedOf d) (λ t. simp t) (λ t. simp t)
+
+pub write-keeps : (d : Device) (offset : ℕ) (buffer : List ℕ) → step (worldOf d [] []) (WriteConfig offset buffer) .world .device ≡ d
+unfolding step writeConfig
+write-keeps d offset buffer = by-test (shapedOf d) (λ t. simp t) (λ t. simp t)
+
+-- ---- making
+pub no-room : (words : List ℕ) (m : Made) → length words < 15 → MadeIn words m 12 words
+no-room words m h = record { numbered = simp (lt-leb _ _ h); recorded = simp (lt-leb _ _ h) }
+
+pub made-refused : (words : List ℕ) (m : Made) (number : ℕ) → 15 ≤ length words → (r : Made) → r ≡ m → r ≡ MadeRefused number
+    → MadeIn words m number words
+unfolding madeNumber madeWords
+made-refused words m number h r e f =
+    let is : m ≡ MadeRefused number = sym e ∙ f in
+    rw is (record { numbered = simp (le-leb _ _ h); recorded = simp (le-leb _ _ h) })
+
+pub made-device : (words : List ℕ) (m : Made) (d : Device) → 15 ≤ length words → (r : Made) → r ≡ m → r ≡ MadeDevice d
+    → (words′ : List ℕ) → words′ ≡ put words 0 (wordsOf d) → MadeIn words m 0 words′
+unfolding madeNumber madeWords
+made-device words m d h r e f words′ w =
+    let is : m ≡ MadeDevice d = sym e ∙ f in
+    rw is (record { numbered = simp (le-leb _ _ h); recorded = simp (le-leb _ _ h) w })

@@ -1,0 +1,43 @@
+-- `capi::jambcopper_write_config` meets its contract: 12 where there is no record, else the device's call, which leaves the record as it is. Assumes nothing.
+use mathlib.Core.Path.{_∙_}
+use Rattle.capi.proofs.Ways.{unserved, served, unwritten, write-keeps}
+use borrow.Author.Needs.{needs}
+use Rattle.capi.proofs.jambcopper_write_config.Statement.{statement}
+use Rattle.capi.proofs.jambcopper_write_config.Tie as tie
+
+decode-requires : tie.Need-decode-requires
+decode-requires c κs = search needs
+
+enum-known-d : tie.Need-enum-known-d
+enum-known-d c = search needs
+
+enum-told : tie.Need-enum-told
+enum-told c = search needs
+
+returns : tie.Need-returns
+returns c = unserved _ _ _ (c .before .before .decode .ensures) (c .enum-told .given .1) _
+
+write-config-requires : tie.Need-write-config-requires
+write-config-requires c κs = search needs
+
+number-of-requires : tie.Need-number-of-requires
+number-of-requires c κs = search needs
+
+returns-2 : tie.Need-returns-2
+returns-2 c =
+    let e = c .before .before .before .before .before .decode .ensures in
+    let f = c .before .before .before .d .given .1 in
+    let m = c .before .write-config .ensures in
+    served _ _ _ e _ f _ _ _ _ _ _ _ _ _ _ _ m (unwritten _ _ e _ f _ (m .recorded ∙ write-keeps _ _ _) _ (c .number-of .ensures))
+
+pub jambcopper-write-config-spec : {M : Type 1} → statement M
+jambcopper-write-config-spec =
+    tie.close
+    (tie.spec
+    decode-requires
+    enum-known-d
+    enum-told
+    returns
+    write-config-requires
+    number-of-requires
+    returns-2)
