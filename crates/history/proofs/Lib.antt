@@ -10,4 +10,6 @@ pub mod SizeChange
 pub mod Whole
 pub mod HostCalls
 pub mod Example
+pub mod Standard
+pub mod StandardRuns
 pub mod Newly
