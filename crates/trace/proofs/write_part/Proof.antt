@@ -1,12 +1,13 @@
 -- `trace::write_part` is safe: the part that it lends is as long as it says. Assumes nothing.
+use mathlib.Core.Path.{sym}
+use lib.Seq.{length-take-le}
 use native.Mathlib.Omega.{arith}
 use borrow.Author.Needs.{needs}
-use Rattle.trace.proofs.Parts.{part-length}
 use Rattle.trace.proofs.write_part.Statement.{statement}
 use Rattle.trace.proofs.write_part.Tie as tie
 
 slice-aggregate-write-all : tie.Need-slice-aggregate-write-all
-slice-aggregate-write-all c = part-length _ _ (omega arith)
+slice-aggregate-write-all c = sym (length-take-le _ _ (omega arith))
 
 write-all-requires : tie.Need-write-all-requires
 write-all-requires c κs = search needs
