@@ -5,11 +5,13 @@ use mathlib.Core.Bool.{Bool, true, false}
 use mathlib.Core.List.{List}
 use lib.ListN.{length}
 use Rattle.units.specs.Numbers.{bytesOf}
+use Rattle.units.specs.declared.GuestAddr.{GuestAddr}
 use Rattle.bitmap.specs.Blocks.{blockAt}
 use Rattle.bitmap.proofs.Laws.{at-inside, at-before, at-after}
 use Rattle.wire.specs.declared.VirtioMemResp.{VirtioMemResp}
+use Rattle.record.specs.declared.Pending.the-variants.{Discard}
 use Rattle.step.specs.World.{World, Guest}
-use Rattle.step.specs.Step.{blockSize, plugged, refused, served, plugs, unplugs, stops, endsAll}
+use Rattle.step.specs.Step.{blockSize, plugged, refused, served, plugs, unplugs, stops, endsAll, hostAnswer}
 
 module _ (w : World) (first count status : ℕ) (g : Guest) where
   -- ---- an acknowledged plug sets exactly its blocks, and adds their size
@@ -53,3 +55,8 @@ failure-takes-nothing w status g = (refl, refl, refl)
 -- ---- "If all succeed, plugged size is 0, usable stays"
 pub all-leaves-none : (w : World) (status : ℕ) (g : Guest) → (plugged (endsAll w status g .world) ≡ 0) × (endsAll w status g .world .device .config .«usable_region_size» ≡ w .device .config .«usable_region_size»)
 all-leaves-none w status g = (refl, refl)
+
+-- ---- "The request and status address are read once, before any host call": the answer to a discard reads neither from guest memory
+pub answer-reads-no-request : (first count host : ℕ) (status : GuestAddr) (w : World) (g : Guest) → hostAnswer (Discard first count status) w g true host ≡ unplugs w first count (status .0) g
+unfolding hostAnswer
+answer-reads-no-request first count host status w g = refl
