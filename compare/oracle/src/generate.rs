@@ -10,7 +10,7 @@ use std::rc::Rc;
 
 use crate::host::Answer;
 use crate::random::Random;
-use crate::rust::{Config, BLOCK, MAP_REGION};
+use crate::rust::{Config, Rust, BLOCK, MAP_REGION};
 use crate::trace::{First, Op, Outcome, Run, Want, MAX_SLOT};
 
 const MIB: u64 = 1 << 20;
@@ -69,30 +69,39 @@ struct Host {
 impl Host {
     fn answer(&mut self, want: Want) -> Answer {
         self.trace.output.push(want.to_string());
-        let (ok, addr, kind) = match want {
-            Want::Create { size, .. } => {
-                let rows = size.div_ceil(MAP_REGION);
-                let highest = u64::MAX - (rows * MAP_REGION).max(size);
-                let addr = self.random.pick(&[
-                    140_737_488_355_328,
-                    140_737_488_355_328 + 3 * GIB,
-                    4096,
-                    0,
-                    1,
-                    highest,
-                    highest - 4095,
-                ]);
-                (!self.random.chance(12), addr, format!("create {rows}"))
-            }
-            Want::Discard { .. } => {
-                let addr = self.random.pick(&[0, 0, 0, 4096, u64::MAX]);
-                (!self.random.chance(15), addr, "discard".to_string())
-            }
+        let kind = match want {
+            Want::Create { size, .. } => format!("create {}", size.div_ceil(MAP_REGION)),
+            Want::Discard { .. } => "discard".to_string(),
         };
+        let (ok, addr) = host_answer(&mut self.random, want);
         let line = Op::Host { ok, addr };
         self.trace.input.push(line.to_string());
         self.asked += &format!("{kind} {} ", u8::from(ok));
         ok.then_some(addr)
+    }
+}
+
+/// A host's answer: success or not, and a host address that the mapping fits behind.
+pub fn host_answer(random: &mut Random, want: Want) -> (bool, u64) {
+    match want {
+        Want::Create { size, .. } => {
+            let rows = size.div_ceil(MAP_REGION);
+            let highest = u64::MAX - (rows * MAP_REGION).max(size);
+            let addr = random.pick(&[
+                140_737_488_355_328,
+                140_737_488_355_328 + 3 * GIB,
+                4096,
+                0,
+                1,
+                highest,
+                highest - 4095,
+            ]);
+            (!random.chance(12), addr)
+        }
+        Want::Discard { .. } => {
+            let addr = random.pick(&[0, 0, 0, 4096, u64::MAX]);
+            (!random.chance(15), addr)
+        }
     }
 }
 
@@ -110,7 +119,7 @@ pub fn trace(seed: u64, limits: Limits) -> Trace {
     let mut first = first_line(&mut random);
     let made = Run::make(&first, answers);
     if let Ok(mut run) = made {
-        first.addr = start(&mut random, &mut run);
+        first.addr = start(&mut random, &mut run.device);
         host.borrow_mut().trace.input.push(first.to_string());
         drive(&mut random, &first, run, &host, limits);
     } else if let Err(refused) = made {
@@ -135,7 +144,7 @@ fn drive(random: &mut Random, first: &First, mut run: Run, host: &RefCell<Host>,
     }
     let mut before = String::new();
     for done in 0..1 + random.below(limits.ops) {
-        let (op, kind) = next_op(random, &mut run, limits, done < 2);
+        let (op, kind) = next_op(random, &mut run.device, limits, done < 2);
         host.borrow_mut().trace.input.push(op.to_string());
         host.borrow_mut().asked.clear();
         let old = run.device.config();
@@ -183,7 +192,7 @@ fn note(host: &RefCell<Host>, outcome: &Outcome, kind: String) -> String {
     format!("{op} {} {answer}", host.asked)
 }
 
-fn first_line(random: &mut Random) -> First {
+pub fn first_line(random: &mut Random) -> First {
     let boot = match random.below(3) {
         0 => GIB,
         1 => random.pick(&[
@@ -259,9 +268,9 @@ fn first_line(random: &mut Random) -> First {
 }
 
 /// A start that 01 takes: aligned, and with room for the region or for its rows.
-fn start(random: &mut Random, run: &mut Run) -> u64 {
-    let (alignment, slots) = run.device.requirements();
-    let region = run.device.config().region;
+pub fn start(random: &mut Random, device: &mut Rust) -> u64 {
+    let (alignment, slots) = device.requirements();
+    let region = device.config().region;
     let span = match slots {
         1 => region,
         _ => slots as u64 * MAP_REGION,
@@ -282,10 +291,15 @@ fn start(random: &mut Random, run: &mut Run) -> u64 {
 }
 
 /// Any line; one of the early ones is mostly a plug that succeeds, so that there is something to unplug.
-fn next_op(random: &mut Random, run: &mut Run, limits: Limits, early: bool) -> (Op, String) {
-    let config = run.device.config();
-    let blocks = run.device.blocks();
-    let set: Vec<usize> = (0..blocks.len()).filter(|&i| blocks[i]).collect();
+pub fn next_op(
+    random: &mut Random,
+    device: &mut Rust,
+    limits: Limits,
+    early: bool,
+) -> (Op, String) {
+    let config = device.config();
+    let blocks = device.blocks();
+    let set = plugged_blocks(&blocks);
     let choice = match early && random.chance(50) {
         true => 20,
         false => random.below(100),
@@ -311,12 +325,22 @@ fn next_op(random: &mut Random, run: &mut Run, limits: Limits, early: bool) -> (
             let most = set.len().min(3);
             (Op::UnplugAll, format!("unplug_all {most}"))
         }
-        _ => size(random, run, &config),
+        _ => size(random, device, &config),
     }
 }
 
-fn size(random: &mut Random, run: &mut Run, config: &Config) -> (Op, String) {
-    let (alignment, _) = run.device.requirements();
+/// The plugged blocks, lowest first; stretches without one are passed over at once.
+fn plugged_blocks(blocks: &[bool]) -> Vec<usize> {
+    let stretches = blocks.chunks(64).zip((0..).step_by(64));
+    let some = stretches.filter(|(stretch, _)| stretch.iter().fold(false, |any, &b| any | b));
+    some.flat_map(|(stretch, first)| (first..).zip(stretch))
+        .filter(|&(_, &plugged)| plugged)
+        .map(|(block, _)| block)
+        .collect()
+}
+
+fn size(random: &mut Random, device: &mut Rust, config: &Config) -> (Op, String) {
+    let (alignment, _) = device.requirements();
     let (requested, region) = (config.requested / MIB, config.region / MIB);
     let extent = 2 * alignment / MIB;
     // The size whose usable end is a 2 GiB border.

@@ -58,6 +58,15 @@ pub struct Rust {
     guest: Option<Guest>,
 }
 
+/// The queue of a guest.
+pub fn queue(guest: &Guest) -> QueueSync {
+    let mut queue = QueueSync::new(QUEUE_SIZE);
+    queue.set_desc_table_address(GuestAddress(guest.table));
+    queue.set_rings(GuestAddress(AVAIL), GuestAddress(USED));
+    queue.set_ready(true);
+    queue
+}
+
 /// The trait with its parameters, so that calls need not name them.
 trait Device: VirtioDevice<Space, QueueSync, GuestRegionMmap> {}
 impl Device for Mem<Space> {}
@@ -163,10 +172,7 @@ impl Rust {
 
     /// Binds the guest's memory and a queue of 128. False where mem.rs refuses.
     pub fn activate(&mut self, guest: Guest) -> bool {
-        let mut queue = QueueSync::new(QUEUE_SIZE);
-        queue.set_desc_table_address(GuestAddress(guest.table));
-        queue.set_rings(GuestAddress(AVAIL), GuestAddress(USED));
-        queue.set_ready(true);
+        let queue = queue(&guest);
         let config = VirtioDeviceConfig {
             vm_as: guest.memory.clone(),
             queues: vec![VirtioQueueConfig {
@@ -191,15 +197,21 @@ impl Rust {
     /// Wakes the device for one head of the available ring; gives its element of the used ring.
     pub fn serve(&mut self, head: u16) -> (u32, u32) {
         self.guest().make_available(head);
+        self.wake();
+        self.guest().last_used()
+    }
+
+    /// Wakes the device as its event loop would.
+    pub fn wake(&mut self) {
         self.epoll.with_last(|handler| {
             let events = Events::with_data(&EventFd, 0, EventSet::IN);
             handler.process(events, &mut EventOps)
         });
-        self.guest().last_used()
     }
 
-    /// One request through a chain of two descriptors, its 24 bytes and 10 bytes after the table.
-    pub fn request(&mut self, kind: u16, addr: u64, blocks: u16) -> Served {
+    /// Writes a request as a chain of two descriptors, its 24 bytes and 10 bytes after the table;
+    /// gives where those two lie.
+    pub fn write_request(&mut self, kind: u16, addr: u64, blocks: u16) -> (u64, u64) {
         let guest = self.guest();
         let (req, resp) = (guest.table + 2048, guest.table + 2048 + 32);
         let first = Descriptor {
@@ -218,6 +230,12 @@ impl Rust {
         guest.describe(1, second);
         guest.write(req, &request(kind, addr, blocks));
         guest.write(resp, &[0xee; 10]);
+        (req, resp)
+    }
+
+    /// One request, written and served.
+    pub fn request(&mut self, kind: u16, addr: u64, blocks: u16) -> Served {
+        let (_, resp) = self.write_request(kind, addr, blocks);
         let (_, length) = self.serve(0);
         let bytes = self.guest().read(resp, 10);
         Served {
@@ -238,7 +256,12 @@ impl Rust {
 
     /// Each block's state: true is plugged.
     pub fn blocks(&self) -> Vec<bool> {
-        self.with_handler(|handler| handler.mem_state.clone())
+        self.with_blocks(|blocks| blocks.to_vec())
+    }
+
+    /// The same, lent to `f`.
+    pub fn with_blocks<T>(&self, f: impl FnOnce(&[bool]) -> T) -> T {
+        self.with_handler(|handler| f(&handler.mem_state))
     }
 
     /// Each row's slot and host address.

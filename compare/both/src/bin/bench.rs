@@ -1,0 +1,411 @@
+//! mem.rs and the proved device on the same requests, in instructions and in time; see `--help`.
+
+use std::arch::asm;
+use std::env;
+use std::fs;
+use std::hint::black_box;
+use std::process::{exit, Command};
+use std::time::Instant;
+
+use both::proved::Proved;
+use oracle::guest::Guest;
+use oracle::host::answering;
+use oracle::rust::{queue, Rust, BLOCK, PLUG, STATE, UNPLUG, UNPLUG_ALL};
+use oracle::stand_ins::virtio_queue::{QueueOwnedT, QueueT};
+use oracle::trace::First;
+
+const HELP: &str = "\
+bench FILE SVG      measures, and writes the table into FILE and the plot as SVG
+bench SIDE ROW      one row of one side, for callgrind: SIDE is mem.rs or proved";
+
+/// 1 TiB in a single region at 4 GiB, all of it requested.
+const FIRST: &str = "capacity_mib=1048576 requested_mib=1048576 multi=0 node=none boot=1073741824 addr=4294967296 slot=1";
+const START: u64 = 4 << 30;
+const HOST: u64 = 140_737_488_355_328;
+
+/// Guest memory, the table at its start.
+const BASE: u64 = 4096;
+const LENGTH: usize = 4096;
+
+/// What is measured: a request, a config read, or the queue that mem.rs is served by.
+#[derive(Clone, Copy)]
+enum What {
+    Request(u16, u16),
+    Config(usize),
+    Queue,
+}
+
+struct Row {
+    name: &'static str,
+    what: What,
+    /// Blocks that are plugged before each measurement.
+    plugged: u64,
+    repeat: u32,
+}
+
+const fn row(name: &'static str, what: What, plugged: u64, repeat: u32) -> Row {
+    Row {
+        name,
+        what,
+        plugged,
+        repeat,
+    }
+}
+
+const ROWS: [Row; 13] = [
+    row("plug of 1 block", What::Request(PLUG, 1), 0, 201),
+    row("unplug of 1 block", What::Request(UNPLUG, 1), 1, 201),
+    row("plug of 512 blocks", What::Request(PLUG, 512), 0, 51),
+    row("unplug of 512 blocks", What::Request(UNPLUG, 512), 512, 51),
+    row("plug of 16,384 blocks", What::Request(PLUG, 16384), 0, 11),
+    row(
+        "unplug of 16,384 blocks",
+        What::Request(UNPLUG, 16384),
+        16384,
+        11,
+    ),
+    row("state of 1 block", What::Request(STATE, 1), 0, 201),
+    row("state of 65,535 blocks", What::Request(STATE, 65535), 0, 11),
+    row(
+        "unplug-all of 1 TiB, one block plugged",
+        What::Request(UNPLUG_ALL, 0),
+        1,
+        5,
+    ),
+    row(
+        "unplug-all of 1 TiB, all plugged",
+        What::Request(UNPLUG_ALL, 0),
+        262_144,
+        3,
+    ),
+    row("config read of 8 bytes", What::Config(8), 0, 201),
+    row("config read of 56 bytes", What::Config(56), 0, 201),
+    row("queue", What::Queue, 0, 201),
+];
+
+/// Measures a stretch: callgrind collects in it alone, or its nanoseconds are kept.
+#[derive(Default)]
+struct Meter {
+    callgrind: bool,
+    nanoseconds: Vec<u64>,
+}
+
+impl Meter {
+    fn measure<T>(&mut self, call: impl FnOnce() -> T) -> T {
+        if self.callgrind {
+            toggle_collect();
+            let out = black_box(call());
+            toggle_collect();
+            return out;
+        }
+        let began = Instant::now();
+        let out = black_box(call());
+        self.nanoseconds.push(began.elapsed().as_nanos() as u64);
+        out
+    }
+
+    /// What a call takes that nothing else on the machine held up.
+    fn least(&self) -> u64 {
+        *self
+            .nanoseconds
+            .iter()
+            .min()
+            .expect("something was measured")
+    }
+}
+
+/// Callgrind's client request CALLGRIND_TOGGLE_COLLECT; nothing outside of valgrind.
+fn toggle_collect() {
+    let request = [
+        (u64::from(b'C') << 24 | u64::from(b'T') << 16) + 2,
+        0,
+        0,
+        0,
+        0,
+        0,
+    ];
+    // SAFETY: the sequence turns rdi around to where it was; valgrind alone reads the request.
+    unsafe {
+        asm!(
+            "rol rdi, 3", "rol rdi, 13", "rol rdi, 61", "rol rdi, 51", "xchg rbx, rbx",
+            in("rax") request.as_ptr(), inout("rdx") 0u64 => _, inout("rdi") 0u64 => _,
+        );
+    }
+}
+
+/// A device of either side, placed, with its guest's memory.
+enum Side {
+    MemRs(Rust),
+    Proved(Proved, Rust),
+}
+
+impl Side {
+    /// The proved side keeps a device of mem.rs too, for no more than to write its requests.
+    fn new(proved: bool) -> Side {
+        let first = First::parse(FIRST).expect("in the house form");
+        let mut rust = Rust::make(
+            first.capacity_mib,
+            first.requested_mib,
+            false,
+            None,
+            first.boot,
+        )
+        .expect("made");
+        answering(|_| Some(HOST), || rust.place_at(START, 1)).expect("placed");
+        assert!(rust.activate(Guest::new(BASE, LENGTH, BASE).expect("a small range")));
+        if !proved {
+            return Side::MemRs(rust);
+        }
+        let mut device = Proved::make(&first).expect("made");
+        device.place(START, device.region(), &[1]);
+        assert!(device.host_answer(&mut [], 0, true, HOST).sized());
+        Side::Proved(device, rust)
+    }
+
+    /// One request, measured from the chain to its response, with a host that does all it is asked.
+    fn request(&mut self, kind: u16, addr: u64, blocks: u16, meter: &mut Meter) {
+        let (Side::MemRs(rust) | Side::Proved(_, rust)) = self;
+        let (_, at) = rust.write_request(kind, addr, blocks);
+        let response = match self {
+            Side::MemRs(rust) => {
+                rust.guest().make_available(0);
+                answering(|_| Some(0), || meter.measure(|| rust.wake()));
+                rust.guest().read(at, 10)
+            }
+            Side::Proved(device, rust) => {
+                let mut memory = rust.guest().read(BASE, LENGTH);
+                meter.measure(|| {
+                    let mut told = device.request(&mut memory, BASE, BASE, 0);
+                    while told.words[0] == 2 {
+                        told = device.host_answer(&mut memory, BASE, true, 0);
+                    }
+                });
+                memory[(at - BASE) as usize..][..10].to_vec()
+            }
+        };
+        assert_eq!(response[..2], [0, 0], "acknowledged");
+    }
+
+    /// The row's calls, `repeat` times after one that is not measured.
+    fn run(&mut self, row: &Row, meter: &mut Meter) {
+        let mut off = Meter::default();
+        for turn in 0..=row.repeat {
+            let meter = if turn == 0 { &mut off } else { &mut *meter };
+            self.turn(row, meter);
+        }
+    }
+
+    fn turn(&mut self, row: &Row, meter: &mut Meter) {
+        let mut off = Meter::default();
+        for first in (0..row.plugged).step_by(16384) {
+            let blocks = (row.plugged - first).min(16384) as u16;
+            self.request(PLUG, START + first * BLOCK, blocks, &mut off);
+        }
+        match (row.what, &mut *self) {
+            (What::Request(kind, blocks), _) => self.request(kind, START, blocks, meter),
+            (What::Config(length), Side::MemRs(rust)) => {
+                let data = &mut [0; 56][..length];
+                meter.measure(|| rust.read_config(0, data));
+            }
+            (What::Config(length), Side::Proved(device, _)) => {
+                let data = &mut [0; 56][..length];
+                meter.measure(|| device.read_config(0, data));
+            }
+            (What::Queue, Side::MemRs(rust) | Side::Proved(_, rust)) => {
+                let mut queue = queue(rust.guest());
+                let mut guest = Guest::new(BASE, LENGTH, BASE).expect("a small range");
+                guest.make_available(0);
+                let memory = guest.memory.clone();
+                meter
+                    .measure(|| {
+                        let mut guard = queue.lock();
+                        let mut available = guard.iter(&*memory).expect("ready");
+                        let head = available.next().expect("one").head_index();
+                        drop(guard);
+                        queue.add_used(&*memory, head, 10)
+                    })
+                    .expect("used");
+            }
+        }
+        if let What::Request(PLUG, blocks) = row.what {
+            self.request(UNPLUG, START, blocks, &mut off);
+        }
+    }
+}
+
+/// A row's figures: instructions and nanoseconds of a call.
+#[derive(Clone, Copy)]
+struct Figures {
+    instructions: u64,
+    nanoseconds: u64,
+}
+
+fn main() {
+    let args: Vec<String> = env::args().skip(1).collect();
+    let args: Vec<&str> = args.iter().map(|arg| arg.as_str()).collect();
+    match args[..] {
+        [side @ ("mem.rs" | "proved"), name] => {
+            let mut meter = Meter {
+                callgrind: true,
+                ..Meter::default()
+            };
+            Side::new(side == "proved").run(find(name), &mut meter);
+        }
+        [file, svg] => write(file, svg),
+        _ => {
+            eprintln!("{HELP}");
+            exit(2)
+        }
+    }
+}
+
+fn find(name: &str) -> &'static Row {
+    let found = ROWS.iter().find(|row| row.name == name);
+    found.unwrap_or_else(|| panic!("no row {name}"))
+}
+
+/// Runs a row twice: under callgrind, and by the clock.
+fn figures(row: &Row, proved: bool) -> Figures {
+    let (mut meter, mut clock) = (Meter::default(), Meter::default());
+    Side::new(proved).run(row, &mut meter);
+    for _ in 0..200 {
+        clock.measure(|| ());
+    }
+    Figures {
+        instructions: collected(row, proved) / u64::from(row.repeat),
+        nanoseconds: meter.least() - clock.least(),
+    }
+}
+
+/// The instructions that callgrind collects.
+fn collected(row: &Row, proved: bool) -> u64 {
+    let program = env::current_exe().expect("this program");
+    let output = Command::new("valgrind")
+        .args([
+            "--tool=callgrind",
+            "--collect-atstart=no",
+            "--callgrind-out-file=/dev/null",
+        ])
+        .arg(program)
+        .args([if proved { "proved" } else { "mem.rs" }, row.name])
+        .output()
+        .expect("valgrind is there");
+    let said = String::from_utf8_lossy(&output.stderr);
+    let line = said
+        .lines()
+        .find_map(|line| line.split_once("Collected : "));
+    let number = line.and_then(|(_, number)| number.trim().parse().ok());
+    number.unwrap_or_else(|| panic!("callgrind says no number:\n{said}"))
+}
+
+const HEAD: &str = "\
+| call | mem.rs, instructions | proved, instructions | ratio | ratio with the queue | mem.rs, ns | proved, ns | ratio |
+|---|---:|---:|---:|---:|---:|---:|---:|
+";
+
+/// The table and the plot. What the queue costs is taken off the requests of mem.rs.
+fn write(file: &str, svg: &str) {
+    let queue = figures(find("queue"), false);
+    let mut table = HEAD.to_string();
+    let mut bars = Vec::new();
+    for row in &ROWS[..ROWS.len() - 1] {
+        let (mut rust, proved) = (figures(row, false), figures(row, true));
+        let mut around = 0;
+        if let What::Request(..) = row.what {
+            around = queue.instructions;
+            rust.instructions -= queue.instructions;
+            rust.nanoseconds = rust.nanoseconds.saturating_sub(queue.nanoseconds).max(1);
+        }
+        let ratio = |proved: u64, rust: u64| proved as f64 / rust as f64;
+        let instructions = ratio(proved.instructions, rust.instructions);
+        table += &format!(
+            "| {} | {} | {} | {instructions:.2} | {:.2} | {} | {} | {:.2} |\n",
+            row.name,
+            grouped(rust.instructions),
+            grouped(proved.instructions),
+            ratio(proved.instructions + around, rust.instructions + around),
+            grouped(rust.nanoseconds),
+            grouped(proved.nanoseconds),
+            ratio(proved.nanoseconds, rust.nanoseconds),
+        );
+        println!("{}: {instructions:.2}", row.name);
+        bars.push((row.name, instructions));
+    }
+    table += &format!(
+        "\nThe queue's share, {} instructions and {} ns, is taken off the requests of mem.rs.\n\n{}",
+        queue.instructions,
+        queue.nanoseconds,
+        memory()
+    );
+    let text = fs::read_to_string(file).unwrap_or_else(|e| panic!("{file}: {e}"));
+    let (begin, end) = ("<!-- measured -->\n", "<!-- end -->");
+    let (before, rest) = text.split_once(begin).expect("a place for the table");
+    let (_, after) = rest.split_once(end).expect("the table's end");
+    fs::write(file, format!("{before}{begin}{table}{end}{after}")).expect("written");
+    fs::write(svg, plot(&bars)).expect("written");
+}
+
+/// What a device of 1 TiB keeps: its bitmap, and its rows where it has several regions.
+fn memory() -> String {
+    let Side::Proved(device, rust) = Side::new(true) else {
+        unreachable!("asked for")
+    };
+    let bitmaps = (rust.with_blocks(<[bool]>::len), device.bitmap().len());
+    // mem.rs keeps slot, and host and guest address where mapped; the proved device three words.
+    let rows = (512 * size_of::<(u32, Option<(u64, u64)>)>(), 512 * 3 * 8);
+    let mut table =
+        "| memory of 1 TiB, bytes | mem.rs | proved | ratio |\n|---|---:|---:|---:|\n".to_string();
+    for (name, (rust, proved)) in [("bitmap", bitmaps), ("rows of 512 map regions", rows)] {
+        table += &format!(
+            "| {name} | {} | {} | {:.3} |\n",
+            grouped(rust as u64),
+            grouped(proved as u64),
+            proved as f64 / rust as f64
+        );
+    }
+    table
+}
+
+/// A number with a comma at each thousand.
+fn grouped(number: u64) -> String {
+    let digits = number.to_string();
+    let groups: Vec<&str> = digits
+        .as_bytes()
+        .rchunks(3)
+        .rev()
+        .map(|group| std::str::from_utf8(group).expect("digits"))
+        .collect();
+    groups.join(",")
+}
+
+/// Bars of the ratios, with a line at 1.
+fn plot(bars: &[(&str, f64)]) -> String {
+    let longest = bars.iter().map(|bar| bar.1).fold(1.0, f64::max);
+    let (left, width, step) = (260.0, 360.0, 22.0);
+    let x = |ratio: f64| left + width * ratio / longest;
+    let height = step * bars.len() as f64 + 30.0;
+    let mut svg = format!("<svg xmlns=\"http://www.w3.org/2000/svg\" viewBox=\"0 0 680 {height}\" font-family=\"sans-serif\" font-size=\"12\">\n<rect width=\"680\" height=\"{height}\" fill=\"white\"/>\n");
+    for (i, &(name, ratio)) in bars.iter().enumerate() {
+        let y = step * i as f64 + 6.0;
+        let colour = if ratio <= 1.0 { "#4a7" } else { "#c74" };
+        svg += &format!(
+            "<text x=\"{}\" y=\"{}\" text-anchor=\"end\">{name}</text>\n",
+            left - 8.0,
+            y + 12.0
+        );
+        svg += &format!(
+            "<rect x=\"{left}\" y=\"{y}\" width=\"{:.1}\" height=\"16\" fill=\"{colour}\"/>\n",
+            x(ratio) - left
+        );
+        svg += &format!(
+            "<text x=\"{:.1}\" y=\"{}\">{ratio:.2}</text>\n",
+            x(ratio) + 4.0,
+            y + 12.0
+        );
+    }
+    let (one, bottom) = (x(1.0), height - 22.0);
+    svg +=
+        &format!("<path d=\"M{one:.1} 0V{bottom}\" stroke=\"black\" stroke-dasharray=\"3 3\"/>\n");
+    svg += &format!("<text x=\"{one:.1}\" y=\"{}\" text-anchor=\"middle\">1.0 = mem.rs (instructions)</text>\n</svg>\n", height - 6.0);
+    svg
+}

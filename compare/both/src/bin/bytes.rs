@@ -1,0 +1,329 @@
+//! Raw random bytes through every export of the static library; run it under valgrind.
+//!
+//! Each slice is a block of the heap of just its own length, so that memcheck sees a byte read or
+//! written outside. A call that is refused must leave every slice but the answer as it was.
+//! `bytes SEED SECONDS` runs until the time is over.
+
+use std::env;
+use std::process::exit;
+use std::time::{Duration, Instant};
+
+use both::sys;
+use oracle::guest::request;
+use oracle::random::Random;
+
+const MIB: u64 = 1 << 20;
+const GIB: u64 = 1 << 30;
+
+/// Guest memory begins here where it is not anywhere.
+const BASE: u64 = 4096;
+
+fn main() {
+    let args: Option<Vec<u64>> = env::args().skip(1).map(|arg| arg.parse().ok()).collect();
+    let Some(&[seed, seconds]) = args.as_deref() else {
+        eprintln!("bytes SEED SECONDS");
+        exit(2)
+    };
+    let mut random = Random::new(seed);
+    let began = Instant::now();
+    let mut numbers = [[0u64; 13]; 7];
+    let mut calls = 0;
+    while began.elapsed() < Duration::from_secs(seconds) {
+        let mut lent = Lent::any(&mut random);
+        for _ in 0..8 {
+            let before = lent.clone();
+            let (export, number) = lent.call(&mut random);
+            assert!(number <= 12, "{export}: {number}");
+            if number != 0 && number != 10 {
+                lent.answer.clone_from(&before.answer);
+                assert!(
+                    lent == before,
+                    "{export}: refused, and yet something changed"
+                );
+            }
+            numbers[export][number as usize] += 1;
+            calls += 1;
+        }
+    }
+    println!("{calls} calls from seed {seed}; by export, how many gave 0 to 12:");
+    let names = [
+        "make",
+        "place",
+        "size",
+        "request",
+        "host_answer",
+        "read_config",
+        "write_config",
+    ];
+    for (name, numbers) in names.iter().zip(numbers) {
+        println!("{name:13} {numbers:?}");
+    }
+}
+
+/// A number at an edge, a small one, or any.
+fn number(random: &mut Random) -> u64 {
+    let any = random.next();
+    let small = any % 600;
+    let edges = [
+        0,
+        1,
+        2,
+        3,
+        4 * MIB,
+        128 * MIB,
+        256 * MIB,
+        2 * GIB,
+        GIB << 10,
+        4 * GIB,
+        BASE,
+        1 << 63,
+        u64::MAX,
+        u64::MAX - 4 * MIB + 1,
+    ];
+    match any >> 62 {
+        0 => any,
+        1 => small,
+        2 => small.wrapping_mul(4 * MIB),
+        _ => random.pick(&edges),
+    }
+}
+
+fn length(random: &mut Random, right: usize) -> usize {
+    let any = random.below(64) as usize;
+    random.pick(&[
+        right,
+        right,
+        right,
+        right,
+        right.saturating_sub(1),
+        right + 3,
+        0,
+        any,
+    ])
+}
+
+fn bytes(random: &mut Random, length: usize) -> Box<[u8]> {
+    let shape = random.below(3);
+    (0..length)
+        .map(|_| match shape {
+            0 => 0,
+            1 => 0xff,
+            _ => random.next() as u8,
+        })
+        .collect()
+}
+
+fn words(random: &mut Random, length: usize) -> Box<[u64]> {
+    (0..length).map(|_| number(random)).collect()
+}
+
+/// Everything that is lent, each as a block of the heap of its own.
+#[derive(Clone, PartialEq, Eq)]
+struct Lent {
+    record: Box<[u64]>,
+    bitmap: Box<[u8]>,
+    table: Box<[u64]>,
+    memory: Box<[u8]>,
+    answer: Box<[u64]>,
+    slots: Box<[u32]>,
+}
+
+impl Lent {
+    /// A record that is good, good but for a word or two, or of any words; and slices to it.
+    fn any(random: &mut Random) -> Lent {
+        let mut record = words(random, 15);
+        let capacity = random.pick(&[256, 512, 2048, 2304, 4096, 8192]);
+        let multi = random.chance(50);
+        // SAFETY: here and below, each pointer and length is one live slice, and no two overlap.
+        unsafe {
+            let requested = 4 * random.below(1 + capacity / 4);
+            sys::jambcopper_make(
+                record.as_mut_ptr(),
+                record.len(),
+                capacity,
+                requested,
+                multi,
+                random.chance(50),
+                random.next() as u16,
+                number(random),
+            );
+        }
+        let blocks = record[3] / (4 * MIB);
+        let rows = match record[8] {
+            1 => record[3].div_ceil(2 * GIB),
+            _ => 1,
+        };
+        match random.below(8) {
+            0 => record = words(random, 15),
+            1 => {
+                let short = length(random, 15);
+                record = record[..short.min(15)].into();
+            }
+            2 => {
+                // As if placed, with its bits and rows as they come.
+                record[2] = 4 * GIB;
+                record[4] = record[3];
+                record[10] = 1;
+            }
+            _ => (),
+        }
+        for _ in 0..random.pick(&[0, 0, 0, 0, 1, 2]) {
+            let at = random.below(15) as usize;
+            if let Some(word) = record.get_mut(at) {
+                *word = number(random);
+            }
+        }
+        let bitmap = length(random, blocks.div_ceil(8) as usize);
+        let table = length(random, 3 * rows as usize);
+        let answer = length(random, 9);
+        let slots = random.pick(&[rows, rows, rows, rows + 1, 0]);
+        Lent {
+            record,
+            bitmap: bytes(random, bitmap),
+            table: words(random, table),
+            memory: guest(random),
+            answer: words(random, answer),
+            slots: (0..slots).map(|_| random.next() as u32).collect(),
+        }
+    }
+
+    /// One export with whatever comes; gives which one, and its number.
+    fn call(&mut self, random: &mut Random) -> (usize, u64) {
+        let Lent {
+            record,
+            bitmap,
+            table,
+            memory,
+            answer,
+            slots,
+        } = self;
+        let base = random.pick(&[BASE, BASE, BASE, BASE, 0, u64::MAX - 511, u64::MAX]);
+        let (any, other) = (number(random), number(random));
+        let export = random.pick(&[0, 1, 1, 2, 3, 3, 3, 4, 4, 4, 5, 6]);
+        let number = unsafe {
+            match export {
+                0 => {
+                    let mut record = words(random, record.len());
+                    sys::jambcopper_make(
+                        record.as_mut_ptr(),
+                        record.len(),
+                        any,
+                        other,
+                        random.chance(50),
+                        random.chance(50),
+                        any as u16,
+                        number(random),
+                    )
+                }
+                1 => sys::jambcopper_place(
+                    record.as_mut_ptr(),
+                    record.len(),
+                    bitmap.as_mut_ptr(),
+                    bitmap.len(),
+                    table.as_mut_ptr(),
+                    table.len(),
+                    random.pick(&[4 * GIB, 4 * GIB, 0, any]),
+                    random.pick(&[record.get(3).copied().unwrap_or(0), other]),
+                    slots.as_ptr(),
+                    slots.len(),
+                    answer.as_mut_ptr(),
+                    answer.len(),
+                ),
+                2 => sys::jambcopper_set_requested_size(
+                    record.as_mut_ptr(),
+                    record.len(),
+                    bitmap.as_ptr(),
+                    bitmap.len(),
+                    table.as_ptr(),
+                    table.len(),
+                    random.pick(&[4 * (any % 1024), any]),
+                    answer.as_mut_ptr(),
+                    answer.len(),
+                ),
+                3 => sys::jambcopper_request(
+                    record.as_mut_ptr(),
+                    record.len(),
+                    bitmap.as_mut_ptr(),
+                    bitmap.len(),
+                    table.as_ptr(),
+                    table.len(),
+                    memory.as_mut_ptr(),
+                    memory.len(),
+                    base,
+                    random.pick(&[base, base, base, any]),
+                    random.pick(&[0, 0, 0, 1, 127, 128, any as u16]),
+                    answer.as_mut_ptr(),
+                    answer.len(),
+                ),
+                4 => sys::jambcopper_host_answer(
+                    record.as_mut_ptr(),
+                    record.len(),
+                    bitmap.as_mut_ptr(),
+                    bitmap.len(),
+                    table.as_mut_ptr(),
+                    table.len(),
+                    memory.as_mut_ptr(),
+                    memory.len(),
+                    base,
+                    random.chance(80),
+                    any,
+                    answer.as_mut_ptr(),
+                    answer.len(),
+                ),
+                5 => {
+                    let size = length(random, 56);
+                    let mut data = bytes(random, size);
+                    sys::jambcopper_read_config(
+                        record.as_ptr(),
+                        record.len(),
+                        random.pick(&[any % 70, any]),
+                        data.as_mut_ptr(),
+                        data.len(),
+                    )
+                }
+                _ => {
+                    let size = length(random, 56);
+                    let data = bytes(random, size);
+                    sys::jambcopper_write_config(
+                        record.as_ptr(),
+                        record.len(),
+                        any,
+                        data.as_ptr(),
+                        data.len(),
+                    )
+                }
+            }
+        };
+        (export, number)
+    }
+}
+
+/// Guest memory: a chain of two descriptors with a request, some of its bytes changed; or any bytes.
+fn guest(random: &mut Random) -> Box<[u8]> {
+    let size = 512 + random.below(32) as usize;
+    let mut memory = bytes(random, size);
+    if random.chance(20) {
+        return memory[..random.below(64) as usize].into();
+    }
+    let first = descriptor(BASE + 256, 24, 1, 1);
+    let second = descriptor(BASE + 512, 10, 2, 0);
+    let addr = 4 * GIB + 4 * MIB * random.below(8);
+    let asked = request(random.below(5) as u16, addr, random.below(6) as u16);
+    memory[..16].copy_from_slice(&first);
+    memory[16..32].copy_from_slice(&second);
+    memory[256..280].copy_from_slice(&asked);
+    for _ in 0..random.pick(&[0, 0, 0, 1, 3]) {
+        let at = random.pick(&[0, 16, 256]) + random.below(24) as usize;
+        memory[at] = random.next() as u8;
+    }
+    memory
+}
+
+fn descriptor(addr: u64, len: u32, flags: u16, next: u16) -> [u8; 16] {
+    let mut bytes = [0; 16];
+    bytes[..8].copy_from_slice(&addr.to_le_bytes());
+    bytes[8..12].copy_from_slice(&len.to_le_bytes());
+    bytes[12..14].copy_from_slice(&flags.to_le_bytes());
+    bytes[14..].copy_from_slice(&next.to_le_bytes());
+    bytes
+}

@@ -1,0 +1,7 @@
+//! mem.rs and the proved device side by side: the same calls on both, and everything compared.
+
+#[path = "../../../bindings/rust/src/sys.rs"]
+pub mod sys;
+
+pub mod pair;
+pub mod proved;

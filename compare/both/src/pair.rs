@@ -1,0 +1,346 @@
+//! One device on each side, given the same calls; what differs after a call is said in words.
+
+use std::cell::RefCell;
+use std::collections::{BTreeMap, VecDeque};
+use std::fmt;
+use std::rc::Rc;
+
+use oracle::chains::Chain;
+use oracle::guest::Guest;
+use oracle::host::{answering, Answer, Question};
+use oracle::rust::{Rust, MAP_REGION, PLUG, STATE, UNPLUG, UNPLUG_ALL};
+use oracle::trace::{First, Op, Want};
+
+use crate::proved::{Proved, Told};
+
+/// Guest memory of a run, with the table at its start.
+const BASE: u64 = 4096;
+const LENGTH: usize = 4096;
+
+/// What a request's ignored bytes and a config read's buffer are filled with.
+const NOISE: u8 = 0xa5;
+
+/// A call of a run: placing, a line of the house form, or a read of the config.
+#[derive(Clone, Copy, Debug)]
+pub enum Call {
+    /// With so many slots and bytes more than the device asks for.
+    Place {
+        start: u64,
+        slots: i64,
+        bytes: i64,
+    },
+    Op(Op),
+    Read {
+        offset: u64,
+        length: usize,
+    },
+}
+
+impl fmt::Display for Call {
+    fn fmt(&self, f: &mut fmt::Formatter<'_>) -> fmt::Result {
+        match self {
+            Call::Place {
+                start,
+                slots,
+                bytes,
+            } => write!(
+                f,
+                "(place addr={start} slots={slots:+} from the count, size={bytes:+} from the region)"
+            ),
+            Call::Op(op) => write!(f, "{op}"),
+            Call::Read { offset, length } => {
+                write!(f, "(config read offset={offset} length={length})")
+            }
+        }
+    }
+}
+
+/// The host: success or not, and a host address.
+pub type Host<'a> = &'a mut dyn FnMut(Want) -> (bool, u64);
+
+/// The questions that the proved device asked in a call, with their answers.
+type Asked = Vec<(Want, bool, u64)>;
+
+/// How often each call had each outcome: its number, its response's type, or the host's success.
+pub type Seen = BTreeMap<(&'static str, u64), u64>;
+
+pub struct Pair {
+    pub rust: Rust,
+    pub proved: Proved,
+    first_slot: u32,
+    memory: Vec<u8>,
+    placed: bool,
+    /// Calls of the exports so far, without the reads that compare.
+    pub calls: u64,
+    pub seen: Seen,
+}
+
+fn same<T: PartialEq + fmt::Debug>(what: &str, rust: T, proved: T) -> Result<(), String> {
+    match rust == proved {
+        true => Ok(()),
+        false => Err(format!("{what}: mem.rs {rust:?}, proved {proved:?}")),
+    }
+}
+
+impl Pair {
+    /// Both made, or both refused with the same number.
+    pub fn make(first: &First) -> Result<Option<Pair>, String> {
+        let (capacity, requested) = (first.capacity_mib, first.requested_mib);
+        let rust = Rust::make(capacity, requested, first.multi, first.node, first.boot);
+        let (mut rust, proved) = match (rust, Proved::make(first)) {
+            (Ok(rust), Ok(proved)) => (rust, proved),
+            (rust, proved) => {
+                same("make", rust.err(), proved.err())?;
+                return Ok(None);
+            }
+        };
+        let shape = (proved.alignment(), proved.map_regions());
+        same("alignment and slots", rust.requirements(), shape)?;
+        same("features", rust.features(), proved.features())?;
+        let mut pair = Pair {
+            rust,
+            proved,
+            first_slot: first.slot as u32,
+            memory: vec![0; LENGTH],
+            placed: false,
+            calls: 1,
+            seen: Seen::from([(("make, number", 0), 1)]),
+        };
+        pair.compare()?;
+        Ok(Some(pair))
+    }
+
+    pub fn placed(&self) -> bool {
+        self.placed
+    }
+
+    fn saw(&mut self, what: &'static str, outcome: u64) {
+        *self.seen.entry((what, outcome)).or_default() += 1;
+    }
+
+    /// One call on both sides. The host is asked by the proved device; mem.rs must ask the same.
+    pub fn step(&mut self, call: Call, host: Host) -> Result<(), String> {
+        match call {
+            Call::Place {
+                start,
+                slots,
+                bytes,
+            } => self.place(start, slots, bytes, host)?,
+            Call::Read { offset, length } => return self.read(offset, length),
+            Call::Op(Op::Size { mib }) => {
+                let told = self.proved.set_requested_size(mib);
+                let (told, asked) = self.answered(told, host)?;
+                let rust = self.scripted(asked, |rust| rust.set_requested_size(mib))?;
+                self.saw("size, number", told.number);
+                sized(rust, told)?;
+            }
+            Call::Op(Op::Plug { addr, blocks }) => self.request(PLUG, addr, blocks, host)?,
+            Call::Op(Op::Unplug { addr, blocks }) => self.request(UNPLUG, addr, blocks, host)?,
+            Call::Op(Op::State { addr, blocks }) => self.request(STATE, addr, blocks, host)?,
+            Call::Op(Op::UnplugAll) => self.request(UNPLUG_ALL, 0, 0, host)?,
+            Call::Op(Op::Host { .. }) => panic!("answers come from the host"),
+        }
+        self.compare()
+    }
+
+    fn place(&mut self, start: u64, slots: i64, bytes: i64, host: Host) -> Result<(), String> {
+        let count = (self.proved.map_regions() as i64 + slots).max(0) as u32;
+        let slots: Vec<u32> = (0..count).map(|i| self.first_slot + i).collect();
+        let size = self.proved.region().wrapping_add_signed(bytes);
+        let told = self.proved.place(start, size, &slots);
+        let (told, asked) = self.answered(told, host)?;
+        let rust = self.scripted(asked, |rust| rust.place(start, size, &slots))?;
+        self.placed = rust.is_ok();
+        self.saw("place, number", told.number);
+        sized(rust, told)?;
+        if self.placed {
+            let guest = Guest::new(BASE, LENGTH, BASE).expect("a small range");
+            assert!(
+                self.rust.activate(guest),
+                "mem.rs activates a placed device"
+            );
+        }
+        Ok(())
+    }
+
+    fn read(&mut self, offset: u64, length: usize) -> Result<(), String> {
+        let (mut rust, mut proved) = (vec![NOISE; length], vec![NOISE; length]);
+        self.rust.read_config(offset, &mut rust);
+        let number = self.proved.read_config(offset, &mut proved);
+        self.calls += 1;
+        self.saw("config read, number", number);
+        same("config read", (0, rust), (number, proved))
+    }
+
+    fn request(&mut self, kind: u16, addr: u64, blocks: u16, host: Host) -> Result<(), String> {
+        let (req, _) = self.rust.write_request(kind, addr, blocks);
+        let guest = self.rust.guest();
+        guest.write(req + 2, &[NOISE; 6]);
+        guest.write(req + 18, &[NOISE; 6]);
+        self.memory = guest.read(BASE, LENGTH);
+        let told = self.proved.request(&mut self.memory, BASE, BASE, 0);
+        let (told, asked) = self.answered(told, host)?;
+        let (_, length) = self.scripted(asked, |rust| rust.serve(0))?;
+        let used = told.used().map(|(length, _)| length);
+        same("used length", (0, Some(length)), (told.number, used))?;
+        let memory = self.rust.guest().read(BASE, LENGTH);
+        if memory != self.memory {
+            let at = req as usize + 32 - BASE as usize..req as usize + 42 - BASE as usize;
+            same("response", &memory[at.clone()], &self.memory[at])?;
+            return Err("guest memory differs".to_string());
+        }
+        let names = [
+            "plug, response",
+            "unplug, response",
+            "unplug-all, response",
+            "state, response",
+        ];
+        self.saw(names[usize::from(kind)], told.words[5]);
+        let (kind, state) = (told.words[5] as u16, told.words[6] as u16);
+        let at = req as usize + 32 - BASE as usize;
+        let word = |at: usize| u16::from_le_bytes([memory[at], memory[at + 1]]);
+        same("answer", (word(at), word(at + 8)), (kind, state))
+    }
+
+    /// Answers the proved device until it asks no more.
+    fn answered(&mut self, mut told: Told, host: Host) -> Result<(Told, Asked), String> {
+        let mut asked = Vec::new();
+        self.calls += 1;
+        while let Some(want) = told.want() {
+            if let Want::Discard { offset, host, .. } = want {
+                same("the row's host address", self.host_of(offset), Some(host))?;
+            }
+            let (ok, addr) = host(want);
+            let name = match want {
+                Want::Create { .. } => "host's creation, success",
+                Want::Discard { .. } => "host's discard, success",
+            };
+            self.saw(name, u64::from(ok));
+            asked.push((want, ok, addr));
+            told = self.proved.host_answer(&mut self.memory, BASE, ok, addr);
+            self.calls += 1;
+        }
+        Ok((told, asked))
+    }
+
+    /// Runs mem.rs, whose questions must be those that were asked, in their order.
+    fn scripted<T>(
+        &mut self,
+        asked: Asked,
+        call: impl FnOnce(&mut Rust) -> T,
+    ) -> Result<T, String> {
+        let script = Rc::new(RefCell::new((VecDeque::from(asked), None)));
+        let lent = script.clone();
+        let answerer = move |question| -> Answer {
+            let (left, wrong) = &mut *lent.borrow_mut();
+            let front = left.pop_front();
+            match front {
+                Some((want, ok, addr)) if agrees(question, want) => ok.then_some(addr),
+                _ => {
+                    let said = format!("question: mem.rs {question:?}, proved {front:?}");
+                    wrong.get_or_insert(said);
+                    None
+                }
+            }
+        };
+        let rust = &mut self.rust;
+        let out = answering(answerer, || call(rust));
+        let (left, wrong) = &*script.borrow();
+        match (wrong, left.front()) {
+            (Some(said), _) => Err(said.clone()),
+            (_, Some(more)) => Err(format!("question: mem.rs none, proved {more:?}")),
+            _ => Ok(out),
+        }
+    }
+
+    /// Config bytes, and of a placed device bitmap and rows.
+    fn compare(&mut self) -> Result<(), String> {
+        let (mut rust, mut proved) = ([NOISE; 56], [NOISE; 56]);
+        self.rust.read_config(0, &mut rust);
+        self.proved.read_config(0, &mut proved);
+        same("config", rust, proved)?;
+        same("lent behind the need is spared", true, self.proved.spared())?;
+        if !self.placed {
+            return Ok(());
+        }
+        let bitmap = self.proved.bitmap();
+        let equal = self.rust.with_blocks(|blocks| {
+            blocks.len() == 8 * bitmap.len()
+                && blocks
+                    .chunks_exact(8)
+                    .map(packed)
+                    .eq(bitmap.iter().copied())
+        });
+        same("bitmaps are equal", true, equal)?;
+        let rust = self.rust.rows();
+        let rust = rust.iter().map(|&(slot, host)| (u64::from(slot), host));
+        match rust.clone().eq(self.proved.rows()) {
+            true => Ok(()),
+            false => same(
+                "rows",
+                rust.collect(),
+                self.proved.rows().collect::<Vec<_>>(),
+            ),
+        }
+    }
+
+    /// Where a discard's offset lies on the host, by the proved device's rows.
+    fn host_of(&self, offset: u64) -> Option<u64> {
+        let (row, inside) = match self.proved.map_regions() {
+            1 => (0, offset),
+            _ => (offset / MAP_REGION, offset % MAP_REGION),
+        };
+        let (_, host) = self.proved.rows().nth(row as usize)?;
+        host?.checked_add(inside)
+    }
+}
+
+fn agrees(question: Question, want: Want) -> bool {
+    match (question, want) {
+        (Question::Create { guest, size, slot }, want) => {
+            want == Want::Create { guest, size, slot }
+        }
+        (
+            Question::Discard { host, size },
+            Want::Discard {
+                host: h, size: s, ..
+            },
+        ) => (host, size) == (h, s),
+        _ => false,
+    }
+}
+
+fn sized(rust: Result<(), u64>, told: Told) -> Result<(), String> {
+    let number = rust.err().unwrap_or(0);
+    same("number", number, told.number)?;
+    same("sized", number == 0, told.sized())
+}
+
+/// Eight blocks as a byte, the first in the lowest bit.
+fn packed(eight: &[bool]) -> u8 {
+    let eight: [bool; 8] = eight.try_into().expect("eight");
+    let word = u64::from_le_bytes(eight.map(u8::from));
+    (word.wrapping_mul(0x0102_0408_1020_4080) >> 56) as u8
+}
+
+/// A chain through a fresh device on both sides; gives the calls of the exports.
+pub fn chain(case: &Chain, seen: &mut Seen) -> Result<u64, String> {
+    let rust = case.served();
+    let first = "capacity_mib=256 requested_mib=16 multi=0 node=none boot=1073741824 addr=4294967296 slot=1";
+    let first = First::parse(first).expect("01's example");
+    let mut proved = Proved::make(&first).expect("made");
+    let mut memory = case.memory.clone();
+    proved.place(first.addr, proved.region(), &[first.slot as u32]);
+    proved.host_answer(&mut [], 0, true, 140_737_488_355_328);
+    let told = proved.request(&mut memory, case.base, case.table, case.head);
+    let (length, reason) = told.used().ok_or_else(|| format!("{told:?}"))?;
+    same(
+        "used length and reason",
+        (rust.length, rust.reason),
+        (length, reason),
+    )?;
+    *seen.entry(("chain, reason", reason)).or_default() += 1;
+    same("plugged", rust.plugged, proved.record[5])?;
+    same("memory", rust.memory, memory)?;
+    Ok(4)
+}

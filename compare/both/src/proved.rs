@@ -1,0 +1,223 @@
+//! The proved device as one value, driven through the exports of the static library.
+
+use oracle::rust::{BLOCK, MAP_REGION};
+use oracle::trace::{First, Want};
+
+use crate::sys::{self, ANSWER_WORDS, RECORD_WORDS};
+
+/// Lent behind what is needed, and never to be touched.
+const SPARE: u8 = 0xcc;
+const SPARE_BYTES: usize = 8;
+const SPARE_WORDS: usize = 3;
+
+/// What a call tells: its number, and the words of its answer.
+#[derive(Clone, Copy, Debug, PartialEq, Eq)]
+pub struct Told {
+    pub number: u64,
+    pub words: [u64; ANSWER_WORDS],
+}
+
+impl Told {
+    /// The question, where there is one.
+    pub fn want(&self) -> Option<Want> {
+        let [kind, _, address, size, place, ..] = self.words;
+        match kind {
+            1 => Some(Want::Create {
+                guest: address,
+                size,
+                slot: place as u32,
+            }),
+            2 => Some(Want::Discard {
+                offset: address,
+                size,
+                host: place,
+            }),
+            _ => None,
+        }
+    }
+
+    /// True where the usable size was worked out.
+    pub fn sized(&self) -> bool {
+        self.words[0] == 3
+    }
+
+    /// Used length and reason, where the chain is done with.
+    pub fn used(&self) -> Option<(u32, u64)> {
+        match self.words[0] {
+            4 => Some((0, self.words[8])),
+            5 => Some((self.words[7] as u32, 0)),
+            _ => None,
+        }
+    }
+}
+
+/// Record, bitmap and map table, the last two with some more behind.
+pub struct Proved {
+    pub record: [u64; RECORD_WORDS],
+    bitmap: Vec<u8>,
+    table: Vec<u64>,
+}
+
+impl Proved {
+    pub fn make(first: &First) -> Result<Proved, u64> {
+        let mut record = [0; RECORD_WORDS];
+        // SAFETY: here and below, each pointer and length is one live slice, and no two overlap.
+        let number = unsafe {
+            sys::jambcopper_make(
+                record.as_mut_ptr(),
+                record.len(),
+                first.capacity_mib,
+                first.requested_mib,
+                first.multi,
+                first.node.is_some(),
+                first.node.unwrap_or(0),
+                first.boot,
+            )
+        };
+        if number != 0 {
+            return Err(number);
+        }
+        let mut made = Proved {
+            record,
+            bitmap: Vec::new(),
+            table: Vec::new(),
+        };
+        let bytes = (made.region() / BLOCK / 8) as usize;
+        made.bitmap = vec![SPARE; bytes + SPARE_BYTES];
+        made.table = vec![u64::from(SPARE); 3 * made.map_regions() + SPARE_WORDS];
+        Ok(made)
+    }
+
+    pub fn region(&self) -> u64 {
+        self.record[3]
+    }
+
+    pub fn alignment(&self) -> u64 {
+        self.record[7]
+    }
+
+    pub fn features(&self) -> u64 {
+        self.record[9]
+    }
+
+    pub fn map_regions(&self) -> usize {
+        match self.record[8] {
+            1 => self.region().div_ceil(MAP_REGION) as usize,
+            _ => 1,
+        }
+    }
+
+    /// A byte for each 8 blocks.
+    pub fn bitmap(&self) -> &[u8] {
+        &self.bitmap[..self.bitmap.len() - SPARE_BYTES]
+    }
+
+    /// Each row's slot and host address.
+    pub fn rows(&self) -> impl Iterator<Item = (u64, Option<u64>)> + '_ {
+        let rows = self.table[..self.table.len() - SPARE_WORDS].chunks_exact(3);
+        rows.map(|row| (row[0], (row[1] != 0).then_some(row[2])))
+    }
+
+    /// True where what was lent behind the need is as it was.
+    pub fn spared(&self) -> bool {
+        let bytes = &self.bitmap[self.bitmap.len() - SPARE_BYTES..];
+        let words = &self.table[self.table.len() - SPARE_WORDS..];
+        bytes.iter().all(|&byte| byte == SPARE)
+            && words.iter().all(|&word| word == u64::from(SPARE))
+    }
+
+    pub fn place(&mut self, start: u64, size: u64, slots: &[u32]) -> Told {
+        let mut words = [0; ANSWER_WORDS];
+        let number = unsafe {
+            sys::jambcopper_place(
+                self.record.as_mut_ptr(),
+                self.record.len(),
+                self.bitmap.as_mut_ptr(),
+                self.bitmap.len(),
+                self.table.as_mut_ptr(),
+                self.table.len(),
+                start,
+                size,
+                slots.as_ptr(),
+                slots.len(),
+                words.as_mut_ptr(),
+                words.len(),
+            )
+        };
+        Told { number, words }
+    }
+
+    pub fn set_requested_size(&mut self, mib: u64) -> Told {
+        let mut words = [0; ANSWER_WORDS];
+        let number = unsafe {
+            sys::jambcopper_set_requested_size(
+                self.record.as_mut_ptr(),
+                self.record.len(),
+                self.bitmap.as_ptr(),
+                self.bitmap.len(),
+                self.table.as_ptr(),
+                self.table.len(),
+                mib,
+                words.as_mut_ptr(),
+                words.len(),
+            )
+        };
+        Told { number, words }
+    }
+
+    pub fn request(&mut self, memory: &mut [u8], base: u64, table: u64, head: u16) -> Told {
+        let mut words = [0; ANSWER_WORDS];
+        let number = unsafe {
+            sys::jambcopper_request(
+                self.record.as_mut_ptr(),
+                self.record.len(),
+                self.bitmap.as_mut_ptr(),
+                self.bitmap.len(),
+                self.table.as_ptr(),
+                self.table.len(),
+                memory.as_mut_ptr(),
+                memory.len(),
+                base,
+                table,
+                head,
+                words.as_mut_ptr(),
+                words.len(),
+            )
+        };
+        Told { number, words }
+    }
+
+    pub fn host_answer(&mut self, memory: &mut [u8], base: u64, ok: bool, host: u64) -> Told {
+        let mut words = [0; ANSWER_WORDS];
+        let number = unsafe {
+            sys::jambcopper_host_answer(
+                self.record.as_mut_ptr(),
+                self.record.len(),
+                self.bitmap.as_mut_ptr(),
+                self.bitmap.len(),
+                self.table.as_mut_ptr(),
+                self.table.len(),
+                memory.as_mut_ptr(),
+                memory.len(),
+                base,
+                ok,
+                host,
+                words.as_mut_ptr(),
+                words.len(),
+            )
+        };
+        Told { number, words }
+    }
+
+    pub fn read_config(&self, offset: u64, data: &mut [u8]) -> u64 {
+        unsafe {
+            sys::jambcopper_read_config(
+                self.record.as_ptr(),
+                self.record.len(),
+                offset,
+                data.as_mut_ptr(),
+                data.len(),
+            )
+        }
+    }
+}
