@@ -33,7 +33,8 @@ use Rattle.step.specs.World.{World, Guest, Outcome}
 use Rattle.step.specs.Step.{blockSize, region, usable, plugged, requested, start, several, regionBlocks, regionRows, deviceOf}
 use Rattle.step.specs.Step.{refused, unserved, nack, error, served, plugs, asksDiscard, stops, asksOne, endsAll, newUsable, sizes, asksCreate, placed}
 use Rattle.step.specs.Step.{tablesFit, readyRefusal, unplacedRefusal, pendingRefusal, unless, changing, plugAs, plug, unplugAs, oneAs, nextAs, unplugAll, stateResp, serve, resizes, resized, placing, place, setRequestedSize, readConfig, writeConfig}
-use Rattle.history.proofs.Shaped.{Shaped, shaped-is, size-within, block-is}
+use Rattle.record.proofs.Laws.{Parts, parts as shaped-is}
+use Rattle.history.proofs.Shaped.{size-within, block-is}
 
 module _ {A : Type 0} (P : A → Type 0) where
   -- what holds of both sides of a test holds of the test
@@ -43,7 +44,7 @@ module _ {A : Type 0} (P : A → Type 0) where
 
 -- what is known where a call is not refused; the lent tables have so many blocks and rows
 pub record Entered (d : Device) (blocks rows : ℕ) (quiet : Bool) : Type 0 where
-  pub is-shaped : Shaped d
+  pub is-shaped : Parts d
   pub is-idle : isIdle (d .pending) ≡ quiet
   pub is-long : blocksIn (d .config .«block_size») (d .config .«region_size») ≤ blocks
   pub has-rows : mapRegions (d .config .«region_size») (d .«multi_region») ≤ rows
@@ -108,13 +109,13 @@ pub record Lies (w : World) (addr count : ℕ) (wanted : Bool) (first offset : �
   pub ends : first + count ≤ regionBlocks w
   pub state : allAre (w .blocks) first count (not wanted) ≡ true
 
-pub lies : (w : World) (addr count : ℕ) (wanted : Bool) (first : ℕ) (offset : RegionOffset) (host : HostAddr) → Shaped (w .device) → changing w addr count wanted ≡ Legal first offset host
+pub lies : (w : World) (addr count : ℕ) (wanted : Bool) (first : ℕ) (offset : RegionOffset) (host : HostAddr) → Parts (w .device) → changing w addr count wanted ≡ Legal first offset host
     → Lies w addr count wanted first (offset .0)
 lies w addr count wanted first offset host s e =
     let l = legal-is (blockSize w) (start w) (usable w) (several w) addr count wanted (w .blocks) (w .rows) first offset host e in
     let b = block-is (w .device) s in
     let positive : 0 < blockSize w = omega arith in
-    let fits = size-within (blockSize w) (usable w) (region w) (s .usable-ok) in
+    let fits = size-within (blockSize w) (usable w) (region w) (s .usable) in
     let first-at = l .first-is in
     let offset-at = l .in-range .offset-is in
     record {
@@ -126,7 +127,7 @@ lies w addr count wanted first offset host s e =
     }
 
 -- ---- plug, unplug, unplug-all, and the kinds of request
-module _ (P : Outcome → Type 0) (w : World) (s : Shaped (w .device)) (status : ℕ) (g : Guest) where
+module _ (P : Outcome → Type 0) (w : World) (s : Parts (w .device)) (status : ℕ) (g : Guest) where
   pub plug-cases : (addr count : ℕ)
       → ((first offset : ℕ) → plugged w + bytesOf (blockSize w) count ≤ requested w → Lies w addr count true first offset → P (plugs w first count status g))
       → P (served error status w g) → P (served nack status w g) → P (plug w addr count status g)

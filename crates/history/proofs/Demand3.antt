@@ -61,7 +61,7 @@ module _ (w : World) (es : List Event) (h : Inv w es) where
         maps = λ i last a. over w es h _ _ _ (λ q. clash refl q);
         create-fails = λ i last a. over w es h _ _ _ (λ q. q);
         unplugs-range = λ first count status a.
-            let fine = rw (a .waits) at (a .entry .is-shaped .pending-ok) in
+            let fine = rw (a .waits) at (a .entry .is-shaped .pending) in
             inv-unplugs w es h (there _ (a .waits) refl) (status .0) (a .guest) (a .entry .is-long) first count (rw (a .waits) at (h .asked))
             (discard-ends w first count status fine) (discard-enough w first count status fine);
         discard-fails = λ first count status a. over w es h _ _ _ (λ q. q);

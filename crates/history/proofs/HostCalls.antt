@@ -20,7 +20,8 @@ use Rattle.step.specs.World.{World, Call, Place, SetRequestedSize, Request, Hos
 use Rattle.step.specs.Step.{region, usable, several, regionBlocks, regionRows, newUsable}
 use Rattle.history.specs.History.{Event, Story, next, after, begun}
 use Rattle.history.specs.Rules.{InEveryRun, asks, taken, takes, waits, askedIn, takenIn, EachAskedAnswered, PendingStays, due, AsksWhatIsDue}
-use Rattle.history.proofs.Shaped.{Shaped, clash}
+use Rattle.record.proofs.Laws.{Parts}
+use Rattle.history.proofs.Shaped.{clash}
 use Rattle.history.proofs.Invariant.{Inv, Asked}
 use Rattle.history.proofs.Calls.{Grows, resizedBy, placedBy, Endings, each-call}
 use Rattle.history.proofs.Demand3.{invariant, discard-ends}
@@ -200,13 +201,13 @@ always-due s [] h = h
 always-due s (c ∷ cs) h = always-due (next s c) cs (each-call (s .world) RowDue (row-due (s .world) h) c)
 
 -- ---- what is asked for is due
-by-pending : (w : World) (es : List Event) (p : Pending) → w .device .pending ≡ p → Inv w es → Shaped (w .device) → rowDue p (w .rows) ≡ true
+by-pending : (w : World) (es : List Event) (p : Pending) → w .device .pending ≡ p → Inv w es → Parts (w .device) → rowDue p (w .rows) ≡ true
     → due p (w .blocks) (w .rows) (regionBlocks w) ≡ true
 unfolding due rowDue Asked
 by-pending w es Nothing q h s r = refl
 by-pending w es (Create first last) q h s r = r
 by-pending w es (Discard first count status) q h s r =
-    could-unplug (regionBlocks w) (w .blocks) first count (discard-ends w first count status (rw q at (s .pending-ok))) (rw q at (h .asked))
+    could-unplug (regionBlocks w) (w .blocks) first count (discard-ends w first count status (rw q at (s .pending))) (rw q at (h .asked))
 by-pending w es (DiscardOne block status) q h s r = could-discard (regionBlocks w) (w .blocks) block (rw q at (h .asked))
 
 pub asks-what-is-due : InEveryRun AsksWhatIsDue

@@ -22,7 +22,8 @@ use Rattle.step.specs.World.{World, Call, Outcome}
 use Rattle.step.specs.Step.{step, blockSize, region, usable, plugged, requested, several, regionBlocks, cleared}
 use Rattle.history.specs.History.{Event, Story, next, after, Fresh, begun}
 use Rattle.history.specs.Rules.{InEveryRun, KeepsShape}
-use Rattle.history.proofs.Shaped.{Shaped, shaped-is, shaped-when, size-whole, size-within, size-ok, reshaped, awaiting, idle-ok}
+use Rattle.record.proofs.Laws.{Parts, parts as shaped-is, whole as shaped-when}
+use Rattle.history.proofs.Shaped.{size-whole, size-within, size-ok, reshaped, awaiting, idle-ok}
 use Rattle.history.proofs.Demand3.{discard-enough}
 use Rattle.history.proofs.Calls.{Endings, each-call}
 
@@ -79,14 +80,14 @@ whole-ok b region several plugged e = rw e
 
 -- ---- each ending
 abbrev pub StaysShaped : Call → Outcome → List Event → Type 0
-StaysShaped c o new = Shaped (o .world .device)
+StaysShaped c o new = Parts (o .world .device)
 
-module _ (w : World) (s : Shaped (w .device)) where
+module _ (w : World) (s : Parts (w .device)) where
   pub stays-shaped : Endings w StaysShaped
   stays-shaped =
       let d = w .device in
       let over = awaiting d s Nothing (nothing-ok _ _ _ _) in
-      let positive = region-positive (region w) (d .alignment) (s .region-ok) in
+      let positive = region-positive (region w) (d .alignment) (s .region) in
       record {
         refuses = λ c n bytes _ _. s;
         reads = λ offset buffer bytes. s;
@@ -94,50 +95,50 @@ module _ (w : World) (s : Shaped (w .device)) where
         unserves = λ a reason. s;
         responds = λ a resp. s;
         plugs-range = λ a addr count first offset within l.
-            reshaped d s _ _ _ _ (d .placed) (d .pending) (s .start-ok) (s .usable-ok)
-            (more-ok (blockSize w) (plugged w) (region w) (s .plugged-ok) count (requested w) within (size-within (blockSize w) (requested w) (region w) (s .requested-ok)))
-            (s .requested-ok) (idle-ok (d .pending) _ _ _ _ (a .entry .is-idle));
+            reshaped d s _ _ _ _ (d .placed) (d .pending) (s .start) (s .usable)
+            (more-ok (blockSize w) (plugged w) (region w) (s .plugged) count (requested w) within (size-within (blockSize w) (requested w) (region w) (s .requested)))
+            (s .requested) (idle-ok (d .pending) _ _ _ _ (a .entry .is-idle));
         asks-range = λ a addr count first offset host enough l. awaiting d s _ (discard-ok _ _ _ _ first count _ (l .ends) enough);
         spoils = λ a addr count first offset _ _. s;
-        ends-at-once = λ a r. reshaped d s _ _ 0 _ (d .placed) Nothing (s .start-ok) (s .usable-ok) (none-ok _ _) (s .requested-ok) (nothing-ok _ _ _ _);
+        ends-at-once = λ a r. reshaped d s _ _ 0 _ (d .placed) Nothing (s .start) (s .usable) (none-ok _ _) (s .requested) (nothing-ok _ _ _ _);
         asks-first = λ a block offset host r _. awaiting d s _ (one-ok _ _ _ _ block _ (next-at (w .blocks) 0 (regionBlocks w) block r .before-end));
         stops-at-once = λ a. over;
-        maps = λ i last a. reshaped d s _ _ _ _ true Nothing (s .start-ok) (grown-ok _ _ _ (s .usable-ok) (requested w) (d .alignment)) (s .plugged-ok) (s .requested-ok) (nothing-ok _ _ _ _);
+        maps = λ i last a. reshaped d s _ _ _ _ true Nothing (s .start) (grown-ok _ _ _ (s .usable) (requested w) (d .alignment)) (s .plugged) (s .requested) (nothing-ok _ _ _ _);
         create-fails = λ i last a. over;
         unplugs-range = λ first count status a.
-            reshaped d s _ _ _ _ (d .placed) Nothing (s .start-ok) (s .usable-ok)
-            (less-ok (blockSize w) (plugged w) (region w) (s .plugged-ok) count (discard-enough w first count status (rw (a .waits) at (s .pending-ok))))
-            (s .requested-ok) (nothing-ok _ _ _ _);
+            reshaped d s _ _ _ _ (d .placed) Nothing (s .start) (s .usable)
+            (less-ok (blockSize w) (plugged w) (region w) (s .plugged) count (discard-enough w first count status (rw (a .waits) at (s .pending))))
+            (s .requested) (nothing-ok _ _ _ _);
         discard-fails = λ first count status a. over;
-        ends-all = λ j status a r. reshaped d s _ _ 0 _ (d .placed) Nothing (s .start-ok) (s .usable-ok) (none-ok _ _) (s .requested-ok) (nothing-ok _ _ _ _);
+        ends-all = λ j status a r. reshaped d s _ _ 0 _ (d .placed) Nothing (s .start) (s .usable) (none-ok _ _) (s .requested) (nothing-ok _ _ _ _);
         asks-next = λ j status a block offset host r _.
             awaiting d s _ (one-ok _ _ _ _ block _ (next-at (cleared w j .blocks) (j + 1) (regionBlocks w) block r .before-end));
         stops-after = λ j status a. over;
         one-fails = λ j status a. over;
         resizes = λ a.
             let fits = size-ok (blockSize w) (a .mib * 1048576) (region w) (a .whole) (a .in-region) in
-            reshaped d s _ _ _ _ true (d .pending) (s .start-ok) (grown-ok _ _ _ (s .usable-ok) (a .mib * 1048576) (d .alignment)) (s .plugged-ok) fits (s .pending-ok);
+            reshaped d s _ _ _ _ true (d .pending) (s .start) (grown-ok _ _ _ (s .usable) (a .mib * 1048576) (d .alignment)) (s .plugged) fits (s .pending);
         resize-asks = λ a i last size g.
             let fits = size-ok (blockSize w) (a .mib * 1048576) (region w) (a .whole) (a .in-region) in
-            reshaped d s _ _ _ _ (d .placed) _ (s .start-ok) (s .usable-ok) (s .plugged-ok) fits (create-ok _ (region w) (several w) _ _ _ _ i last size positive g);
+            reshaped d s _ _ _ _ (d .placed) _ (s .start) (s .usable) (s .plugged) fits (create-ok _ (region w) (several w) _ _ _ _ i last size positive g);
         places = λ a.
-            reshaped d s _ _ _ _ true (d .pending) (a .start-fits) (grown-ok _ _ _ (s .usable-ok) (requested w) (d .alignment)) (s .plugged-ok) (s .requested-ok) (s .pending-ok);
+            reshaped d s _ _ _ _ true (d .pending) (a .start-fits) (grown-ok _ _ _ (s .usable) (requested w) (d .alignment)) (s .plugged) (s .requested) (s .pending);
         place-asks = λ a i last size g.
-            reshaped d s _ _ _ _ (d .placed) _ (a .start-fits) (s .usable-ok) (s .plugged-ok) (s .requested-ok) (create-ok _ (region w) (several w) _ _ _ _ i last size positive g);
+            reshaped d s _ _ _ _ (d .placed) _ (a .start-fits) (s .usable) (s .plugged) (s .requested) (create-ok _ (region w) (several w) _ _ _ _ i last size positive g);
         place-asks-whole = λ a single.
-            reshaped d s _ _ _ _ (d .placed) _ (a .start-fits) (s .usable-ok) (s .plugged-ok) (s .requested-ok) (whole-ok _ _ (several w) _ single);
+            reshaped d s _ _ _ _ (d .placed) _ (a .start-fits) (s .usable) (s .plugged) (s .requested) (whole-ok _ _ (several w) _ single);
       }
 
-  pub step-shaped : (c : Call) → Shaped (step w c .world .device)
+  pub step-shaped : (c : Call) → Parts (step w c .world .device)
   step-shaped c = each-call w StaysShaped stays-shaped c
 
 -- ---- over any calls
-always-shaped : (s : Story) (cs : List Call) → Shaped (s .world .device) → Shaped (after s cs .world .device)
+always-shaped : (s : Story) (cs : List Call) → Parts (s .world .device) → Parts (after s cs .world .device)
 unfolding after next
 always-shaped s [] h = h
 always-shaped s (c ∷ cs) h = always-shaped (next s c) cs (step-shaped (s .world) h c)
 
-pub is-shaped : (d : Device) → Fresh d → (cs : List Call) → Shaped (after (begun d) cs .world .device)
+pub is-shaped : (d : Device) → Fresh d → (cs : List Call) → Parts (after (begun d) cs .world .device)
 is-shaped d fresh cs = always-shaped (begun d) cs (shaped-is d (fresh .shaped))
 
 -- the record keeps its shape

@@ -18,7 +18,8 @@ use Rattle.record.specs.Changes.{requestedTo}
 use Rattle.step.specs.World.{World, Guest, Call, Place, SetRequestedSize, Request, HostAnswer, ReadConfig, WriteConfig, Outcome}
 use Rattle.step.specs.Step.{blockSize, deviceOf, cleared, placed, coveredBy, step, request, hostAnswer}
 use Rattle.history.specs.History.{Open, NoRequest, Unplugging, UnpluggingAll, openedByType, openedByRequest, goesOn, openedBy, askedBy, openAfter}
-use Rattle.history.proofs.Shaped.{Shaped, block-is, cleared-shaped, clash}
+use Rattle.record.proofs.Laws.{Parts}
+use Rattle.history.proofs.Shaped.{block-is, cleared-shaped, clash}
 use Rattle.history.proofs.Cases.{by-cond, Entered, on-ready, on-unplaced, on-pending, plug-cases, unplug-cases, unplug-all-cases, serve-cases, resized-cases, placing-cases, place-cases, size-cases, read-cases, write-cases}
 
 unfoldable pub openOf : Pending → Open
@@ -35,7 +36,7 @@ idle-open (Discard first count status) e = clash e refl
 idle-open (DiscardOne block status) e = clash e refl
 
 -- the offset of a block tells the block
-offset-block : (w : World) (block offset : ℕ) → Shaped (w .device) → offset ≡ bytesOf (blockSize w) block → block ≡ blocksIn (blockSize w) offset
+offset-block : (w : World) (block offset : ℕ) → Parts (w .device) → offset ≡ bytesOf (blockSize w) block → block ≡ blocksIn (blockSize w) offset
 offset-block w block offset s e =
     let b = block-is (w .device) s in
     let positive : 0 < blockSize w = omega arith in

@@ -13,7 +13,8 @@ use Rattle.step.specs.World.{World, Call, Outcome}
 use Rattle.step.specs.Step.{blockSize, usable, plugged, requested, regionBlocks}
 use Rattle.history.specs.History.{Event, next, after, begun}
 use Rattle.history.specs.Rules.{InEveryRun, Never12, PluggedSize, UsableNeverShrinks, PlugWithinRequested}
-use Rattle.history.proofs.Shaped.{Shaped, shaped-when, block-is, clash}
+use Rattle.record.proofs.Laws.{Parts, whole as shaped-when}
+use Rattle.history.proofs.Shaped.{block-is, clash}
 use Rattle.history.proofs.Invariant.{Inv, used-unplugged}
 use Rattle.history.proofs.Calls.{Endings, each-call}
 use Rattle.history.proofs.Demand3.{invariant, demand-3}
@@ -35,7 +36,7 @@ Not12 c o new = is12 (o .answer) ≡ false
 not-spoiled : (b s c a n k : ℕ) → n + c ≡ a → s ≡ (a + k) * b → s < c * b → ⊥
 not-spoiled b s c a n k p q r = let e : s ≡ (n + c + k) * b = rw p q in omega arith
 
-module _ (w : World) (s : Shaped (w .device)) (es : List Event) (h : Inv w es) where
+module _ (w : World) (s : Parts (w .device)) (es : List Event) (h : Inv w es) where
   not-12 : Endings w Not12
   unfolding is12
   not-12 =

@@ -24,7 +24,8 @@ use Rattle.step.specs.Step.{step, blockSize, region, usable, plugged, requested
 use Rattle.history.specs.History.{Event, UnplugAck, UnplugAllAck, Open, Unplugging, UnpluggingAll, acknowledges, ackToHost, reports, discardOf, ifAck, unlessRefused, eventsOf, next, after, Fresh, begun}
 use Rattle.history.specs.Rules.{InEveryRun, Whole, marks, counts, could, marked, counted, allCould, isPlace}
 use Rattle.history.specs.Standard.{isRequest, OnlyRequestsPlug, UsableShrinksByUnplugAll, configOf, Constant, ConstantFields, FieldsLaidOut, UsableCoversRequested, PluggedSizeIsOfBlocks, responseOf, Responds, UnplugDone, UnplugAcknowledged, NonePlugged, UnplugAllAcknowledged, UnplugRejected, UnplugAllRejected, «VIRTIO_MEM_RESP_ACK», «VIRTIO_MEM_RESP_ERROR»}
-use Rattle.history.proofs.Shaped.{shaped-when, clash}
+use Rattle.record.proofs.Laws.{whole as shaped-when}
+use Rattle.history.proofs.Shaped.{clash}
 use Rattle.history.proofs.Cases.{by-cond, on-pending}
 use Rattle.history.proofs.Observer.{openOf}
 use Rattle.history.proofs.Calls.{Endings, each-call}
@@ -202,7 +203,7 @@ unplug-acknowledged d fresh cs c g ok host first count is opened responds =
     let tells = unplug-tells w g ok host first count (step w (HostAnswer g ok host) .answer) (rw is at responds) in
     let whole′ : Whole w (UnplugAck first count ∷ []) (next s (HostAnswer g ok host) .world) = rw (opened, tells) at whole in
     rw is (unplug-done w _ first count (long-by w g ok host (rw is at responds))
-    (enough (w .device .pending) (blockSize w) (region w) _ (plugged w) first count (open-is d fresh cs ∙ opened) (is-shaped d fresh cs .pending-ok)) whole′)
+    (enough (w .device .pending) (blockSize w) (region w) _ (plugged w) first count (open-is d fresh cs ∙ opened) (is-shaped d fresh cs .pending)) whole′)
 
 -- ---- an ERROR to an unplug, and to an unplug-all
 error-tells : (a : Answer) (es : List Event) → responseOf a ≡ some «VIRTIO_MEM_RESP_ERROR» → ifAck a es ≡ []

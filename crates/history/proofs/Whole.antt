@@ -70,7 +70,7 @@ module _ (w : World) (es : List Event) (h : Inv w es) where
             record {
               blocks-by = refl;
               size-by = refl;
-              all-could = could-unplug n bs first count (discard-ends w first count status (rw (a .waits) at (a .entry .is-shaped .pending-ok))) (rw (a .waits) at (h .asked));
+              all-could = could-unplug n bs first count (discard-ends w first count status (rw (a .waits) at (a .entry .is-shaped .pending))) (rw (a .waits) at (h .asked));
             };
         discard-fails = λ first count status a _. quiet w _ refl refl;
         ends-all = λ j status a r _.

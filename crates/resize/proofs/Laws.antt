@@ -8,14 +8,12 @@ use native.Mathlib.Omega.{arith}
 use lib.Dec.{ltb, eqb}
 use lib.ListN.{length}
 use borrow.Author.Tests.{ltb-true, lt-ltb, ne-eqb}
-use Rattle.units.specs.Numbers.{mapRegion}
 use Rattle.units.proofs.Tests.{by-test}
 use Rattle.rows.specs.declared.FirstUnmapped.{FirstUnmapped}
 use Rattle.rows.specs.declared.FirstUnmapped.the-variants.{Row, NoneLeft}
 use Rattle.rows.specs.declared.MapRow.{MapRow}
 use Rattle.rows.specs.Rows.{firstUnmapped, rowAt}
 use Rattle.rows.proofs.Laws.{IsFirst, first-found, first-none}
-use Rattle.resize.specs.declared.Growth.{Growth}
 use Rattle.resize.specs.declared.Growth.the-variants.{Asks, Settled}
 use Rattle.resize.specs.Resize.{newSize, rowOf, creationSize, growthAt, growthOf}
 

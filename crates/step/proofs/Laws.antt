@@ -1,7 +1,7 @@
 -- What the endings of a call do and leave alone: each plug and unplug is of its whole range, and an ending that is no ACK changes nothing but the response. Assumes nothing.
 use Prim.Native.Nat.{ℕ, _+_, _-_, _≤_, _<_}
 use mathlib.Core.Path.{_≡_, refl}
-use mathlib.Core.Bool.{Bool, true, false}
+use mathlib.Core.Bool.{true, false}
 use mathlib.Core.List.{List}
 use lib.ListN.{length}
 use Rattle.units.specs.Numbers.{bytesOf}

@@ -1,5 +1,5 @@
 -- What each call does, in 01's order of tests and 01's words: `step` from a World and a Call to an Outcome. Every ending is a named leaf, and every decision a tree of tests over leaves.
-use Prim.Native.Nat.{ℕ, _+_, _-_, _*_, _%_, max}
+use Prim.Native.Nat.{ℕ, _+_, _-_, _*_, _%_}
 use mathlib.Core.Bool.{Bool, true, false, cond, not, _&&_, _||_}
 use mathlib.Core.List.{List, []}
 use lib.Dec.{leb, ltb, eqb}
@@ -25,7 +25,7 @@ use Rattle.record.specs.Shape.{shapedOf, isIdle, startOk}
 use Rattle.record.specs.Changes.{pendingTo, pluggedTo, requestedTo, startTo, usableTo, placedTo}
 use Rattle.resize.specs.declared.Growth.{Growth}
 use Rattle.resize.specs.declared.Growth.the-variants.{Asks, Settled}
-use Rattle.resize.specs.Resize.{newSize, grown, creationSize, growthOf}
+use Rattle.resize.specs.Resize.{newSize, grown, growthOf}
 use Rattle.change.specs.declared.Range.{Range}
 use Rattle.change.specs.declared.Range.the-variants.{Inside, Misaligned, NoBlocks, Overflows, BelowStart, PastUsable, EndPastUsable}
 use Rattle.change.specs.declared.Change.{Change}

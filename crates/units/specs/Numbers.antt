@@ -1,7 +1,7 @@
 -- The device's numbers in 01's words: blocks and map regions, the alignment, rounding, and what fits 64 bits.
 -- Where 01 says 4 MiB these take the block size b.
 use Prim.Native.Nat.{ℕ, _+_, _-_, _*_, _/_, _^_, min, max}
-use mathlib.Core.Bool.{Bool, true, false, cond}
+use mathlib.Core.Bool.{Bool, cond}
 use lib.Dec.{ltb}
 use lib.Count.{trailingZeros}
 

@@ -1,5 +1,5 @@
 -- `device::read_config` meets its contract: 12 and nothing else is refused. Assumes nothing.
-use mathlib.Core.Path.{refl, sym, _∙_}
+use mathlib.Core.Path.{refl}
 use borrow.Author.Needs.{needs}
 use Rattle.record.specs.Shape.{shapedOf}
 use Rattle.units.proofs.Tests.{refused, passed}

@@ -1,5 +1,5 @@
 -- `resize::creation_size` meets its contract: no row from i to last starts past the region's end, so nothing passes the region's size. Assumes nothing.
-use mathlib.Core.Path.{_≡_, sym, ap, _∙_}
+use mathlib.Core.Path.{sym, _∙_}
 use native.Mathlib.Omega.{arith}
 use borrow.Author.Needs.{needs}
 use borrow.Author.Tests.{eq-eqb, ne-eqb}

@@ -1,5 +1,4 @@
 -- `resize::new_size` meets its contract. Assumes nothing.
-use native.Mathlib.Omega.{arith}
 use borrow.Author.Needs.{needs}
 use borrow.Author.Tests.{eq-eqb, ne-eqb}
 use Rattle.resize.specs.Resize.{newSize}
