@@ -1,0 +1,214 @@
+// A run of a trace, a line at a time: the first makes the device and places it, and each later one is an op on it.
+use placing::Made;
+use placing::Mem;
+use placing::Node;
+use placing::place;
+use record::Device;
+use step::Answer;
+use step::Answered;
+use text::put;
+use trace_step::apply;
+use trace_step::put_answer;
+use trace_text::FirstLine;
+use trace_text::Line;
+use trace_text::Op;
+use trace_text::put_refusal;
+use trace_text::read_line;
+use units::map_regions;
+ghost use mathlib.Core.Path.{_≡_};
+ghost use mathlib.Core.Bool.{true};
+ghost use Prim.Native.Nat.{_+_, _≤_};
+ghost use lib.ListN.{length};
+ghost use Rattle.record.specs.Shape.{shapedOf};
+ghost use Rattle.placing.specs.declared.Made.the-variants as made;
+ghost use Rattle.trace_text.specs.Lines.{refusalText};
+ghost use Rattle.trace_step.specs.Trace.{textOf};
+ghost use Rattle.trace_run.specs.Run.{lentOf, nodeOf, countedFrom, placedAs, begunOn, begun, goneOn, turn, Prints, Comes, Serves, SlotFits};
+
+// Where a run stands: before its first line, on a device, or ended.
+pub enum Run {
+    Before,
+    On(Device),
+    Ended,
+}
+
+// Where the run stands after a line, and how many bytes of output the line has put at the start of a buffer.
+pub struct Shown {
+    pub run: Run,
+    pub length: usize,
+}
+
+// Prints a refusal.
+fn refuse(run: Run, out: &mut [u8], number: u64) -> Shown
+    ensures { λ r. ⌜ Prints run (refusalText number) (now (out .entry)) r (now (out .exit)) ⌝ }
+{
+    let end = put_refusal(out, number);
+    Shown {
+        run: run,
+        length: put(out, end, b'\n'),
+    }
+}
+
+// Prints an answer.
+fn answer(run: Run, s: Answered, mem: &[u8], out: &mut [u8]) -> Shown
+    ensures { λ r. ⌜ Prints run (textOf (s .answer) (s .device) (now (mem .entry))) (now (out .entry)) r (now (out .exit)) ⌝ }
+{
+    let end = put_answer(out, s, mem);
+    Shown {
+        run: run,
+        length: put(out, end, b'\n'),
+    }
+}
+
+fn node_of(node: trace_text::Node) -> Node
+    ensures { λ r. ⌜ r ≡ nodeOf node ⌝ }
+{
+    match node {
+        trace_text::Node::None => Node::None,
+        trace_text::Node::Number(n) => Node::Number(n),
+    }
+}
+
+// Slots count up from the first line's.
+fn count_slots(slots: &mut [u32], first: u64)
+    requires { ⌜ first + length (now slots) ≤ 4294967296 ⌝ }
+    ensures { λ _. ⌜ now (slots .exit) ≡ countedFrom first (length (now (slots .entry))) ⌝ }
+{
+    let mut i = 0;
+    while i < slots.len() {
+        slots[i] = (first + i as u64) as u32;
+        i += 1;
+    }
+}
+
+// A refused placing ends the run.
+fn after_placing(s: Answered) -> Run
+    ensures { λ r. ⌜ r ≡ placedAs (s .answer) (s .device) ⌝ }
+{
+    let device = s.device;
+    let answer = s.answer;
+    match answer {
+        Answer::Refused(_) => Run::Ended,
+        Answer::Wants(_) => Run::On(device),
+        Answer::Sized => Run::On(device),
+        Answer::Unserved(_) => Run::On(device),
+        Answer::Served(_, _) => Run::On(device),
+        Answer::Done => Run::On(device),
+    }
+}
+
+// Places a device that was made. It has at most 512 map regions, since a region has at most 1 TiB.
+fn put_in_place(
+    d: Device,
+    first: FirstLine,
+    bitmap: &mut [u8],
+    table: &mut [u64],
+    mem: &[u8],
+    out: &mut [u8],
+) -> Shown
+    requires { ⌜ (shapedOf d ≡ true) × (first .slot ≤ 4294966000) ⌝ }
+    ensures { λ r. ⌜ Comes (begunOn (made.Device d) first (lentOf (now (bitmap .entry)) (now (table .entry)) (now (mem .entry)))) (now (table .entry)) (now (out .entry)) r (now (bitmap .exit)) (now (table .exit)) (now (mem .entry)) (now (out .exit)) ⌝ }
+{
+    let mut slots = [0u32; 512];
+    count_slots(&mut slots, first.slot);
+    let region = d.config.region_size;
+    let rows = map_regions(region, d.multi_region) as usize;
+    let start = first.addr;
+    let placed = place(d, bitmap, table, start, region, &slots[..rows]);
+    answer(after_placing(placed), placed, mem, out)
+}
+
+// The first line makes the device and places it; a refusal ends the run.
+fn begin(
+    first: FirstLine,
+    bitmap: &mut [u8],
+    table: &mut [u64],
+    mem: &[u8],
+    out: &mut [u8],
+) -> Shown
+    requires { ⌜ first .slot ≤ 4294966000 ⌝ }
+    ensures { λ r. ⌜ Comes (begun first (lentOf (now (bitmap .entry)) (now (table .entry)) (now (mem .entry)))) (now (table .entry)) (now (out .entry)) r (now (bitmap .exit)) (now (table .exit)) (now (mem .entry)) (now (out .exit)) ⌝ }
+{
+    let node = first.node;
+    let made = Mem::new(
+        first.capacity_mib,
+        first.requested_mib,
+        first.multi,
+        node_of(node),
+        first.boot,
+    );
+    match made {
+        Made::Refused(number) => refuse(Run::Ended, out, number),
+        Made::Device(device) => put_in_place(device, first, bitmap, table, mem, out),
+    }
+}
+
+// A line of a run that has not begun.
+fn first_line(line: Line, bitmap: &mut [u8], table: &mut [u64], mem: &[u8], out: &mut [u8]) -> Shown
+    requires { ⌜ SlotFits line ⌝ }
+    ensures { λ r. ⌜ Comes (turn Run.Before line (lentOf (now (bitmap .entry)) (now (table .entry)) (now (mem .entry)))) (now (table .entry)) (now (out .entry)) r (now (bitmap .exit)) (now (table .exit)) (now (mem .entry)) (now (out .exit)) ⌝ }
+{
+    match line {
+        Line::First(first) => begin(first, bitmap, table, mem, out),
+        Line::Later(_) => refuse(Run::Ended, out, 13),
+        Line::Bad => refuse(Run::Ended, out, 13),
+    }
+}
+
+// An op on the device.
+fn go_on(
+    d: Device,
+    op: Op,
+    bitmap: &mut [u8],
+    table: &mut [u64],
+    mem: &mut [u8],
+    out: &mut [u8],
+) -> Shown
+    ensures { λ r. ⌜ Comes (goneOn d op (lentOf (now (bitmap .entry)) (now (table .entry)) (now (mem .entry)))) (now (table .entry)) (now (out .entry)) r (now (bitmap .exit)) (now (table .exit)) (now (mem .exit)) (now (out .exit)) ⌝ }
+{
+    let s = apply(d, bitmap, table, mem, op);
+    let device = s.device;
+    answer(Run::On(device), s, mem, out)
+}
+
+// A line of a run that has a device. A creation that the host fails is refused as 10 like any other call, also the one that
+// places the device: the run goes on, with a device that is in no place.
+fn later_line(
+    d: Device,
+    line: Line,
+    bitmap: &mut [u8],
+    table: &mut [u64],
+    mem: &mut [u8],
+    out: &mut [u8],
+) -> Shown
+    ensures { λ r. ⌜ Comes (turn (Run.On d) line (lentOf (now (bitmap .entry)) (now (table .entry)) (now (mem .entry)))) (now (table .entry)) (now (out .entry)) r (now (bitmap .exit)) (now (table .exit)) (now (mem .exit)) (now (out .exit)) ⌝ }
+{
+    match line {
+        Line::First(_) => refuse(Run::On(d), out, 13),
+        Line::Later(op) => go_on(d, op, bitmap, table, mem, out),
+        Line::Bad => refuse(Run::On(d), out, 13),
+    }
+}
+
+// One line of a run: its bytes without their newline go in, and the line that it prints comes out at the start of `out`, with
+// its newline. The length is one more than the buffer's where there is no room for it; 201 bytes are room enough.
+pub fn serve(
+    run: Run,
+    bitmap: &mut [u8],
+    table: &mut [u64],
+    mem: &mut [u8],
+    line: &[u8],
+    out: &mut [u8],
+) -> Shown
+    ensures { λ r. ⌜ Serves run (now (bitmap .entry)) (now (table .entry)) (now (mem .entry)) (now (line .entry)) (now (out .entry)) r (now (bitmap .exit)) (now (table .exit)) (now (mem .exit)) (now (out .exit)) ⌝ }
+{
+    let read = read_line(line);
+    match run {
+        Run::Before => first_line(read, bitmap, table, mem, out),
+        Run::On(device) => later_line(device, read, bitmap, table, mem, out),
+        Run::Ended => Shown {
+            run: Run::Ended,
+            length: 0,
+        },
+    }
+}
