@@ -3,14 +3,11 @@
 // A refusal in the first line ends the run; what follows is read and not served. A bad first line is refused as 13, as any bad
 // line is: one of more than 200 bytes, an empty one, one with a NUL byte, and a later one in the first line's form. After a bad
 // later line the run goes on. The last line may lack its newline, as that of the file stdin does. Input without a byte prints nothing.
-mod run;
-
 use libc::STDIN_FILENO;
 use libc::STDOUT_FILENO;
-use run::Run;
-use run::ended;
-use run::line_of;
-use run::serve;
+use trace_run::Run;
+use trace_run::first_bytes;
+use trace_run::serve;
 
 // What has been read of a line fills so many bytes of its buffer, which has 201: one more than a line may have.
 struct State {
@@ -18,33 +15,21 @@ struct State {
     filled: usize,
 }
 
-fn write_part(out: &[u8], length: usize) {
-    if length <= out.len() {
-        io::write_all(STDOUT_FILENO, &out[..length]);
-    }
-}
-
-// Writes the text of this length at the start of `out`, and a newline, in one call.
-fn write_line(out: &mut [u8], length: usize) {
-    if length < out.len() {
-        out[length] = b'\n';
-        write_part(&out[..], length + 1);
-    }
-}
-
-// A line has ended: it is served, and its answer written.
+// A line has ended: it is served, and what it prints is written in one call.
 fn end_line(s: State, bitmap: &mut [u8], table: &mut [u64], mem: &mut [u8], line: &[u8]) -> State {
-    let run = s.run;
-    if ended(run) {
-        return State {
-            run: run,
-            filled: 0,
-        };
-    }
     let mut out = [0u8; 256];
-    let line = line_of(line, s.filled);
-    let shown = serve(run, bitmap, table, mem, line, &mut out);
-    write_line(&mut out, shown.length);
+    let run = s.run;
+    let shown = serve(
+        run,
+        bitmap,
+        table,
+        mem,
+        first_bytes(line, s.filled),
+        &mut out,
+    );
+    if 0 < shown.length {
+        io::write_all(STDOUT_FILENO, first_bytes(&out, shown.length));
+    }
     let next = shown.run;
     State {
         run: next,

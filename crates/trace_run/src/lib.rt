@@ -18,7 +18,7 @@ use units::map_regions;
 ghost use mathlib.Core.Path.{_≡_};
 ghost use mathlib.Core.Bool.{true};
 ghost use Prim.Native.Nat.{_+_, _≤_};
-ghost use lib.ListN.{length};
+ghost use lib.ListN.{length, take};
 ghost use Rattle.record.specs.Shape.{shapedOf};
 ghost use Rattle.placing.specs.declared.Made.the-variants as made;
 ghost use Rattle.trace_text.specs.Lines.{refusalText};
@@ -211,4 +211,14 @@ pub fn serve(
             length: 0,
         },
     }
+}
+
+// The first bytes of a buffer, where it has so many: a line that is gathered there, or what a line has printed.
+pub fn first_bytes(s: &[u8], count: usize) -> &[u8]
+    ensures { λ r. ⌜ now r ≡ take count (now (s .entry)) ⌝ }
+{
+    if count < s.len() {
+        return &s[..count];
+    }
+    s
 }

@@ -2,14 +2,11 @@
 // answers, and an empty line. In an answer `*` stands for any value of a field.
 //
 // traces.txt has what mem.rs answers. recorded.txt has requests that Linux's driver made in a guest of QEMU, and the fields of
-// QEMU's answers that may be compared. edges.txt has the edges of a line's form, with answers from document 01.
-mod run;
-
+// QEMU's answers that may be compared. edges.txt has the edges of a line's form: its answers were read against document 01.
 use libc::STDOUT_FILENO;
-use run::Run;
-use run::ended;
-use run::line_of;
-use run::serve;
+use trace_run::Run;
+use trace_run::first_bytes;
+use trace_run::serve;
 
 // Where the lines of a block stand: the run, the bytes of a line, the bytes of the answers, and whether `--` has been read.
 struct State {
@@ -54,15 +51,15 @@ fn put_byte(s: &mut [u8], i: usize, b: u8) -> usize {
     i
 }
 
-// Appends the first bytes of `out`, and a newline, to the answers.
-fn append(answers: &mut [u8], answered: usize, out: &[u8], count: usize) -> usize {
+// Appends what a line printed to the answers.
+fn append(answers: &mut [u8], answered: usize, printed: &[u8]) -> usize {
     let mut to = answered;
     let mut i = 0;
-    while i < count {
-        to = put_byte(answers, to, byte_at(out, i));
+    while i < printed.len() {
+        to = put_byte(answers, to, printed[i]);
         i += 1;
     }
-    put_byte(answers, to, b'\n')
+    to
 }
 
 fn is_rule(line: &[u8], filled: usize) -> bool {
@@ -79,20 +76,25 @@ fn end_line(
     answers: &mut [u8],
 ) -> State {
     let run = s.run;
-    let is_done = is_rule(line, s.filled);
-    if is_done | ended(run) {
+    if is_rule(line, s.filled) {
         return State {
             run: run,
             filled: 0,
             answered: s.answered,
-            done: is_done,
+            done: true,
         };
     }
     let mut out = [0u8; 256];
-    let line = line_of(line, s.filled);
-    let shown = serve(run, bitmap, table, mem, line, &mut out);
+    let shown = serve(
+        run,
+        bitmap,
+        table,
+        mem,
+        first_bytes(line, s.filled),
+        &mut out,
+    );
     let next = shown.run;
-    let answered = append(answers, s.answered, &out, shown.length);
+    let answered = append(answers, s.answered, first_bytes(&out, shown.length));
     State {
         run: next,
         filled: 0,

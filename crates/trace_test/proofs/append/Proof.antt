@@ -1,4 +1,4 @@
--- `trace_test::append` is safe and ends: invariant: the answers keep their room. The measure is what is left of the text.
+-- `trace_test::append` is safe and ends: invariant: the answers keep their room. The measure is what is left of what was printed.
 -- Assumes nothing.
 use Prim.Native.Nat.{_-_}
 use mathlib.Core.Path.{_≡_}
@@ -8,16 +8,16 @@ use Rattle.trace_test.proofs.append.Statement.{statement}
 use Rattle.trace_test.proofs.append.Tie as tie
 
 abbrev Inv-loop : tie.InvT-loop
-Inv-loop answers₀ answered out count to₀ i₀ answers to i = (length answers ≡ length answers₀)
+Inv-loop answers₀ answered printed to₀ i₀ answers to i = (length answers ≡ length answers₀)
 
 abbrev μ-loop : tie.MeasureT-loop
-μ-loop answers₀ answered out count to₀ i₀ answers to i = count - i
+μ-loop answers₀ answered printed to₀ i₀ answers to i = length printed - i
 
 loop-holds : tie.Need-loop-holds Inv-loop μ-loop
 loop-holds c = search needs
 
-byte-at-requires : tie.Need-byte-at-requires Inv-loop μ-loop
-byte-at-requires c κs = search needs
+shared-slice-read-put-byte : tie.Need-shared-slice-read-put-byte Inv-loop μ-loop
+shared-slice-read-put-byte c = search needs
 
 put-byte-requires : tie.Need-put-byte-requires Inv-loop μ-loop
 put-byte-requires c κs = search needs
@@ -30,9 +30,6 @@ loop-less c = search needs
 
 loop-again : tie.Need-loop-again Inv-loop μ-loop
 loop-again c = search needs
-
-put-byte-requires-2 : tie.Need-put-byte-requires-2 Inv-loop μ-loop
-put-byte-requires-2 c κs = search needs
 
 same-length : tie.Need-same-length Inv-loop μ-loop
 same-length c = search needs
@@ -47,11 +44,10 @@ append-spec =
     Inv-loop
     μ-loop
     loop-holds
-    byte-at-requires
+    shared-slice-read-put-byte
     put-byte-requires
     add-i
     loop-less
     loop-again
-    put-byte-requires-2
     same-length
     returns)
