@@ -1,8 +1,9 @@
 // Runs traces whose answers are known, and compares. A file of data/ has a block for each trace: its lines, a line `--`, its
 // answers, and an empty line. In an answer `*` stands for any value of a field.
 //
-// traces.txt has what mem.rs answers. recorded.txt has requests that Linux's driver made in a guest of QEMU, and the fields of
-// QEMU's answers that may be compared. edges.txt has the edges of a line's form: its answers were read against document 01.
+// traces.txt has what mem.rs answers: first to document 01's example and its edges W1 to W11, then to random traces. recorded.txt
+// has requests that Linux's driver made in a guest of QEMU, and the fields of QEMU's answers that may be compared. edges.txt has
+// the edges of a line's form: its answers were read against document 01.
 use libc::STDOUT_FILENO;
 use trace_run::Run;
 use trace_run::first_bytes;
@@ -22,11 +23,15 @@ struct Ran {
     answered: usize,
 }
 
-// Where the comparison stands: at which byte of the run's answers, at the start of a line or not, and what came out so far.
+// Where the comparison stands: where the known line and the run's line start, at which byte of the run's it is, whether the known
+// line has a byte yet, whether the lines are the same so far, and whether all before them were.
 struct Cursor {
+    known: usize,
+    given: usize,
     at: usize,
     fresh: bool,
     same: bool,
+    all: bool,
     done: bool,
 }
 
@@ -158,11 +163,12 @@ fn run_lines(
     }
 }
 
-fn field_end(answers: &[u8], from: usize) -> usize {
+// Where a line ends, or before that a mark.
+fn end_of(answers: &[u8], from: usize, mark: u8) -> usize {
     let mut i = from;
     while i < answers.len() {
         let b = answers[i];
-        if (b == b' ') | (b == b'\n') {
+        if (b == mark) | (b == b'\n') {
             return i;
         }
         i += 1;
@@ -170,49 +176,86 @@ fn field_end(answers: &[u8], from: usize) -> usize {
     i
 }
 
-// One byte of the known answers. An empty line ends them.
-fn compare_byte(c: Cursor, b: u8, answers: &[u8]) -> Cursor {
+fn after(answers: &[u8], i: usize) -> usize {
+    if i < answers.len() {
+        return i + 1;
+    }
+    i
+}
+
+fn show_part(what: &[u8], s: &[u8], from: usize, to: usize) {
+    io::write_all(STDOUT_FILENO, what);
+    if from <= to {
+        let line = first_bytes(s, to);
+        if from < line.len() {
+            io::write_all(STDOUT_FILENO, &line[from..]);
+        }
+    }
+}
+
+// A known line ends before `next`. One that differs is shown, and what the run gave for it.
+fn end_known(c: Cursor, text: &[u8], next: usize, answers: &[u8]) -> Cursor {
+    if c.fresh {
+        return Cursor { done: true, ..c };
+    }
+    let end = end_of(answers, c.given, b'\n');
+    let given = after(answers, end);
+    let same = c.same & (c.at == end);
+    if !same {
+        show_part(b"\n  known ", text, c.known, next);
+        show_part(b"  given ", answers, c.given, given);
+    }
+    Cursor {
+        known: next,
+        given: given,
+        at: given,
+        fresh: true,
+        same: true,
+        all: c.all & same,
+        done: false,
+    }
+}
+
+// One byte of the known answers, before `next`. An empty line ends them.
+fn compare_byte(c: Cursor, text: &[u8], next: usize, b: u8, answers: &[u8]) -> Cursor {
+    if b == b'\n' {
+        return end_known(c, text, next, answers);
+    }
     if b == b'*' {
         return Cursor {
-            at: field_end(answers, c.at),
+            at: end_of(answers, c.at, b' '),
+            fresh: false,
             ..c
         };
     }
-    let is_end = b == b'\n';
-    if c.fresh & is_end {
-        return Cursor { done: true, ..c };
-    }
-    let at = c.at;
-    if at < answers.len() {
-        return Cursor {
-            at: at + 1,
-            fresh: is_end,
-            same: c.same & (answers[at] == b),
-            done: false,
-        };
-    }
+    let is_same = c.same & (byte_at(answers, c.at) == b);
     Cursor {
-        fresh: is_end,
-        same: false,
+        at: after(answers, c.at),
+        fresh: false,
+        same: is_same,
         ..c
     }
 }
 
-fn compare(text: &[u8], from: usize, answers: &[u8], answered: usize) -> Compared {
+fn compare(text: &[u8], from: usize, answers: &[u8]) -> Compared {
     let mut c = Cursor {
+        known: from,
+        given: 0,
         at: 0,
         fresh: true,
         same: true,
+        all: true,
         done: false,
     };
     let mut i = from;
     while i < text.len() {
-        c = compare_byte(c, text[i], answers);
+        let b = text[i];
         i += 1;
+        c = compare_byte(c, text, i, b, answers);
         if c.done {
             return Compared {
                 next: i,
-                same: c.same & (c.at == answered),
+                same: c.all & (c.at == answers.len()),
             };
         }
     }
@@ -238,7 +281,7 @@ fn run_block(text: &[u8], from: usize) -> Compared {
         &mut line,
         &mut answers,
     );
-    compare(text, ran.next, &answers, ran.answered)
+    compare(text, ran.next, first_bytes(&answers, ran.answered))
 }
 
 fn show(number: u64, words: &[u8]) {

@@ -7,22 +7,22 @@ use Rattle.trace_test.proofs.compare.Statement.{statement}
 use Rattle.trace_test.proofs.compare.Tie as tie
 
 abbrev Inv-loop : tie.InvT-loop
-Inv-loop text from answers answered c₀ i₀ c i = Unit {0}
+Inv-loop text from answers c₀ i₀ c i = Unit {0}
 
 abbrev μ-loop : tie.MeasureT-loop
-μ-loop text from answers answered c₀ i₀ c i = length text - i
+μ-loop text from answers c₀ i₀ c i = length text - i
 
 loop-holds : tie.Need-loop-holds Inv-loop μ-loop
 loop-holds c = search needs
 
-shared-slice-read-compare-byte : tie.Need-shared-slice-read-compare-byte Inv-loop μ-loop
-shared-slice-read-compare-byte c = search needs
-
-compare-byte-requires : tie.Need-compare-byte-requires Inv-loop μ-loop
-compare-byte-requires c κs = search needs
+shared-slice-read-b : tie.Need-shared-slice-read-b Inv-loop μ-loop
+shared-slice-read-b c = search needs
 
 add-i : tie.Need-add-i Inv-loop μ-loop
 add-i c = search needs
+
+compare-byte-requires : tie.Need-compare-byte-requires Inv-loop μ-loop
+compare-byte-requires c κs = search needs
 
 returns : tie.Need-returns Inv-loop μ-loop
 returns c = search needs
@@ -43,9 +43,9 @@ compare-spec =
     Inv-loop
     μ-loop
     loop-holds
-    shared-slice-read-compare-byte
-    compare-byte-requires
+    shared-slice-read-b
     add-i
+    compare-byte-requires
     returns
     loop-less
     loop-again

@@ -1,16 +1,16 @@
--- `trace_test::field_end` is safe and ends: the measure is what is left of the answers; nothing has to hold from turn to turn.
+-- `trace_test::end_of` is safe and ends: the measure is what is left of the answers; nothing has to hold from turn to turn.
 -- Assumes nothing.
 use Prim.Native.Nat.{_-_}
 use lib.ListN.{length}
 use borrow.Author.Needs.{needs}
-use Rattle.trace_test.proofs.field_end.Statement.{statement}
-use Rattle.trace_test.proofs.field_end.Tie as tie
+use Rattle.trace_test.proofs.end_of.Statement.{statement}
+use Rattle.trace_test.proofs.end_of.Tie as tie
 
 abbrev Inv-loop : tie.InvT-loop
-Inv-loop answers from i₀ i = Unit {0}
+Inv-loop answers from mark i₀ i = Unit {0}
 
 abbrev μ-loop : tie.MeasureT-loop
-μ-loop answers from i₀ i = length answers - i
+μ-loop answers from mark i₀ i = length answers - i
 
 loop-holds : tie.Need-loop-holds Inv-loop μ-loop
 loop-holds c = search needs
@@ -33,8 +33,8 @@ loop-again c = search needs
 returns-2 : tie.Need-returns-2 Inv-loop μ-loop
 returns-2 c = search needs
 
-pub field-end-spec : {M : Type 1} → statement M
-field-end-spec =
+pub end-of-spec : {M : Type 1} → statement M
+end-of-spec =
     tie.close
     (tie.spec
     Inv-loop
