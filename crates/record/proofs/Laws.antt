@@ -1,7 +1,7 @@
 -- The laws of `specs/Shape.antt` and `specs/Changes.antt` that a caller cites: what the shape says in numbers, and which changes keep it. Assumes nothing.
 use Prim.Native.Nat.{ℕ, _+_, _-_, _*_, _%_, _≤_, _<_}
-use mathlib.Core.Path.{_≡_, refl}
-use mathlib.Core.Bool.{Bool, true, false, not, _||_}
+use mathlib.Core.Path.{_≡_, refl, sym}
+use mathlib.Core.Bool.{Bool, true, false, not, _&&_, _||_}
 use native.Mathlib.Omega.{arith}
 use lib.Dec.{leb, ltb, eqb}
 use borrow.Author.Tests.{eqb-true, leb-true, ltb-true, eq-eqb, le-leb}
@@ -10,8 +10,8 @@ use Rattle.units.specs.declared.GuestAddr.{GuestAddr}
 use Rattle.units.proofs.Tests.{by-test, and-left, and-right}
 use Rattle.record.specs.declared.Device.{Device}
 use Rattle.record.specs.declared.Pending.{Pending}
-use Rattle.record.specs.declared.Pending.the-variants.{Create, Discard, DiscardOne}
-use Rattle.record.specs.Shape.{alignmentOk, regionOk, sizeOk, spanOf, startOk, severalOk, pendingOk, shapedOf}
+use Rattle.record.specs.declared.Pending.the-variants.{Nothing, Create, Discard, DiscardOne}
+use Rattle.record.specs.Shape.{alignmentOk, regionOk, sizeOk, spanOf, startOk, severalOk, pendingOk, restOk, shapedOf, isIdle}
 use Rattle.record.specs.Changes.{configWith, deviceWith, pendingTo, placedTo, startTo, usableTo, pluggedTo, requestedTo}
 
 -- ---- the five alignments
@@ -187,6 +187,61 @@ shaped-is d e =
       rows-few = m .few (r .3);
       several-large = several-is (d .«multi_region») (c .«region_size») (p .several);
     }
+
+-- ---- the shape as `shaped` tests it
+-- the tests that take a part of the shape together with another
+pub record Tested (d : Device) : Type 0 where
+  pub alignment : alignmentOk (d .alignment) ≡ true
+  pub blocks : (eqb (d .config .«requested_size» % 4194304) 0 && (eqb (d .config .«usable_region_size» % 4194304) 0 && eqb (d .config .«plugged_size» % 4194304) 0)) ≡ true
+  pub inside : (leb (d .config .«requested_size») (d .config .«region_size») && (leb (d .config .«usable_region_size») (d .config .«region_size») && leb (d .config .«plugged_size») (d .config .«region_size»))) ≡ true
+  pub start : d .config .addr .0 % d .alignment ≡ 0
+
+pub tested : (d : Device) → Parts d → Tested d
+tested d p =
+    let c = d .config in
+    let b = eqb-true (c .«block_size») 4194304 (p .block) in
+    let q = size-is (c .«block_size») (c .«requested_size») (c .«region_size») b (p .requested) in
+    let u = size-is (c .«block_size») (c .«usable_region_size») (c .«region_size») b (p .usable) in
+    let g = size-is (c .«block_size») (c .«plugged_size») (c .«region_size») b (p .plugged) in
+    record {
+      alignment = region-is (c .«region_size») (d .alignment) (p .region) .0;
+      blocks = simp (q .0, u .0, g .0);
+      inside = simp (le-leb _ _ (q .1), le-leb _ _ (u .1), le-leb _ _ (g .1));
+      start = start-is (c .addr .0) (c .«region_size») (d .«multi_region») (d .alignment) (p .start) .0;
+    }
+
+-- one test that fails is enough
+pub unshaped : (d : Device) (t : Bool) → (Parts d → t ≡ true) → t ≡ false → false ≡ shapedOf d
+unshaped d t f e =
+    by-test (shapedOf d)
+    (λ s. let h : t ≡ true = f (parts d s) in absurd (let z : _≡_ {A = ℕ} 0 1 = cc in omega arith))
+    (λ s. sym s)
+
+-- past the others, `restOk` is all that is left
+pub rest-is : (d : Device) → d .config .«block_size» ≡ 4194304 → regionOk (d .config .«region_size») (d .alignment) ≡ true → (eqb (d .config .«requested_size» % 4194304) 0 && (eqb (d .config .«usable_region_size» % 4194304) 0 && eqb (d .config .«plugged_size» % 4194304) 0)) ≡ true → (leb (d .config .«requested_size») (d .config .«region_size») && (leb (d .config .«usable_region_size») (d .config .«region_size») && leb (d .config .«plugged_size») (d .config .«region_size»))) ≡ true → d .config .addr .0 % d .alignment ≡ 0 → shapedOf d ≡ restOk (d .config .addr .0) (d .config .«region_size») (d .«multi_region») (d .pending) (d .config .«plugged_size»)
+unfolding shapedOf startOk sizeOk restOk
+rest-is d b r m i s =
+    let c = d .config in
+    let q = eqb (c .«requested_size» % 4194304) 0 in
+    let u = eqb (c .«usable_region_size» % 4194304) 0 in
+    let k = leb (c .«requested_size») (c .«region_size») in
+    let l = leb (c .«usable_region_size») (c .«region_size») in
+    let n = and-right q _ m in
+    let j = and-right k _ i in
+    simp (b, r, and-left q _ m, and-left u _ n, and-right u _ n, and-left k _ i, and-left l _ j, and-right l _ j, s)
+
+and-true : (t : Bool) → (t && true) ≡ t
+and-true true = refl
+and-true false = refl
+
+-- a single region that waits for nothing
+pub single : (start region plugged : ℕ) (several : Bool) (p : Pending) → (not several && isIdle p) ≡ true → restOk start region several p plugged ≡ leb (start + region) top
+unfolding restOk spanOf severalOk pendingOk
+single start region plugged false Nothing e = and-true (leb (start + region) top)
+single start region plugged false (Create first last) e = absurd (let z : _≡_ {A = ℕ} 0 1 = cc in omega arith)
+single start region plugged false (Discard first count status) e = absurd (let z : _≡_ {A = ℕ} 0 1 = cc in omega arith)
+single start region plugged false (DiscardOne block status) e = absurd (let z : _≡_ {A = ℕ} 0 1 = cc in omega arith)
+single start region plugged true p e = absurd (let z : _≡_ {A = ℕ} 0 1 = cc in omega arith)
 
 -- ---- the pending call in numbers
 pub record RowsInside (d : Device) (first last : ℕ) : Type 0 where

@@ -40,6 +40,11 @@ pendingOk (Discard first count status) b region several plugged =
     leb (first + count) (blocksIn b region) && leb (bytesOf b count) plugged
 pendingOk (DiscardOne block status) b region several plugged = ltb block (blocksIn b region)
 
+-- the last parts of the shape: of a single region that waits for nothing, its end alone
+unfoldable pub restOk : (start region : ℕ) (several : Bool) (pending : Pending) (plugged : ℕ) → Bool
+restOk start region several pending plugged =
+    leb (start + spanOf region several) top && (severalOk several region && pendingOk pending 4194304 region several plugged)
+
 -- "Record shape": the whole paragraph, in its order
 unfoldable pub shapedOf : Device → Bool
 shapedOf d =

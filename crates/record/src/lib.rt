@@ -9,10 +9,11 @@ use units::product_within;
 use units::sum_within;
 use wire::VirtioMemConfig;
 ghost use mathlib.Core.Path.{_≡_};
+ghost use mathlib.Core.Bool.{true, _&&_};
 ghost use Prim.Native.Nat.{_+_, _%_};
 ghost use lib.Dec.{leb, eqb};
 ghost use Rattle.units.specs.Numbers.{top};
-ghost use Rattle.record.specs.Shape.{alignmentOk, regionOk, sizeOk, spanOf, startOk, severalOk, pendingOk, shapedOf, isIdle, featuresOf};
+ghost use Rattle.record.specs.Shape.{alignmentOk, regionOk, spanOf, startOk, severalOk, pendingOk, restOk, shapedOf, isIdle, featuresOf};
 
 const VIRTIO_F_VERSION_1: u64 = 32;
 
@@ -88,21 +89,27 @@ fn alignment_ok(alignment: u64) -> bool
     }
 }
 
-// A positive multiple of twice a legal alignment, at most 1 TiB.
+// A positive multiple of twice the alignment, at most 1 TiB.
 fn region_ok(region: u64, alignment: u64) -> bool
+    requires { ⌜ alignmentOk alignment ≡ true ⌝ }
     ensures { λ r. ⌜ r ≡ regionOk region alignment ⌝ }
 {
-    if !alignment_ok(alignment) {
-        return false;
-    }
     (0 < region) & ((region % (2 * alignment) == 0) & (region <= MAX_REGION_SIZE))
 }
 
-// A multiple of the block size, at most the region.
-fn size_ok(size: u64, region: u64) -> bool
-    ensures { λ r. ⌜ r ≡ sizeOk 4194304 size region ⌝ }
+// Three sizes that are multiples of the block size.
+fn in_blocks(requested: u64, usable: u64, plugged: u64) -> bool
+    ensures { λ r. ⌜ r ≡ (eqb (requested % 4194304) 0 && (eqb (usable % 4194304) 0 && eqb (plugged % 4194304) 0)) ⌝ }
 {
-    (size % MemTool::BLOCK_SIZE == 0) & (size <= region)
+    (requested % MemTool::BLOCK_SIZE == 0)
+        & ((usable % MemTool::BLOCK_SIZE == 0) & (plugged % MemTool::BLOCK_SIZE == 0))
+}
+
+// Three sizes that are at most the region.
+fn in_region(requested: u64, usable: u64, plugged: u64, region: u64) -> bool
+    ensures { λ r. ⌜ r ≡ (leb requested region && (leb usable region && leb plugged region)) ⌝ }
+{
+    (requested <= region) & ((usable <= region) & (plugged <= region))
 }
 
 // Whether what lies from the start on ends at 2^64 - 1 or below.
@@ -152,25 +159,51 @@ fn pending_ok(pending: Pending, region: u64, several: bool, plugged: u64) -> boo
     }
 }
 
+// The last parts of the shape: where the regions end, that several are large enough, and the pending call.
+fn rest_ok(start: u64, region: u64, several: bool, pending: Pending, plugged: u64) -> bool
+    ensures { λ r. ⌜ r ≡ restOk start region several pending plugged ⌝ }
+{
+    span_within(start, region, several)
+        & (several_ok(several, region) & pending_ok(pending, region, several, plugged))
+}
+
 // Whether the record has the stated shape: 12 is given where it has not.
+// The alignment comes first: past its test it is a power of two, and a remainder by it is a mask.
 pub fn shaped(d: Device) -> bool
     ensures { λ r. ⌜ r ≡ shapedOf d ⌝ }
 {
+    let alignment = d.alignment;
     let region = d.config.region_size;
+    let requested = d.config.requested_size;
+    let usable = d.config.usable_region_size;
     let plugged = d.config.plugged_size;
+    let start = d.config.addr.0;
     let several = d.multi_region;
-    let start = d.config.addr;
-    let pending = d.pending;
+    if !alignment_ok(alignment) {
+        return false;
+    }
+    if !region_ok(region, alignment) {
+        return false;
+    }
     if d.config.block_size != MemTool::BLOCK_SIZE {
         return false;
     }
-    region_ok(region, d.alignment)
-        & (size_ok(d.config.requested_size, region)
-            & (size_ok(d.config.usable_region_size, region)
-                & (size_ok(plugged, region)
-                    & (start_ok(start, region, several, d.alignment)
-                        & (several_ok(several, region)
-                            & pending_ok(pending, region, several, plugged))))))
+    if !in_blocks(requested, usable, plugged) {
+        return false;
+    }
+    if !in_region(requested, usable, plugged, region) {
+        return false;
+    }
+    if start % alignment != 0 {
+        return false;
+    }
+    let pending = d.pending;
+    if !several & is_idle(pending) {
+        return sum_within(start, region, MAX);
+    }
+    // A copy of its own, so that a device that waits for nothing makes none.
+    let waits_for = d.pending;
+    rest_ok(start, region, several, waits_for, plugged)
 }
 
 // Whether no host call is pending.
