@@ -15,9 +15,11 @@ use Rattle.record.specs.declared.Device.{Device}
 use Rattle.record.specs.declared.Pending.{Pending}
 use Rattle.record.specs.declared.Pending.the-variants.{Nothing, Create, Discard, DiscardOne}
 use Rattle.record.specs.Changes.{pendingTo}
+use Rattle.words.specs.declared.Call.{Call}
+use Rattle.words.specs.declared.Call.the-variants.{Known, Unknown}
 use Rattle.words.specs.declared.Decoded.{Decoded}
 use Rattle.words.specs.declared.Decoded.the-variants.{Is, NoRecord}
-use Rattle.words.specs.Record.{bit, word, pendingWords, wordsOf, pendingOf, pendingFits, isRecord, recordOf, decodedOf}
+use Rattle.words.specs.Record.{bit, word, pendingWords, wordsOf, pendingOf, pendingFits, callOf, isRecord, recordOf, decodedOf}
 
 both : (a b : Bool) → (a && b) ≡ true → (a ≡ true) × (b ≡ true)
 both a b h = (and-left a b h, and-right a b h)
@@ -45,6 +47,41 @@ record-fits ws h =
       placed = leb-true (word ws 10) 1 (h₃ .0);
       pending = h₃ .1;
     }
+
+-- ---- the words test by test, as `decode` does it
+-- one test that fails is enough
+pub unfit : (ws : List ℕ) (t : Bool) → (Fits ws → t ≡ true) → t ≡ false → NoRecord ≡ decodedOf ws
+unfolding decodedOf
+unfit ws t f e =
+    by-test (isRecord ws)
+    (λ s. let h : t ≡ true = f (record-fits ws s) in absurd (let z : _≡_ {A = ℕ} 0 1 = cc in omega arith))
+    (λ s. simp s)
+
+pub fit : (ws : List ℕ) → Fits ws → decodedOf ws ≡ Is (recordOf ws)
+unfolding decodedOf isRecord
+fit ws f = simp (le-leb _ _ (f .long), le-leb _ _ (f .node), le-leb _ _ (f .several), le-leb _ _ (f .placed), f .pending)
+
+-- the call that is known, and whether one is
+abbrev call : Pending → Call → Pending
+call p (Known q) = q
+call p Unknown = p
+
+abbrev is-known : Call → Bool
+is-known (Known p) = true
+is-known Unknown = false
+
+pub known : (k a b c : ℕ) (p : Pending) → callOf k a b c ≡ Known p → (pendingFits k a b c ≡ true) × (pendingOf k a b c ≡ p)
+unfolding callOf
+known k a b c p h =
+    by-test (pendingFits k a b c) (λ t. let g : Known (pendingOf k a b c) ≡ Known p = simp t at h in (t, ap (call p) g))
+    (λ t. let g : Unknown ≡ Known p = simp t at h in let z : false ≡ true = ap is-known g in absurd (let y : _≡_ {A = ℕ} 0 1 = cc in omega arith))
+
+pub unknown : (k a b c : ℕ) → callOf k a b c ≡ Unknown → pendingFits k a b c ≡ false
+unfolding callOf
+unknown k a b c h =
+    by-test (pendingFits k a b c)
+    (λ t. let g : Known (pendingOf k a b c) ≡ Unknown = simp t at h in let z : true ≡ false = ap is-known g in absurd (let y : _≡_ {A = ℕ} 0 1 = cc in omega arith))
+    (λ t. t)
 
 -- ---- a record reads back
 
@@ -157,16 +194,16 @@ abbrev meant : Device → Decoded → Device
 meant e (Is d) = d
 meant e NoRecord = e
 
-abbrev known : Decoded → ℕ
-known (Is d) = 1
-known NoRecord = 0
+abbrev is-record : Decoded → ℕ
+is-record (Is d) = 1
+is-record NoRecord = 0
 
 -- words that decode are a record's
 pub decoded-fits : (ws : List ℕ) (d : Device) → decodedOf ws ≡ Is d → (isRecord ws ≡ true) × (recordOf ws ≡ d)
 unfolding decodedOf
 decoded-fits ws d h =
     by-test (isRecord ws) (λ t. let g : Is (recordOf ws) ≡ Is d = simp t at h in (t, ap (meant d) g))
-    (λ t. let g : NoRecord ≡ Is d = simp t at h in let y : _≡_ {A = ℕ} 0 1 = ap known g in absurd (omega arith))
+    (λ t. let g : NoRecord ≡ Is d = simp t at h in let y : _≡_ {A = ℕ} 0 1 = ap is-record g in absurd (omega arith))
 
 pub decoded-long : (ws : List ℕ) (d : Device) → decodedOf ws ≡ Is d → 15 ≤ length ws
 decoded-long ws d h = record-fits ws (decoded-fits ws d h .0) .long

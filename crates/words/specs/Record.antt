@@ -7,6 +7,8 @@ use lib.ListN.{length, getD}
 use Rattle.record.specs.declared.Device.{Device}
 use Rattle.record.specs.declared.Pending.{Pending}
 use Rattle.record.specs.declared.Pending.the-variants.{Nothing, Create, Discard, DiscardOne}
+use Rattle.words.specs.declared.Call.{Call}
+use Rattle.words.specs.declared.Call.the-variants.{Known, Unknown}
 use Rattle.words.specs.declared.Decoded.{Decoded}
 use Rattle.words.specs.declared.Decoded.the-variants.{Is, NoRecord}
 
@@ -55,6 +57,11 @@ pendingFits kind first second status =
     (cond (eqb kind 2) true
     (cond (eqb kind 3) (eqb second 0)
     false)))
+
+-- the call that four words mean, where they fit
+unfoldable pub callOf : (kind first second status : ℕ) → Call
+callOf kind first second status =
+    cond (pendingFits kind first second status) (Known (pendingOf kind first second status)) Unknown
 
 -- the word at a place
 abbrev pub word : List ℕ → ℕ → ℕ

@@ -11,7 +11,7 @@ ghost use Prim.Native.Nat.{_≤_};
 ghost use lib.ListN.{length};
 ghost use Rattle.wire.specs.Bytes.{put};
 ghost use Rattle.words.specs.declared.Decoded.the-variants.{Is};
-ghost use Rattle.words.specs.Record.{bit, word, pendingOf, pendingFits, isRecord, recordOf, decodedOf, wordsOf, pendingWords};
+ghost use Rattle.words.specs.Record.{bit, callOf, decodedOf, wordsOf, pendingWords};
 ghost use Rattle.words.specs.Answers.{answerWords, questionWords, numberOf};
 
 // A record's length in words.
@@ -23,69 +23,60 @@ pub enum Decoded {
     NoRecord,
 }
 
+// What four words mean as a pending call.
+enum Call {
+    Known(Pending),
+    Unknown,
+}
+
 fn bit(flag: bool) -> u64
     ensures { λ r. ⌜ r ≡ bit flag ⌝ }
 {
     if flag { 1 } else { 0 }
 }
 
-// The pending call that four words mean; only where they fit is that the whole meaning.
-fn pending_of(kind: u64, first: u64, second: u64, status: u64) -> Pending
-    ensures { λ r. ⌜ r ≡ pendingOf kind first second status ⌝ }
+// The pending call that four words mean: a known kind, and 0 in each word that the kind has no use for.
+fn call_of(kind: u64, first: u64, second: u64, status: u64) -> Call
+    ensures { λ r. ⌜ r ≡ callOf kind first second status ⌝ }
 {
+    if (kind == 0) & ((first == 0) & ((second == 0) & (status == 0))) {
+        return Call::Known(Pending::Nothing);
+    }
     match kind {
-        1 => Pending::Create {
-            first: first,
-            last: second,
-        },
-        2 => Pending::Discard {
+        1 => {
+            if status != 0 {
+                return Call::Unknown;
+            }
+            Call::Known(Pending::Create {
+                first: first,
+                last: second,
+            })
+        }
+        2 => Call::Known(Pending::Discard {
             first: first,
             count: second,
             status: GuestAddr(status),
-        },
-        3 => Pending::DiscardOne {
-            block: first,
-            status: GuestAddr(status),
-        },
-        _ => Pending::Nothing,
+        }),
+        3 => {
+            if second != 0 {
+                return Call::Unknown;
+            }
+            Call::Known(Pending::DiscardOne {
+                block: first,
+                status: GuestAddr(status),
+            })
+        }
+        _ => Call::Unknown,
     }
 }
 
-// Whether four words are a pending call: a known kind, and 0 in each word that the kind has no use for.
-fn pending_fits(kind: u64, first: u64, second: u64, status: u64) -> bool
-    ensures { λ r. ⌜ r ≡ pendingFits kind first second status ⌝ }
-{
-    match kind {
-        0 => (first == 0) & ((second == 0) & (status == 0)),
-        1 => status == 0,
-        2 => true,
-        3 => second == 0,
-        _ => false,
-    }
-}
-
-// Whether the first words are a record's.
-fn is_record(words: &[u64]) -> bool
-    ensures { λ r. ⌜ r ≡ isRecord (now (words .entry)) ⌝ }
+// The record that words begin with, if they do.
+pub fn decode(words: &[u64]) -> Decoded
+    ensures { λ r. ⌜ r ≡ decodedOf (now (words .entry)) ⌝ }
 {
     if words.len() < RECORD_WORDS {
-        return false;
+        return Decoded::NoRecord;
     }
-    let node = words[1];
-    let several = words[8];
-    let placed = words[10];
-    let kind = words[11];
-    let first = words[12];
-    let second = words[13];
-    let status = words[14];
-    (node <= 65535) & ((several <= 1) & ((placed <= 1) & pending_fits(kind, first, second, status)))
-}
-
-// The record that the first words mean.
-fn record_of(words: &[u64]) -> Device
-    requires { ⌜ (15 ≤ length (now words)) × (word (now words) 1 ≤ 65535) ⌝ }
-    ensures { λ r. ⌜ r ≡ recordOf (now (words .entry)) ⌝ }
-{
     let block_size = words[0];
     let node = words[1];
     let start = words[2];
@@ -101,8 +92,13 @@ fn record_of(words: &[u64]) -> Device
     let first = words[12];
     let second = words[13];
     let status = words[14];
-    let pending = pending_of(kind, first, second, status);
-    Device {
+    let Call::Known(pending) = call_of(kind, first, second, status) else {
+        return Decoded::NoRecord;
+    };
+    if !((node <= 65535) & ((several <= 1) & (placed <= 1))) {
+        return Decoded::NoRecord;
+    }
+    Decoded::Is(Device {
         config: VirtioMemConfig {
             block_size: block_size,
             node_id: node as u16,
@@ -117,17 +113,7 @@ fn record_of(words: &[u64]) -> Device
         avail_features: features,
         placed: placed == 1,
         pending: pending,
-    }
-}
-
-// The record that words begin with, if they do.
-pub fn decode(words: &[u64]) -> Decoded
-    ensures { λ r. ⌜ r ≡ decodedOf (now (words .entry)) ⌝ }
-{
-    if !is_record(words) {
-        return Decoded::NoRecord;
-    }
-    Decoded::Is(record_of(words))
+    })
 }
 
 // `what` from the first word on; none past the end.
