@@ -11,7 +11,7 @@ use Rattle.units.proofs.Tests.{by-test, and-left, and-right}
 use Rattle.record.specs.declared.Device.{Device}
 use Rattle.record.specs.declared.Pending.{Pending}
 use Rattle.record.specs.declared.Pending.the-variants.{Nothing, Create, Discard, DiscardOne}
-use Rattle.record.specs.Shape.{alignmentOk, regionOk, sizeOk, spanOf, startOk, severalOk, pendingOk, restOk, shapedOf, isIdle}
+use Rattle.record.specs.Shape.{alignmentOk, regionOk, sizeOk, blocksOk, insideOk, spanOf, startOk, severalOk, pendingOk, restOk, shapedOf, isIdle}
 use Rattle.record.specs.Changes.{configWith, deviceWith, pendingTo, placedTo, startTo, usableTo, pluggedTo, requestedTo}
 
 -- ---- the five alignments
@@ -192,8 +192,8 @@ shaped-is d e =
 -- the tests that take a part of the shape together with another
 pub record Tested (d : Device) : Type 0 where
   pub alignment : alignmentOk (d .alignment) ≡ true
-  pub blocks : (eqb (d .config .«requested_size» % 4194304) 0 && (eqb (d .config .«usable_region_size» % 4194304) 0 && eqb (d .config .«plugged_size» % 4194304) 0)) ≡ true
-  pub inside : (leb (d .config .«requested_size») (d .config .«region_size») && (leb (d .config .«usable_region_size») (d .config .«region_size») && leb (d .config .«plugged_size») (d .config .«region_size»))) ≡ true
+  pub blocks : blocksOk (d .config .«requested_size») (d .config .«usable_region_size») (d .config .«plugged_size») ≡ true
+  pub inside : insideOk (d .config .«requested_size») (d .config .«usable_region_size») (d .config .«plugged_size») (d .config .«region_size») ≡ true
   pub start : d .config .addr .0 % d .alignment ≡ 0
 
 pub tested : (d : Device) → Parts d → Tested d
@@ -218,17 +218,17 @@ unshaped d t f e =
     (λ s. sym s)
 
 -- past the others, `restOk` is all that is left
-pub rest-is : (d : Device) → d .config .«block_size» ≡ 4194304 → regionOk (d .config .«region_size») (d .alignment) ≡ true → (eqb (d .config .«requested_size» % 4194304) 0 && (eqb (d .config .«usable_region_size» % 4194304) 0 && eqb (d .config .«plugged_size» % 4194304) 0)) ≡ true → (leb (d .config .«requested_size») (d .config .«region_size») && (leb (d .config .«usable_region_size») (d .config .«region_size») && leb (d .config .«plugged_size») (d .config .«region_size»))) ≡ true → d .config .addr .0 % d .alignment ≡ 0 → shapedOf d ≡ restOk (d .config .addr .0) (d .config .«region_size») (d .«multi_region») (d .pending) (d .config .«plugged_size»)
+pub rest-is : (d : Device) → d .config .«block_size» ≡ 4194304 → regionOk (d .config .«region_size») (d .alignment) ≡ true → Tested d → shapedOf d ≡ restOk (d .config .addr .0) (d .config .«region_size») (d .«multi_region») (d .pending) (d .config .«plugged_size»)
 unfolding shapedOf startOk sizeOk restOk
-rest-is d b r m i s =
+rest-is d b r t =
     let c = d .config in
     let q = eqb (c .«requested_size» % 4194304) 0 in
     let u = eqb (c .«usable_region_size» % 4194304) 0 in
     let k = leb (c .«requested_size») (c .«region_size») in
     let l = leb (c .«usable_region_size») (c .«region_size») in
-    let n = and-right q _ m in
-    let j = and-right k _ i in
-    simp (b, r, and-left q _ m, and-left u _ n, and-right u _ n, and-left k _ i, and-left l _ j, and-right l _ j, s)
+    let n = and-right q _ (t .blocks) in
+    let j = and-right k _ (t .inside) in
+    simp (b, r, and-left q _ (t .blocks), and-left u _ n, and-right u _ n, and-left k _ (t .inside), and-left l _ j, and-right l _ j, t .start)
 
 and-true : (t : Bool) → (t && true) ≡ t
 and-true true = refl

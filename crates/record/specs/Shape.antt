@@ -20,6 +20,13 @@ regionOk region alignment =
 unfoldable pub sizeOk : (b size region : ℕ) → Bool
 sizeOk b size region = eqb (size % b) 0 && leb size region
 
+-- .. the three multiples at once, and the three bounds
+abbrev pub blocksOk : (requested usable plugged : ℕ) → Bool
+blocksOk requested usable plugged = eqb (requested % 4194304) 0 && (eqb (usable % 4194304) 0 && eqb (plugged % 4194304) 0)
+
+abbrev pub insideOk : (requested usable plugged region : ℕ) → Bool
+insideOk requested usable plugged region = leb requested region && (leb usable region && leb plugged region)
+
 -- what 4 adds to the start: "region (several regions: + 2 GiB x their count)"
 unfoldable pub spanOf : (region : ℕ) (several : Bool) → ℕ
 spanOf region several = cond several (mapRegions region several * mapRegion) region

@@ -9,11 +9,11 @@ use units::product_within;
 use units::sum_within;
 use wire::VirtioMemConfig;
 ghost use mathlib.Core.Path.{_≡_};
-ghost use mathlib.Core.Bool.{true, _&&_};
+ghost use mathlib.Core.Bool.{true};
 ghost use Prim.Native.Nat.{_+_, _%_};
 ghost use lib.Dec.{leb, eqb};
 ghost use Rattle.units.specs.Numbers.{top};
-ghost use Rattle.record.specs.Shape.{alignmentOk, regionOk, spanOf, startOk, severalOk, pendingOk, restOk, shapedOf, isIdle, featuresOf};
+ghost use Rattle.record.specs.Shape.{alignmentOk, regionOk, blocksOk, insideOk, spanOf, startOk, severalOk, pendingOk, restOk, shapedOf, isIdle, featuresOf};
 
 const VIRTIO_F_VERSION_1: u64 = 32;
 
@@ -98,16 +98,16 @@ fn region_ok(region: u64, alignment: u64) -> bool
 }
 
 // Three sizes that are multiples of the block size.
-fn in_blocks(requested: u64, usable: u64, plugged: u64) -> bool
-    ensures { λ r. ⌜ r ≡ (eqb (requested % 4194304) 0 && (eqb (usable % 4194304) 0 && eqb (plugged % 4194304) 0)) ⌝ }
+fn blocks_ok(requested: u64, usable: u64, plugged: u64) -> bool
+    ensures { λ r. ⌜ r ≡ blocksOk requested usable plugged ⌝ }
 {
     (requested % MemTool::BLOCK_SIZE == 0)
         & ((usable % MemTool::BLOCK_SIZE == 0) & (plugged % MemTool::BLOCK_SIZE == 0))
 }
 
 // Three sizes that are at most the region.
-fn in_region(requested: u64, usable: u64, plugged: u64, region: u64) -> bool
-    ensures { λ r. ⌜ r ≡ (leb requested region && (leb usable region && leb plugged region)) ⌝ }
+fn inside_ok(requested: u64, usable: u64, plugged: u64, region: u64) -> bool
+    ensures { λ r. ⌜ r ≡ insideOk requested usable plugged region ⌝ }
 {
     (requested <= region) & ((usable <= region) & (plugged <= region))
 }
@@ -188,10 +188,10 @@ pub fn shaped(d: Device) -> bool
     if d.config.block_size != MemTool::BLOCK_SIZE {
         return false;
     }
-    if !in_blocks(requested, usable, plugged) {
+    if !blocks_ok(requested, usable, plugged) {
         return false;
     }
-    if !in_region(requested, usable, plugged, region) {
+    if !inside_ok(requested, usable, plugged, region) {
         return false;
     }
     if start % alignment != 0 {

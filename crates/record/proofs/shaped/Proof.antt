@@ -28,19 +28,19 @@ returns-3 : tie.Need-returns-3
 returns-3 c =
     unshaped (c .before .before .before .before .before .before .args .d) _ (λ p. p .block) (ne-eqb _ _ (c .if3 .taken))
 
-in-blocks-requires : tie.Need-in-blocks-requires
-in-blocks-requires c κs = search needs
+blocks-ok-requires : tie.Need-blocks-ok-requires
+blocks-ok-requires c κs = search needs
 
 returns-4 : tie.Need-returns-4
 returns-4 c =
-    unshaped (c .before .before .before .before .before .before .before .before .args .d) _ (λ p. tested _ p .blocks) (refused _ _ (c .before .in-blocks .ensures) (c .if4 .taken))
+    unshaped (c .before .before .before .before .before .before .before .before .args .d) _ (λ p. tested _ p .blocks) (refused _ _ (c .before .blocks-ok .ensures) (c .if4 .taken))
 
-in-region-requires : tie.Need-in-region-requires
-in-region-requires c κs = search needs
+inside-ok-requires : tie.Need-inside-ok-requires
+inside-ok-requires c κs = search needs
 
 returns-5 : tie.Need-returns-5
 returns-5 c =
-    unshaped (c .before .before .before .before .before .before .before .before .before .before .args .d) _ (λ p. tested _ p .inside) (refused _ _ (c .before .in-region .ensures) (c .if5 .taken))
+    unshaped (c .before .before .before .before .before .before .before .before .before .before .args .d) _ (λ p. tested _ p .inside) (refused _ _ (c .before .inside-ok .ensures) (c .if5 .taken))
 
 rem-if6 : tie.Need-rem-if6
 rem-if6 c =
@@ -64,9 +64,12 @@ past-6 c =
     rest-is (c .before .before .before .before .before .before .before .before .before .before .before .args .d)
     (c .before .before .before .before .before .if3 .left)
     (passed _ _ (c .before .before .before .before .before .before .before .before .region-ok .ensures) (c .before .before .before .before .before .before .before .if2 .left))
-    (passed _ _ (c .before .before .before .before .in-blocks .ensures) (c .before .before .before .if4 .left))
-    (passed _ _ (c .before .before .in-region .ensures) (c .before .if5 .left))
-    (c .if6 .left)
+    (record {
+      alignment = passed _ _ (c .before .before .before .before .before .before .before .before .before .before .alignment-ok .ensures) (c .before .before .before .before .before .before .before .before .before .if1 .left);
+      blocks = passed _ _ (c .before .before .before .before .blocks-ok .ensures) (c .before .before .before .if4 .left);
+      inside = passed _ _ (c .before .before .inside-ok .ensures) (c .before .if5 .left);
+      start = c .if6 .left;
+    })
 
 returns-7 : tie.Need-returns-7
 returns-7 c =
@@ -90,9 +93,9 @@ shaped-spec =
     region-ok-requires
     returns-2
     returns-3
-    in-blocks-requires
+    blocks-ok-requires
     returns-4
-    in-region-requires
+    inside-ok-requires
     returns-5
     rem-if6
     returns-6
