@@ -2,10 +2,10 @@
 use Prim.Native.Nat.{ℕ, zero, suc, _+_, _-_, _*_, _/_, _%_, _^_, _≤_, _<_}
 use mathlib.Core.Path.{_≡_, refl, sym, ap, _∙_}
 use mathlib.Core.List.{List, [], _∷_, _++_, append-assoc}
-use native.Mathlib.Nat.{pow-succ', one-le-pow, div-one, div-div-eq-div-mul, mul-assoc, add-mul-mod-self-left, mod-lt, mod-one, mod-eq-of-lt, div-add-mod, zero-sub, suc-sub-suc, sub-zero}
+use native.Mathlib.Nat.{pow-succ', one-le-pow, div-one, div-div-eq-div-mul, mul-assoc, mul-comm, add-mul-mod-self-left, mod-lt, mod-one, mod-eq-of-lt, div-add-mod, zero-add, suc-add, zero-sub, suc-sub-suc, sub-zero}
 use native.Mathlib.Omega.{arith}
-use lib.ListN.{length, take, drop, getD, set, length-set}
-use lib.Seq.{sets, sets-eq, set-out, take-set-le, drop-set-lt, drop-set-add, take-take, drop-drop, take-at, drop-at, length-take-le, take-nil}
+use lib.ListN.{length, take, drop, getD, set, length-take, length-drop, length-set}
+use lib.Seq.{sets, sets-eq, set-out, take-set-le, drop-set-lt, drop-set-add, take-take, take-add, drop-drop, take-at, drop-at, length-take-le, take-nil}
 use Rattle.wire.specs.declared.VirtioMemResp.{VirtioMemResp}
 use Rattle.wire.specs.declared.VirtioMemConfig.{VirtioMemConfig}
 use Rattle.wire.specs.declared.Field.{Field}
@@ -39,14 +39,6 @@ value-littleEndian (suc n) v =
 pub value-fits : (n v : ℕ) → v < 256 ^ n → value (littleEndian n v) ≡ v
 value-fits n v h = value-littleEndian n v ∙ mod-eq-of-lt h
 
--- without its lowest s bytes, a number is what stands above them
-pub drop-littleEndian : (s n v : ℕ) → drop s (littleEndian n v) ≡ littleEndian (n - s) (v / 256 ^ s)
-unfolding littleEndian
-drop-littleEndian zero n v = rw (sub-zero, div-one)
-drop-littleEndian (suc s) zero v = rw zero-sub
-drop-littleEndian (suc s) (suc n) v =
-    rw (suc-sub-suc, pow-succ', ← div-div-eq-div-mul v 256 (256 ^ s)) (drop-littleEndian s n (v / 256))
-
 -- n bytes mean a number below 256 to the n
 pub value-below : (xs : List ℕ) → ((i : ℕ) → getD xs i 0 < 256) → value xs < 256 ^ length xs
 unfolding value
@@ -55,6 +47,18 @@ value-below (b ∷ bs) h =
     let here : b < 256 = h 0 in
     let there : value bs < 256 ^ length bs = value-below bs (λ i. h (suc i)) in
     rw (pow-succ' 256 (length bs)) (omega arith)
+
+-- the number of two parts, one behind the other
+value-append : (xs ys : List ℕ) → value (xs ++ ys) ≡ value xs + 256 ^ length xs * value ys
+unfolding value
+value-append [] ys = omega arith
+value-append (x ∷ xs) ys = rw (value-append xs ys, pow-succ', mul-assoc) (omega arith)
+
+-- a number of a + b bytes is its a lowest bytes and the b above them
+littleEndian-append : (a b v : ℕ) → littleEndian (a + b) v ≡ littleEndian a v ++ littleEndian b (v / 256 ^ a)
+unfolding littleEndian
+littleEndian-append zero b v = rw (zero-add, div-one)
+littleEndian-append (suc a) b v = rw (suc-add, pow-succ', ← div-div-eq-div-mul v 256 (256 ^ a), ← littleEndian-append a b (v / 256))
 
 -- ---- bytes written at a place
 
@@ -78,6 +82,13 @@ put-append xs at [] zs = let e : at + 0 ≡ at = omega arith in rw e
 put-append xs at (y ∷ ys) zs =
     let e : at + suc (length ys) ≡ suc at + length ys = omega arith in
     rw e (put-append (set xs at y) (suc at) ys zs)
+
+-- so are the two halves of a number
+pub put-halves : (xs : List ℕ) (at a b v : ℕ) {ys zs : List ℕ} → ys ≡ put xs at (littleEndian a v)
+    → zs ≡ put ys (at + a) (littleEndian b (v / 256 ^ a)) → zs ≡ put xs at (littleEndian (a + b) v)
+put-halves xs at a b v e f =
+    let n : length (littleEndian a v) ≡ a = length-littleEndian a v in
+    rw (littleEndian-append a b v, put-append, n, ← e) f
 
 -- the bytes before the place stay
 pub take-put : (n : ℕ) (xs : List ℕ) (at : ℕ) (ys : List ℕ) → n ≤ at → take n (put xs at ys) ≡ take n xs
@@ -114,6 +125,14 @@ drop-take (suc k) (suc m) (x ∷ l) = rw (suc-sub-suc) (drop-take k m l)
 pub part-drop : (xs : List ℕ) (at k n : ℕ) → part (drop at xs) k n ≡ part xs (at + k) n
 unfolding part
 part-drop xs at k n = ap (take n) (drop-drop k at xs)
+
+-- a number is read by its two halves
+pub value-halves : (xs : List ℕ) (at a b : ℕ) {low high : ℕ} → at + a ≤ length xs → low ≡ value (part xs at a)
+    → high ≡ value (part xs (at + a) b) → low + high * 256 ^ a ≡ value (part xs at (a + b))
+unfolding part
+value-halves xs at a b {low} {high} h e f =
+    let n : length (take a (drop at xs)) ≡ a = simp (length-take, length-drop) (omega arith) in
+    rw (take-add a b (drop at xs), value-append, n, drop-drop a at xs, ← e, ← f) (omega (arith, mul-comm high (256 ^ a)))
 
 -- a part of a part
 pub part-part : (xs : List ℕ) (at m k n : ℕ) → k + n ≤ m → part (part xs at m) k n ≡ part xs (at + k) n

@@ -2,8 +2,8 @@
 // The bytes of the device: little-endian numbers at a place, the request of 24, the response of 10 and the config of 56.
 use units::GuestAddr;
 ghost use mathlib.Core.Path.{_≡_};
-ghost use Prim.Native.Nat.{_-_, _≤_, _<_, _^_, min};
-ghost use lib.ListN.{drop};
+ghost use Prim.Native.Nat.{_+_, _-_, _%_, _≤_, _<_, _^_, min};
+ghost use lib.ListN.{length, drop};
 ghost use Rattle.wire.specs.Bytes.{value, littleEndian, part, put};
 ghost use Rattle.wire.specs.Layout.{requestAt, responseBytes, configFields, configBytes, newConfig};
 
@@ -87,7 +87,40 @@ fn lesser(a: usize, b: usize) -> usize
     if a < b { a } else { b }
 }
 
-// The number of the `width` bytes from `at` on, read from the highest byte down.
+// How many bytes stand from `at` on.
+fn room(bytes: &[u8], at: usize) -> usize
+    ensures { λ r. ⌜ r ≡ length (now (bytes .entry)) - at ⌝ }
+{
+    if at < bytes.len() {
+        bytes.len() - at
+    } else {
+        0
+    }
+}
+
+// A number whose bytes are all there, made of its two halves: the compiler reads it at once.
+fn u16_at(bytes: &[u8], at: usize) -> u16
+    requires { ⌜ at + 2 ≤ length (now bytes) ⌝ }
+    ensures { λ r. ⌜ r ≡ value (part (now (bytes .entry)) at 2) ⌝ }
+{
+    bytes[at] as u16 + bytes[at + 1] as u16 * 256
+}
+
+fn u32_at(bytes: &[u8], at: usize) -> u32
+    requires { ⌜ at + 4 ≤ length (now bytes) ⌝ }
+    ensures { λ r. ⌜ r ≡ value (part (now (bytes .entry)) at 4) ⌝ }
+{
+    u16_at(bytes, at) as u32 + u16_at(bytes, at + 2) as u32 * 65536
+}
+
+fn u64_at(bytes: &[u8], at: usize) -> u64
+    requires { ⌜ at + 8 ≤ length (now bytes) ⌝ }
+    ensures { λ r. ⌜ r ≡ value (part (now (bytes .entry)) at 8) ⌝ }
+{
+    u32_at(bytes, at) as u64 + u32_at(bytes, at + 4) as u64 * 4294967296
+}
+
+// The number of those of the `width` bytes from `at` on that are there, read from the highest down.
 fn read_number(bytes: &[u8], at: usize, width: usize) -> u64
     requires { ⌜ width ≤ 8 ⌝ }
     ensures { λ r. ⌜ r ≡ value (part (now (bytes .entry)) at width) ⌝ }
@@ -106,19 +139,53 @@ fn read_number(bytes: &[u8], at: usize, width: usize) -> u64
 pub fn read_u16(bytes: &[u8], at: usize) -> u16
     ensures { λ r. ⌜ r ≡ value (part (now (bytes .entry)) at 2) ⌝ }
 {
+    if 2 <= room(bytes, at) {
+        return u16_at(bytes, at);
+    }
     read_number(bytes, at, 2) as u16
 }
 
 pub fn read_u32(bytes: &[u8], at: usize) -> u32
     ensures { λ r. ⌜ r ≡ value (part (now (bytes .entry)) at 4) ⌝ }
 {
+    if 4 <= room(bytes, at) {
+        return u32_at(bytes, at);
+    }
     read_number(bytes, at, 4) as u32
 }
 
 pub fn read_u64(bytes: &[u8], at: usize) -> u64
     ensures { λ r. ⌜ r ≡ value (part (now (bytes .entry)) at 8) ⌝ }
 {
+    if 8 <= room(bytes, at) {
+        return u64_at(bytes, at);
+    }
     read_number(bytes, at, 8)
+}
+
+// The lowest bytes of v where all have a place, half after half: the compiler writes them at once.
+fn put_two(bytes: &mut [u8], at: usize, v: u64)
+    requires { ⌜ at + 2 ≤ length (now bytes) ⌝ }
+    ensures { λ _. ⌜ now (bytes .exit) ≡ put (now (bytes .entry)) at (littleEndian 2 v) ⌝ }
+{
+    bytes[at] = (v % 256) as u8;
+    bytes[at + 1] = (v / 256 % 256) as u8;
+}
+
+fn put_four(bytes: &mut [u8], at: usize, v: u64)
+    requires { ⌜ at + 4 ≤ length (now bytes) ⌝ }
+    ensures { λ _. ⌜ now (bytes .exit) ≡ put (now (bytes .entry)) at (littleEndian 4 v) ⌝ }
+{
+    put_two(bytes, at, v);
+    put_two(bytes, at + 2, v / 65536);
+}
+
+fn put_eight(bytes: &mut [u8], at: usize, v: u64)
+    requires { ⌜ at + 8 ≤ length (now bytes) ⌝ }
+    ensures { λ _. ⌜ now (bytes .exit) ≡ put (now (bytes .entry)) at (littleEndian 8 v) ⌝ }
+{
+    put_four(bytes, at, v);
+    put_four(bytes, at + 4, v / 4294967296);
 }
 
 // The `width` bytes of v from `at` on; none past the end.
@@ -142,35 +209,31 @@ fn write_number(bytes: &mut [u8], at: usize, width: usize, v: u64)
 pub fn write_u16(bytes: &mut [u8], at: usize, v: u16)
     ensures { λ _. ⌜ now (bytes .exit) ≡ put (now (bytes .entry)) at (littleEndian 2 v) ⌝ }
 {
+    if 2 <= room(bytes, at) {
+        put_two(bytes, at, v as u64);
+        return;
+    }
     write_number(bytes, at, 2, v as u64);
 }
 
 pub fn write_u32(bytes: &mut [u8], at: usize, v: u32)
     ensures { λ _. ⌜ now (bytes .exit) ≡ put (now (bytes .entry)) at (littleEndian 4 v) ⌝ }
 {
+    if 4 <= room(bytes, at) {
+        put_four(bytes, at, v as u64);
+        return;
+    }
     write_number(bytes, at, 4, v as u64);
 }
 
 pub fn write_u64(bytes: &mut [u8], at: usize, v: u64)
     ensures { λ _. ⌜ now (bytes .exit) ≡ put (now (bytes .entry)) at (littleEndian 8 v) ⌝ }
 {
-    write_number(bytes, at, 8, v);
-}
-
-// The bytes of `what` from `at` on; none past the end.
-fn write_bytes(bytes: &mut [u8], at: usize, what: &[u8])
-    ensures { λ _. ⌜ now (bytes .exit) ≡ put (now (bytes .entry)) at (now (what .entry)) ⌝ }
-{
-    let mut i = at;
-    let mut j = 0;
-    while i < bytes.len() {
-        if what.len() <= j {
-            return;
-        }
-        bytes[i] = what[j];
-        i += 1;
-        j += 1;
+    if 8 <= room(bytes, at) {
+        put_eight(bytes, at, v);
+        return;
     }
+    write_number(bytes, at, 8, v);
 }
 
 pub fn read_request(bytes: &[u8], at: usize) -> VirtioMemReq
@@ -190,24 +253,44 @@ pub fn read_request(bytes: &[u8], at: usize) -> VirtioMemReq
 pub fn write_response(bytes: &mut [u8], at: usize, resp: VirtioMemResp)
     ensures { λ _. ⌜ now (bytes .exit) ≡ put (now (bytes .entry)) at (responseBytes resp) ⌝ }
 {
-    let mut response: [u8; 10] = [0; 10];
-    write_u16(&mut response, 0, resp.resp_type);
-    write_u16(&mut response, 8, resp.state);
-    write_bytes(bytes, at, &response);
+    // The six zeros are the upper bytes of the type as a number of eight.
+    write_u64(bytes, at, resp.resp_type as u64);
+    if 8 < room(bytes, at) {
+        write_u16(bytes, at + 8, resp.state);
+    }
 }
 
-// The bytes of v's field that stand from `offset` on, into a buffer that starts there.
-fn write_field(data: &mut [u8], offset: usize, field: Field, v: u64)
-    requires { ⌜ field .1 ≤ 8 ⌝ }
-    ensures { λ _. ⌜ now («data» .exit) ≡ put (now («data» .entry)) (field .0 - offset) (drop (offset - field .0) (littleEndian (field .1) v)) ⌝ }
+// The bytes of v's field, two by two, as every field has an even number of them. Without a loop, so that the one over the table is unrolled.
+fn write_field(bytes: &mut [u8], field: Field, v: u64)
+    requires { ⌜ (field .0 + field .1 ≤ length (now bytes)) × (field .1 % 2 ≡ 0) × (0 < field .1) × (field .1 ≤ 8) ⌝ }
+    ensures { λ _. ⌜ now (bytes .exit) ≡ put (now (bytes .entry)) (field .0) (littleEndian (field .1) v) ⌝ }
 {
-    if offset <= field.0 {
-        write_number(data, field.0 - offset, field.1, v);
+    let at = field.0;
+    let width = field.1;
+    put_two(bytes, at, v);
+    if width < 4 {
         return;
     }
-    let passed = offset - field.0;
-    if passed < field.1 {
-        write_number(data, 0, field.1 - passed, v >> (8 * passed));
+    put_two(bytes, at + 2, v / 65536);
+    if width < 6 {
+        return;
+    }
+    put_two(bytes, at + 4, v / 4294967296);
+    if width < 8 {
+        return;
+    }
+    put_two(bytes, at + 6, v / 281474976710656);
+}
+
+// The bytes of `what` from the start on; none past the end.
+fn copy(bytes: &mut [u8], what: &[u8])
+    ensures { λ _. ⌜ now (bytes .exit) ≡ put (now (bytes .entry)) 0 (now (what .entry)) ⌝ }
+{
+    let n = lesser(bytes.len(), what.len());
+    let mut i = 0;
+    while i < n {
+        bytes[i] = what[i];
+        i += 1;
     }
 }
 
@@ -225,10 +308,13 @@ pub fn read_config(config: VirtioMemConfig, offset: u64, data: &mut [u8])
         config.plugged_size,
         config.requested_size,
     ];
+    let fields = CONFIG_FIELDS;
+    let mut bytes: [u8; 56] = [0; 56];
     let mut k: usize = 0;
     while k < 8 {
-        let field = CONFIG_FIELDS[k];
-        write_field(data, offset as usize, field, values[k]);
+        let field = fields[k];
+        write_field(&mut bytes, field, values[k]);
         k += 1;
     }
+    copy(data, from(&bytes, offset as usize));
 }

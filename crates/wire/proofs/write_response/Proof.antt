@@ -1,61 +1,74 @@
--- `write_response` meets its contract: ten zeros with the two fields in their places are the response. Assumes nothing.
-use mathlib.Core.List.{List}
-use Prim.Native.Nat.{ℕ}
-use lib.ListN.{replicate}
+-- `write_response` meets its contract: the type as a number of eight bytes, and behind it the state, where it has a place. Assumes nothing.
+use Prim.Native.Nat.{ℕ, _+_, _/_, _≤_, _<_}
+use mathlib.Core.Path.{_≡_, refl, ap, sym, _∙_}
+use mathlib.Core.List.{List, _++_}
+use native.Mathlib.Omega.{arith}
+use lib.ListN.{length}
 use Rattle.wire.specs.declared.VirtioMemResp.{VirtioMemResp}
 use Rattle.wire.specs.Bytes.{littleEndian, put}
 use Rattle.wire.specs.Layout.{responseBytes}
-use mathlib.Core.Path.{_≡_, refl, ap, _∙_}
+use Rattle.wire.proofs.Laws.{length-littleEndian, put-append, put-past}
 use borrow.Author.Needs.{needs}
 use Rattle.wire.proofs.write_response.Statement.{statement}
 use Rattle.wire.proofs.write_response.Tie as tie
 
--- the two fields among ten zeros
-whole : (r : VirtioMemResp)
-    → put (put (replicate 10 0) 0 (littleEndian 2 (r .«resp_type»))) 8 (littleEndian 2 (r .state)) ≡ responseBytes r
-unfolding put littleEndian responseBytes
-whole r = refl
+-- a type has two bytes, so the six above them are zeros
+typed : (r : VirtioMemResp) → r .«resp_type» < 65536 → responseBytes r ≡ littleEndian 8 (r .«resp_type») ++ littleEndian 2 (r .state)
+unfolding responseBytes littleEndian
+typed r h = let z : r .«resp_type» / 256 / 256 ≡ 0 = omega arith in rw z
 
-slice-aggregate-write-u16 : tie.Need-slice-aggregate-write-u16
-slice-aggregate-write-u16 c = search needs
+-- the state stands behind the eight bytes of the type
+both : (xs : List ℕ) (at : ℕ) (r : VirtioMemResp) → r .«resp_type» < 65536 → {ys zs : List ℕ}
+    → ys ≡ put xs at (littleEndian 8 (r .«resp_type»)) → zs ≡ put ys (at + 8) (littleEndian 2 (r .state))
+    → zs ≡ put xs at (responseBytes r)
+both xs at r h e f =
+    let n : length (littleEndian 8 (r .«resp_type»)) ≡ 8 = length-littleEndian 8 (r .«resp_type») in
+    rw (typed r h, put-append, n, ← e) f
+
+cast-write-u64 : tie.Need-cast-write-u64
+cast-write-u64 c = search needs
+
+write-u64-requires : tie.Need-write-u64-requires
+write-u64-requires c κs = search needs
+
+room-requires : tie.Need-room-requires
+room-requires c κs = search needs
+
+add-write-u16 : tie.Need-add-write-u16
+add-write-u16 c = search needs
 
 write-u16-requires : tie.Need-write-u16-requires
 write-u16-requires c κs = search needs
-
-slice-aggregate-write-u16-2 : tie.Need-slice-aggregate-write-u16-2
-slice-aggregate-write-u16-2 c = search needs
-
-write-u16-requires-2 : tie.Need-write-u16-requires-2
-write-u16-requires-2 c κs = search needs
-
-slice-aggregate-write-bytes : tie.Need-slice-aggregate-write-bytes
-slice-aggregate-write-bytes c = search needs
-
-write-bytes-requires : tie.Need-write-bytes-requires
-write-bytes-requires c κs = search needs
 
 same-length : tie.Need-same-length
 same-length c = search needs
 
 returns : tie.Need-returns
 returns c =
-    let w = c .before .before .write-bytes in
-    let u = c .before .before .before .before .before .before .write-u162 in
-    let t = c .before .before .before .before .before .before .before .before .before .write-u16 in
-    let a = c .before .before .before .before .before .before .before .before .before .before .before .before .args in
-    w .ensures
-    ∙ ap (put (a .bytes .now) (a .at))
-    (u .ensures ∙ ap (λ (l : List ℕ). put l 8 (littleEndian 2 (a .resp .state))) (t .ensures) ∙ whole (a .resp))
+    let first = c .before .before .before .before .before .before .before .before .before in
+    let a = first .before .before .before .before .args in
+    both (a .bytes .now) (a .at) (a .resp) (omega arith) (first .write-u64 .ensures) (c .before .before .write-u16 .ensures)
+
+same-length-2 : tie.Need-same-length-2
+same-length-2 c = search needs
+
+returns-2 : tie.Need-returns-2
+returns-2 c =
+    let first = c .before .before .before .before .before in
+    let a = first .before .before .before .before .args in
+    both (a .bytes .now) (a .at) (a .resp) (omega arith) (first .write-u64 .ensures)
+    (sym (put-past (first .write-u64 .last .0) (a .at + 8) (littleEndian 2 (a .resp .state)) (omega arith)))
 
 pub write-response-spec : {M : Type 1} → statement M
 write-response-spec =
     tie.close
     (tie.spec
-    slice-aggregate-write-u16
+    cast-write-u64
+    write-u64-requires
+    room-requires
+    add-write-u16
     write-u16-requires
-    slice-aggregate-write-u16-2
-    write-u16-requires-2
-    slice-aggregate-write-bytes
-    write-bytes-requires
     same-length
-    returns)
+    returns
+    same-length-2
+    returns-2)
