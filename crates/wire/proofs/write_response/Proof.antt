@@ -1,6 +1,6 @@
 -- `write_response` meets its contract: the type as a number of eight bytes, and behind it the state, where it has a place. Assumes nothing.
-use Prim.Native.Nat.{ℕ, _+_, _/_, _≤_, _<_}
-use mathlib.Core.Path.{_≡_, refl, ap, sym, _∙_}
+use Prim.Native.Nat.{ℕ, _+_, _/_, _<_}
+use mathlib.Core.Path.{_≡_, sym}
 use mathlib.Core.List.{List, _++_}
 use native.Mathlib.Omega.{arith}
 use lib.ListN.{length}
