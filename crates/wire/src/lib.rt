@@ -87,15 +87,15 @@ fn lesser(a: usize, b: usize) -> usize
     if a < b { a } else { b }
 }
 
-// How many bytes stand from `at` on.
-fn room(bytes: &[u8], at: usize) -> usize
-    ensures { λ r. ⌜ r ≡ length (now (bytes .entry)) - at ⌝ }
+// At how many places `width` bytes are all there.
+fn places(bytes: &[u8], width: usize) -> usize
+    requires { ⌜ 0 < width ⌝ }
+    ensures { λ r. ⌜ r ≡ length (now (bytes .entry)) + 1 - width ⌝ }
 {
-    if at < bytes.len() {
-        bytes.len() - at
-    } else {
-        0
+    if bytes.len() < width {
+        return 0;
     }
+    bytes.len() - width + 1
 }
 
 // A number whose bytes are all there, made of its two halves: the compiler reads it at once.
@@ -139,7 +139,7 @@ fn read_number(bytes: &[u8], at: usize, width: usize) -> u64
 pub fn read_u16(bytes: &[u8], at: usize) -> u16
     ensures { λ r. ⌜ r ≡ value (part (now (bytes .entry)) at 2) ⌝ }
 {
-    if 2 <= room(bytes, at) {
+    if at < places(bytes, 2) {
         return u16_at(bytes, at);
     }
     read_number(bytes, at, 2) as u16
@@ -148,7 +148,7 @@ pub fn read_u16(bytes: &[u8], at: usize) -> u16
 pub fn read_u32(bytes: &[u8], at: usize) -> u32
     ensures { λ r. ⌜ r ≡ value (part (now (bytes .entry)) at 4) ⌝ }
 {
-    if 4 <= room(bytes, at) {
+    if at < places(bytes, 4) {
         return u32_at(bytes, at);
     }
     read_number(bytes, at, 4) as u32
@@ -157,7 +157,7 @@ pub fn read_u32(bytes: &[u8], at: usize) -> u32
 pub fn read_u64(bytes: &[u8], at: usize) -> u64
     ensures { λ r. ⌜ r ≡ value (part (now (bytes .entry)) at 8) ⌝ }
 {
-    if 8 <= room(bytes, at) {
+    if at < places(bytes, 8) {
         return u64_at(bytes, at);
     }
     read_number(bytes, at, 8)
@@ -209,7 +209,7 @@ fn write_number(bytes: &mut [u8], at: usize, width: usize, v: u64)
 pub fn write_u16(bytes: &mut [u8], at: usize, v: u16)
     ensures { λ _. ⌜ now (bytes .exit) ≡ put (now (bytes .entry)) at (littleEndian 2 v) ⌝ }
 {
-    if 2 <= room(bytes, at) {
+    if at < places(bytes, 2) {
         put_two(bytes, at, v as u64);
         return;
     }
@@ -219,7 +219,7 @@ pub fn write_u16(bytes: &mut [u8], at: usize, v: u16)
 pub fn write_u32(bytes: &mut [u8], at: usize, v: u32)
     ensures { λ _. ⌜ now (bytes .exit) ≡ put (now (bytes .entry)) at (littleEndian 4 v) ⌝ }
 {
-    if 4 <= room(bytes, at) {
+    if at < places(bytes, 4) {
         put_four(bytes, at, v as u64);
         return;
     }
@@ -229,7 +229,7 @@ pub fn write_u32(bytes: &mut [u8], at: usize, v: u32)
 pub fn write_u64(bytes: &mut [u8], at: usize, v: u64)
     ensures { λ _. ⌜ now (bytes .exit) ≡ put (now (bytes .entry)) at (littleEndian 8 v) ⌝ }
 {
-    if 8 <= room(bytes, at) {
+    if at < places(bytes, 8) {
         put_eight(bytes, at, v);
         return;
     }
@@ -255,7 +255,7 @@ pub fn write_response(bytes: &mut [u8], at: usize, resp: VirtioMemResp)
 {
     // The six zeros are the upper bytes of the type as a number of eight.
     write_u64(bytes, at, resp.resp_type as u64);
-    if 8 < room(bytes, at) {
+    if at < places(bytes, 8) {
         write_u16(bytes, at + 8, resp.state);
     }
 }

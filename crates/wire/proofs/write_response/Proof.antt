@@ -31,8 +31,8 @@ cast-write-u64 c = search needs
 write-u64-requires : tie.Need-write-u64-requires
 write-u64-requires c κs = search needs
 
-room-requires : tie.Need-room-requires
-room-requires c κs = search needs
+places-requires : tie.Need-places-requires
+places-requires c κs = search needs
 
 add-write-u16 : tie.Need-add-write-u16
 add-write-u16 c = search needs
@@ -65,7 +65,7 @@ write-response-spec =
     (tie.spec
     cast-write-u64
     write-u64-requires
-    room-requires
+    places-requires
     add-write-u16
     write-u16-requires
     same-length
