@@ -4,8 +4,8 @@ use mathlib.Core.Path.{_≡_, refl, sym, ap, _∙_}
 use mathlib.Core.List.{List, [], _∷_, _++_, append-assoc}
 use native.Mathlib.Nat.{pow-succ', one-le-pow, div-one, div-div-eq-div-mul, mul-assoc, mul-comm, add-mul-mod-self-left, mod-lt, mod-one, mod-eq-of-lt, div-add-mod, zero-add, suc-add, zero-sub, suc-sub-suc, sub-zero}
 use native.Mathlib.Omega.{arith}
-use lib.ListN.{length, take, drop, getD, set, length-take, length-drop, length-set}
-use lib.Seq.{sets, sets-eq, set-out, take-set-le, drop-set-lt, drop-set-add, take-take, take-add, drop-drop, take-at, drop-at, length-take-le, take-nil}
+use lib.ListN.{length, take, drop, getD, set, replicate, length-take, length-drop, length-set, length-replicate}
+use lib.Seq.{sets, sets-eq, set-out, take-set-le, drop-set-lt, drop-set-add, take-take, take-add, drop-drop, take-at, drop-at, length-take-le, take-nil, drop-nil}
 use Rattle.wire.specs.declared.VirtioMemResp.{VirtioMemResp}
 use Rattle.wire.specs.declared.VirtioMemConfig.{VirtioMemConfig}
 use Rattle.wire.specs.declared.Field.{Field}
@@ -38,15 +38,6 @@ value-littleEndian (suc n) v =
 -- and v itself where it fits
 pub value-fits : (n v : ℕ) → v < 256 ^ n → value (littleEndian n v) ≡ v
 value-fits n v h = value-littleEndian n v ∙ mod-eq-of-lt h
-
--- n bytes mean a number below 256 to the n
-pub value-below : (xs : List ℕ) → ((i : ℕ) → getD xs i 0 < 256) → value xs < 256 ^ length xs
-unfolding value
-value-below [] h = omega arith
-value-below (b ∷ bs) h =
-    let here : b < 256 = h 0 in
-    let there : value bs < 256 ^ length bs = value-below bs (λ i. h (suc i)) in
-    rw (pow-succ' 256 (length bs)) (omega arith)
 
 -- the number of two parts, one behind the other
 value-append : (xs ys : List ℕ) → value (xs ++ ys) ≡ value xs + 256 ^ length xs * value ys
@@ -133,6 +124,42 @@ unfolding part
 value-halves xs at a b {low} {high} h e f =
     let n : length (take a (drop at xs)) ≡ a = simp (length-take, length-drop) (omega arith) in
     rw (take-add a b (drop at xs), value-append, n, drop-drop a at xs, ← e, ← f) (omega (arith, mul-comm high (256 ^ a)))
+
+-- n bytes mean a number below 256 to the n
+pub value-below : (xs : List ℕ) → ((i : ℕ) → getD xs i 0 < 256) → (at n : ℕ) → value (part xs at n) < 256 ^ n
+unfolding value part
+value-below [] h at n = rw (drop-nil at, take-nil n) (one-le-pow n 256 (omega arith))
+value-below (x ∷ xs) h zero zero = omega arith
+value-below (x ∷ xs) h zero (suc n) =
+    let here : x < 256 = h 0 in
+    let there : value (take n xs) < 256 ^ n = value-below xs (λ i. h (suc i)) 0 n in
+    rw (pow-succ' 256 n) (omega arith)
+value-below (x ∷ xs) h (suc at) n = value-below xs (λ i. h (suc i)) at n
+
+drop-replicate : (n m a : ℕ) → drop n (replicate m a) ≡ replicate (m - n) a
+drop-replicate zero m a = rw sub-zero
+drop-replicate (suc n) zero a = rw zero-sub
+drop-replicate (suc n) (suc m) a = rw suc-sub-suc (drop-replicate n m a)
+
+value-zeros : (n m : ℕ) → value (take n (replicate m 0)) ≡ 0
+unfolding value
+value-zeros zero m = refl
+value-zeros (suc n) zero = refl
+value-zeros (suc n) (suc m) = rw (value-zeros n m)
+
+value-behind : (xs : List ℕ) (m k n : ℕ) → value (part (xs ++ replicate m 0) k n) ≡ value (part xs k n)
+unfolding value part
+value-behind [] m k n = rw (drop-replicate k m 0, value-zeros n (m - k), drop-nil k, take-nil n)
+value-behind (x ∷ xs) m zero zero = refl
+value-behind (x ∷ xs) m zero (suc n) = rw (value-behind xs m 0 n)
+value-behind (x ∷ xs) m (suc k) n = value-behind xs m k n
+
+-- zeros behind the bytes that are there change no number
+pub value-padded : (xs : List ℕ) (m k n : ℕ) → length xs ≤ m → value (part (put (replicate m 0) 0 xs) k n) ≡ value (part xs k n)
+value-padded xs m k n h =
+    let zeros : List ℕ = replicate m 0 in
+    let l : 0 + length xs ≤ length zeros = rw length-replicate (omega arith) in
+    rw (put-fits zeros 0 xs l, zero-add, drop-replicate (length xs) m 0) (value-behind xs (m - length xs) k n)
 
 -- a part of a part
 pub part-part : (xs : List ℕ) (at m k n : ℕ) → k + n ≤ m → part (part xs at m) k n ≡ part xs (at + k) n

@@ -87,6 +87,18 @@ fn lesser(a: usize, b: usize) -> usize
     if a < b { a } else { b }
 }
 
+// The bytes of `what` from the start on; none past the end.
+fn copy(bytes: &mut [u8], what: &[u8])
+    ensures { λ _. ⌜ now (bytes .exit) ≡ put (now (bytes .entry)) 0 (now (what .entry)) ⌝ }
+{
+    let n = lesser(bytes.len(), what.len());
+    let mut i = 0;
+    while i < n {
+        bytes[i] = what[i];
+        i += 1;
+    }
+}
+
 // At how many places `width` bytes are all there.
 fn places(bytes: &[u8], width: usize) -> usize
     requires { ⌜ 0 < width ⌝ }
@@ -120,20 +132,17 @@ fn u64_at(bytes: &[u8], at: usize) -> u64
     u32_at(bytes, at) as u64 + u32_at(bytes, at + 4) as u64 * 4294967296
 }
 
-// The number of those of the `width` bytes from `at` on that are there, read from the highest down.
+// The number of the `width` bytes from `at` on: those that are missing are zeros.
 fn read_number(bytes: &[u8], at: usize, width: usize) -> u64
     requires { ⌜ width ≤ 8 ⌝ }
     ensures { λ r. ⌜ r ≡ value (part (now (bytes .entry)) at width) ⌝ }
     ensures { λ r. ⌜ r < 256 ^ width ⌝ }
 {
     let rest = from(bytes, at);
-    let mut k = lesser(width, rest.len());
-    let mut v: u64 = 0;
-    while 0 < k {
-        k -= 1;
-        v = v * 256 + rest[k] as u64;
-    }
-    v
+    let n = lesser(width, rest.len());
+    let mut padded: [u8; 8] = [0; 8];
+    copy(&mut padded, &rest[..n]);
+    u64_at(&padded, 0)
 }
 
 pub fn read_u16(bytes: &[u8], at: usize) -> u16
@@ -236,18 +245,30 @@ pub fn write_u64(bytes: &mut [u8], at: usize, v: u64)
     write_number(bytes, at, 8, v);
 }
 
-pub fn read_request(bytes: &[u8], at: usize) -> VirtioMemReq
+// A request whose bytes are all there.
+fn request_at(bytes: &[u8], at: usize) -> VirtioMemReq
+    requires { ⌜ at + 24 ≤ length (now bytes) ⌝ }
     ensures { λ r. ⌜ r ≡ requestAt (now (bytes .entry)) at ⌝ }
 {
-    let request = from(bytes, at);
-    let req_type = read_u16(request, 0);
-    let addr = read_u64(request, 8);
-    let nb_blocks = read_u16(request, 16);
+    let req_type = u16_at(bytes, at);
+    let addr = u64_at(bytes, at + 8);
+    let nb_blocks = u16_at(bytes, at + 16);
     VirtioMemReq {
         req_type: req_type,
         addr: GuestAddr(addr),
         nb_blocks: nb_blocks,
     }
+}
+
+pub fn read_request(bytes: &[u8], at: usize) -> VirtioMemReq
+    ensures { λ r. ⌜ r ≡ requestAt (now (bytes .entry)) at ⌝ }
+{
+    if at < places(bytes, 24) {
+        return request_at(bytes, at);
+    }
+    let mut padded: [u8; 24] = [0; 24];
+    copy(&mut padded, from(bytes, at));
+    request_at(&padded, 0)
 }
 
 pub fn write_response(bytes: &mut [u8], at: usize, resp: VirtioMemResp)
@@ -280,18 +301,6 @@ fn write_field(bytes: &mut [u8], field: Field, v: u64)
         return;
     }
     put_two(bytes, at + 6, v / 281474976710656);
-}
-
-// The bytes of `what` from the start on; none past the end.
-fn copy(bytes: &mut [u8], what: &[u8])
-    ensures { λ _. ⌜ now (bytes .exit) ≡ put (now (bytes .entry)) 0 (now (what .entry)) ⌝ }
-{
-    let n = lesser(bytes.len(), what.len());
-    let mut i = 0;
-    while i < n {
-        bytes[i] = what[i];
-        i += 1;
-    }
 }
 
 // From `offset` on, up to the config's end or the buffer's; the rest of the buffer stays.

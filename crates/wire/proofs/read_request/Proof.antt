@@ -1,44 +1,73 @@
--- `read_request` meets its contract: each field is read at its place past `at`, with no sum made. Assumes nothing.
-use Prim.Native.Nat.{ℕ, _+_}
-use mathlib.Core.Path.{_≡_}
+-- `read_request` meets its contract: a request that is cut off, with zeros behind it, is the same request. Assumes nothing.
+use Prim.Native.Nat.{ℕ, _+_, _≤_}
+use mathlib.Core.Path.{_≡_, ap, _∙_}
 use mathlib.Core.List.{List}
 use native.Mathlib.Omega.{arith}
-use lib.ListN.{drop}
-use Rattle.wire.specs.Bytes.{value, part}
+use lib.ListN.{length, drop, replicate, length-drop}
+use Rattle.wire.specs.Bytes.{value, part, put}
 use Rattle.wire.specs.Layout.{requestAt}
-use Rattle.wire.proofs.Laws.{part-drop}
+use Rattle.wire.proofs.Laws.{part-drop, value-padded}
 use borrow.Author.Needs.{needs}
 use Rattle.wire.proofs.read_request.Statement.{statement}
 use Rattle.wire.proofs.read_request.Tie as tie
 
--- a field read past `at` stands at the sum of the two
-field : (xs rest : List ℕ) (at k n r : ℕ) → rest ≡ drop at xs → r ≡ value (part rest k n) → r ≡ value (part xs (at + k) n)
-field xs rest at k n r e h = rw (e, part-drop) at h
+field : (xs : List ℕ) (at k n : ℕ) → length xs ≤ at + 24
+    → value (part (put (replicate 24 0) 0 (drop at xs)) k n) ≡ value (part xs (at + k) n)
+field xs at k n h =
+    value-padded (drop at xs) 24 k n (simp length-drop (omega arith))
+    ∙ ap value (part-drop xs at k n)
+
+padded : (xs : List ℕ) (at : ℕ) → length xs ≤ at + 24 → requestAt (put (replicate 24 0) 0 (drop at xs)) 0 ≡ requestAt xs at
+unfolding requestAt
+padded xs at h =
+    let t = field xs at 0 2 h in
+    let a = field xs at 8 8 h in
+    let n = field xs at 16 2 h in
+    let z : at + 0 ≡ at = omega arith in
+    cc
+
+places-requires : tie.Need-places-requires
+places-requires c κs = search needs
+
+request-at-requires : tie.Need-request-at-requires
+request-at-requires c κs = search needs
+
+returns : tie.Need-returns
+returns c = search needs
+
+slice-aggregate-copy : tie.Need-slice-aggregate-copy
+slice-aggregate-copy c = search needs
 
 from-requires : tie.Need-from-requires
 from-requires c κs = search needs
 
-read-u16-requires : tie.Need-read-u16-requires
-read-u16-requires c κs = search needs
+copy-requires : tie.Need-copy-requires
+copy-requires c κs = search needs
 
-read-u64-requires : tie.Need-read-u64-requires
-read-u64-requires c κs = search needs
+slice-aggregate-request-at : tie.Need-slice-aggregate-request-at
+slice-aggregate-request-at c = search needs
 
-read-u16-requires-2 : tie.Need-read-u16-requires-2
-read-u16-requires-2 c κs = search needs
+request-at-requires-2 : tie.Need-request-at-requires-2
+request-at-requires-2 c κs = search needs
 
-returns : tie.Need-returns
-unfolding requestAt
-returns c =
-    let a = c .before .before .before .before .before .args in
-    let f = c .before .before .before .from in
-    let t = field (a .bytes .now) (f .result .now) (a .at) 0 2 (c .before .before .read-u16 .result) (f .ensures) (c .before .before .read-u16 .ensures) in
-    let b = field (a .bytes .now) (f .result .now) (a .at) 8 8 (c .before .read-u64 .result) (f .ensures) (c .before .read-u64 .ensures) in
-    let n = field (a .bytes .now) (f .result .now) (a .at) 16 2 (c .read-u162 .result) (f .ensures) (c .read-u162 .ensures) in
-    let z : a .at + 0 ≡ a .at = omega arith in
-    cc
+returns-2 : tie.Need-returns-2
+returns-2 c =
+    let a = c .before .before .before .before .before .before .before .before .before .args in
+    let rest = c .before .before .before .before .from in
+    c .request-at2 .ensures
+    ∙ ap (λ (l : List ℕ). requestAt l 0) (c .before .before .before .copy .ensures ∙ ap (put (replicate 24 0) 0) (rest .ensures))
+    ∙ padded (a .bytes .now) (a .at) (omega arith)
 
 pub read-request-spec : {M : Type 1} → statement M
 read-request-spec =
     tie.close
-    (tie.spec from-requires read-u16-requires read-u64-requires read-u16-requires-2 returns)
+    (tie.spec
+    places-requires
+    request-at-requires
+    returns
+    slice-aggregate-copy
+    from-requires
+    copy-requires
+    slice-aggregate-request-at
+    request-at-requires-2
+    returns-2)
