@@ -113,7 +113,7 @@ drop-take (suc k) (suc m) [] = rw (take-nil (suc m - suc k))
 drop-take (suc k) (suc m) (x ∷ l) = rw (suc-sub-suc) (drop-take k m l)
 
 -- a part of what stands from a place on
-pub part-drop : (xs : List ℕ) (at k n : ℕ) → part (drop at xs) k n ≡ part xs (at + k) n
+part-drop : (xs : List ℕ) (at k n : ℕ) → part (drop at xs) k n ≡ part xs (at + k) n
 unfolding part
 part-drop xs at k n = ap (take n) (drop-drop k at xs)
 
@@ -155,11 +155,14 @@ value-behind (x ∷ xs) m zero (suc n) = rw (value-behind xs m 0 n)
 value-behind (x ∷ xs) m (suc k) n = value-behind xs m k n
 
 -- zeros behind the bytes that are there change no number
-pub value-padded : (xs : List ℕ) (m k n : ℕ) → length xs ≤ m → value (part (put (replicate m 0) 0 xs) k n) ≡ value (part xs k n)
-value-padded xs m k n h =
+pub value-padded : (xs : List ℕ) (m at k n : ℕ) → length xs ≤ at + m
+    → value (part (put (replicate m 0) 0 (drop at xs)) k n) ≡ value (part xs (at + k) n)
+value-padded xs m at k n h =
+    let ys : List ℕ = drop at xs in
     let zeros : List ℕ = replicate m 0 in
-    let l : 0 + length xs ≤ length zeros = rw length-replicate (omega arith) in
-    rw (put-fits zeros 0 xs l, zero-add, drop-replicate (length xs) m 0) (value-behind xs (m - length xs) k n)
+    let l : 0 + length ys ≤ length zeros = simp (length-replicate, length-drop) (omega arith) in
+    rw (put-fits zeros 0 ys l, zero-add, drop-replicate (length ys) m 0)
+    (value-behind ys (m - length ys) k n ∙ ap value (part-drop xs at k n))
 
 -- a part of a part
 pub part-part : (xs : List ℕ) (at m k n : ℕ) → k + n ≤ m → part (part xs at m) k n ≡ part xs (at + k) n

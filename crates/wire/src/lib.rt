@@ -132,16 +132,14 @@ fn u64_at(bytes: &[u8], at: usize) -> u64
     u32_at(bytes, at) as u64 + u32_at(bytes, at + 4) as u64 * 4294967296
 }
 
-// The number of the `width` bytes from `at` on: those that are missing are zeros.
-fn read_number(bytes: &[u8], at: usize, width: usize) -> u64
-    requires { ⌜ width ≤ 8 ⌝ }
+// The number of `width` bytes that end too early: those that are missing are zeros.
+fn read_cut(bytes: &[u8], at: usize, width: usize) -> u64
+    requires { ⌜ (width ≤ 8) × (length (now bytes) < at + width) ⌝ }
     ensures { λ r. ⌜ r ≡ value (part (now (bytes .entry)) at width) ⌝ }
     ensures { λ r. ⌜ r < 256 ^ width ⌝ }
 {
-    let rest = from(bytes, at);
-    let n = lesser(width, rest.len());
     let mut padded: [u8; 8] = [0; 8];
-    copy(&mut padded, &rest[..n]);
+    copy(&mut padded, from(bytes, at));
     u64_at(&padded, 0)
 }
 
@@ -151,7 +149,7 @@ pub fn read_u16(bytes: &[u8], at: usize) -> u16
     if at < places(bytes, 2) {
         return u16_at(bytes, at);
     }
-    read_number(bytes, at, 2) as u16
+    read_cut(bytes, at, 2) as u16
 }
 
 pub fn read_u32(bytes: &[u8], at: usize) -> u32
@@ -160,7 +158,7 @@ pub fn read_u32(bytes: &[u8], at: usize) -> u32
     if at < places(bytes, 4) {
         return u32_at(bytes, at);
     }
-    read_number(bytes, at, 4) as u32
+    read_cut(bytes, at, 4) as u32
 }
 
 pub fn read_u64(bytes: &[u8], at: usize) -> u64
@@ -169,7 +167,7 @@ pub fn read_u64(bytes: &[u8], at: usize) -> u64
     if at < places(bytes, 8) {
         return u64_at(bytes, at);
     }
-    read_number(bytes, at, 8)
+    read_cut(bytes, at, 8)
 }
 
 // The lowest bytes of v where all have a place, half after half: the compiler writes them at once.

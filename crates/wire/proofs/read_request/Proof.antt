@@ -3,26 +3,20 @@ use Prim.Native.Nat.{ℕ, _+_, _≤_}
 use mathlib.Core.Path.{_≡_, ap, _∙_}
 use mathlib.Core.List.{List}
 use native.Mathlib.Omega.{arith}
-use lib.ListN.{length, drop, replicate, length-drop}
-use Rattle.wire.specs.Bytes.{value, part, put}
+use lib.ListN.{length, drop, replicate}
+use Rattle.wire.specs.Bytes.{put}
 use Rattle.wire.specs.Layout.{requestAt}
-use Rattle.wire.proofs.Laws.{part-drop, value-padded}
+use Rattle.wire.proofs.Laws.{value-padded}
 use borrow.Author.Needs.{needs}
 use Rattle.wire.proofs.read_request.Statement.{statement}
 use Rattle.wire.proofs.read_request.Tie as tie
 
-field : (xs : List ℕ) (at k n : ℕ) → length xs ≤ at + 24
-    → value (part (put (replicate 24 0) 0 (drop at xs)) k n) ≡ value (part xs (at + k) n)
-field xs at k n h =
-    value-padded (drop at xs) 24 k n (simp length-drop (omega arith))
-    ∙ ap value (part-drop xs at k n)
-
 padded : (xs : List ℕ) (at : ℕ) → length xs ≤ at + 24 → requestAt (put (replicate 24 0) 0 (drop at xs)) 0 ≡ requestAt xs at
 unfolding requestAt
 padded xs at h =
-    let t = field xs at 0 2 h in
-    let a = field xs at 8 8 h in
-    let n = field xs at 16 2 h in
+    let t = value-padded xs 24 at 0 2 h in
+    let a = value-padded xs 24 at 8 8 h in
+    let n = value-padded xs 24 at 16 2 h in
     let z : at + 0 ≡ at = omega arith in
     cc
 
