@@ -99,7 +99,7 @@ fn copy(bytes: &mut [u8], what: &[u8])
     }
 }
 
-// At how many places `width` bytes are all there.
+// At how many places `width` bytes are all there. Where a caller has made a wider test, the compiler drops this one.
 fn places(bytes: &[u8], width: usize) -> usize
     requires { ⌜ 0 < width ⌝ }
     ensures { λ r. ⌜ r ≡ length (now (bytes .entry)) + 1 - width ⌝ }
@@ -305,6 +305,9 @@ fn write_field(bytes: &mut [u8], field: Field, v: u64)
 pub fn read_config(config: VirtioMemConfig, offset: u64, data: &mut [u8])
     ensures { λ _. ⌜ now («data» .exit) ≡ put (now («data» .entry)) 0 (drop offset (configBytes config)) ⌝ }
 {
+    if 56 <= offset {
+        return;
+    }
     let values: [u64; 8] = [
         config.block_size,
         config.node_id as u64,

@@ -10,7 +10,7 @@ use lib.Seq.{drop-cons}
 use Rattle.wire.specs.declared.Field.{Field}
 use Rattle.wire.specs.Bytes.{littleEndian, put}
 use Rattle.wire.specs.Layout.{configFields, configValues, laid, configBytes}
-use Rattle.wire.proofs.Laws.{length-put, eight}
+use Rattle.wire.proofs.Laws.{length-put, length-config, eight}
 use borrow.Author.Needs.{needs}
 use Rattle.wire.proofs.read_config.Statement.{statement}
 use Rattle.wire.proofs.read_config.Tie as tie
@@ -43,8 +43,15 @@ Inv-loop offset «data» values fields bytes₀ k₀ bytes k = (length bytes ≡
 abbrev μ-loop : tie.MeasureT-loop
 μ-loop offset «data» values fields bytes₀ k₀ bytes k = 8 - k
 
-cast-t9 : tie.Need-cast-t9 Inv-loop μ-loop
-cast-t9 c = search needs
+returns : tie.Need-returns Inv-loop μ-loop
+unfolding put
+returns c =
+    let config = configBytes (c .before .before .args .config) in
+    let h : length config ≤ c .before .before .args .offset = rw length-config (c .if1 .taken) in
+    rw (drop-of-length-le config h)
+
+cast-t10 : tie.Need-cast-t10 Inv-loop μ-loop
+cast-t10 c = search needs
 
 loop-holds : tie.Need-loop-holds Inv-loop μ-loop
 loop-holds c = (refl, refl)
@@ -81,7 +88,7 @@ unfolding configFields configValues
 loop-again c =
     let w = c .before .write-field in
     let o = c .before .before .before .before .before .loop in
-    let a = c .before .before .before .before .before .before .before .before .args in
+    let a = c .before .before .before .before .before .before .before .before .before .args in
     let vs = configValues (a .config) in
     let h : o .k < 8 = omega arith in (
       ap length (w .ensures) ∙ length-put (o .bytes) (field (o .k) .0) (littleEndian (field (o .k) .1) (getD vs (o .k) 0)) ∙ o .inv .0,
@@ -102,11 +109,11 @@ copy-requires c κs = search needs
 same-length : tie.Need-same-length Inv-loop μ-loop
 same-length c = search needs
 
-returns : tie.Need-returns Inv-loop μ-loop
+returns-2 : tie.Need-returns-2 Inv-loop μ-loop
 unfolding configBytes configValues
-returns c =
+returns-2 c =
     let o = c .before .before .before .before .before .before .before .loop in
-    let a = c .before .before .before .before .before .before .before .before .before .before .args in
+    let a = c .before .before .before .before .before .before .before .before .before .before .before .args in
     let vs = configValues (a .config) in
     let whole = sym (done (o .bytes) (drop (o .k) vs) (o .k) (omega arith)) ∙ o .inv .1 in
     c .before .before .copy .ensures
@@ -118,7 +125,8 @@ read-config-spec =
     (tie.spec
     Inv-loop
     μ-loop
-    cast-t9
+    returns
+    cast-t10
     loop-holds
     mul-field
     array-copy-out-field
@@ -133,4 +141,4 @@ read-config-spec =
     from-requires
     copy-requires
     same-length
-    returns)
+    returns-2)
