@@ -199,3 +199,8 @@ exact s r l e =
 
 pub too-long : (s : List ℕ) → 200 < length s → Reads s Bad
 too-long s h = record { whole = λ line t. let l = t .short in absurd (omega arith); only = inl refl }
+
+-- and it leaves one line only
+pub reads-once : (s : List ℕ) (p q : Line) → Reads s p → Reads s q → p ≡ q
+reads-once s p q f g =
+    ⊎-elim (λ bad. ⊎-elim (λ worse. bad ∙ sym worse) (λ t. f .whole q t) (g .only)) (λ t. sym (g .whole p t)) (f .only)

@@ -1,5 +1,5 @@
 -- `trace_run::put_in_place` meets its contract: the slots that it lends are as many as the map regions, and count up. Assumes nothing.
-use mathlib.Core.Path.{_≡_, refl, sym, ap, _∙_}
+use mathlib.Core.Path.{refl, sym, ap, _∙_}
 use native.Mathlib.Omega.{arith}
 use lib.ListN.{take}
 use lib.Seq.{length-take-le}
@@ -22,10 +22,16 @@ map-regions-requires : tie.Need-map-regions-requires
 map-regions-requires c κs = search needs
 
 array-share-prefix-slots : tie.Need-array-share-prefix-slots
-array-share-prefix-slots c = let few = shaped-is _ (c .before .before .before .before .before .before .before .before .before .before .before .pre .0) .rows-few in let rows = c .before .before .before .map-regions .ensures in omega arith
+array-share-prefix-slots c =
+    let few = shaped-is _ (c .before .before .before .before .before .before .before .before .before .before .before .pre .0) .rows-few in
+    let rows = c .before .before .before .map-regions .ensures in
+    omega arith
 
 slice-aggregate-place : tie.Need-slice-aggregate-place
-slice-aggregate-place c = let few = shaped-is _ (c .before .before .before .before .before .before .before .before .before .before .before .before .pre .0) .rows-few in let rows = c .before .before .before .before .map-regions .ensures in sym (length-take-le _ _ (omega arith))
+slice-aggregate-place c =
+    let few = shaped-is _ (c .before .before .before .before .before .before .before .before .before .before .before .before .pre .0) .rows-few in
+    let rows = c .before .before .before .before .map-regions .ensures in
+    sym (length-take-le _ _ (omega arith))
 
 place-requires : tie.Need-place-requires
 place-requires c κs = search needs
@@ -48,11 +54,13 @@ same-length-3 c = search needs
 returns : tie.Need-returns
 unfolding begunOn
 returns c =
-    let a = c .before .before .before .before .before .before .before .before .before .before .before .before .before .before .before .before .before .before .before .before .before .before .args in
-    let few = shaped-is _ (c .before .before .before .before .before .before .before .before .before .before .before .before .before .before .before .before .before .before .before .before .before .before .pre .0) .rows-few in
-    let rows = c .before .before .before .before .before .before .before .before .before .before .before .before .before .before .map-regions .ensures in
-    let slots = c .before .before .before .before .before .before .before .before .before .before .before .before .before .before .before .before .count-slots .ensures in
-    let up = ap (take (c .before .before .before .before .before .before .before .before .before .before .before .before .before .before .map-regions .result)) slots ∙ counted-take _ 512 _ (omega arith) ∙ ap (countedFrom (a .first .slot)) rows in
+    let k = c .before .before .before .before .before .before .before .before .before .before .before .before .before .before in
+    let start = k .before .before .before .before .before .before .before .before in
+    let a = start .args in
+    let few = shaped-is _ (start .pre .0) .rows-few in
+    let rows = k .map-regions .ensures in
+    let counted = k .before .before .count-slots .ensures in
+    let up = ap (take (k .map-regions .result)) counted ∙ counted-take _ 512 _ (omega arith) ∙ ap (countedFrom (a .first .slot)) rows in
     let m = rw up at (c .before .before .before .before .before .before .before .before .before .place .ensures) in
     placed-comes (step (worldOf (a .d) (a .bitmap .now) (a .table .now)) (placeOf (a .d) (a .first) (lentOf (a .bitmap .now) (a .table .now) (a .mem .now)))) _
     (m .answered) (m .recorded) (m .marked) (m .mapped) refl (c .before .before .answer .ensures) (c .before .before .before .before .after-placing .ensures)
