@@ -167,7 +167,21 @@ impl Proved {
 
     pub fn request(&mut self, memory: &mut [u8], base: u64, table: u64, head: u16) -> Told {
         let mut words = [0; ANSWER_WORDS];
-        let number = unsafe {
+        let number = self.request_into(memory, base, table, head, &mut words);
+        Told { number, words }
+    }
+
+    /// The export alone, as a host calls it that keeps its answer's words.
+    #[inline(always)]
+    pub fn request_into(
+        &mut self,
+        memory: &mut [u8],
+        base: u64,
+        table: u64,
+        head: u16,
+        words: &mut [u64; ANSWER_WORDS],
+    ) -> u64 {
+        unsafe {
             sys::jambcopper_request(
                 self.record.as_mut_ptr(),
                 self.record.len(),
@@ -183,13 +197,26 @@ impl Proved {
                 words.as_mut_ptr(),
                 words.len(),
             )
-        };
-        Told { number, words }
+        }
     }
 
     pub fn host_answer(&mut self, memory: &mut [u8], base: u64, ok: bool, host: u64) -> Told {
         let mut words = [0; ANSWER_WORDS];
-        let number = unsafe {
+        let number = self.host_answer_into(memory, base, ok, host, &mut words);
+        Told { number, words }
+    }
+
+    /// The export alone.
+    #[inline(always)]
+    pub fn host_answer_into(
+        &mut self,
+        memory: &mut [u8],
+        base: u64,
+        ok: bool,
+        host: u64,
+        words: &mut [u64; ANSWER_WORDS],
+    ) -> u64 {
+        unsafe {
             sys::jambcopper_host_answer(
                 self.record.as_mut_ptr(),
                 self.record.len(),
@@ -205,8 +232,7 @@ impl Proved {
                 words.as_mut_ptr(),
                 words.len(),
             )
-        };
-        Told { number, words }
+        }
     }
 
     pub fn read_config(&self, offset: u64, data: &mut [u8]) -> u64 {

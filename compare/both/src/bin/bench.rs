@@ -8,6 +8,7 @@ use std::process::{exit, Command};
 use std::time::Instant;
 
 use both::proved::Proved;
+use both::sys::ANSWER_WORDS;
 use oracle::guest::Guest;
 use oracle::host::answering;
 use oracle::rust::{queue, Rust, BLOCK, PLUG, STATE, UNPLUG, UNPLUG_ALL};
@@ -174,10 +175,11 @@ impl Side {
             }
             Side::Proved(device, rust) => {
                 let mut memory = rust.guest().read(BASE, LENGTH);
+                let mut answer = [0; ANSWER_WORDS];
                 meter.measure(|| {
-                    let mut told = device.request(&mut memory, BASE, BASE, 0);
-                    while told.words[0] == 2 {
-                        told = device.host_answer(&mut memory, BASE, true, 0);
+                    device.request_into(&mut memory, BASE, BASE, 0, &mut answer);
+                    while answer[0] == 2 {
+                        device.host_answer_into(&mut memory, BASE, true, 0, &mut answer);
                     }
                 });
                 memory[(at - BASE) as usize..][..10].to_vec()
