@@ -63,42 +63,61 @@ fn tables_fit(d: Device, bytes: usize, words: usize) -> bool
     (needed <= bytes as u64) & (rows <= words as u64 / 3)
 }
 
-// The next number if a test holds, and this one if it fails.
-fn if_not(holds: bool, number: u64, next: u64) -> u64
-    ensures { λ r. ⌜ r ≡ cond holds next number ⌝ }
-{
-    if holds { next } else { number }
-}
-
 // Why a request or a size change is refused, or 0.
 pub fn ready_refusal(d: Device, bytes: usize, words: usize) -> u64
     ensures { λ r. ⌜ r ≡ readyRefusal d (8 * bytes) (words / 3) ⌝ }
 {
+    if !shaped(d) {
+        return 12;
+    }
     let pending = d.pending;
-    let placed = if_not(d.placed, 5, if_not(tables_fit(d, bytes, words), 11, 0));
-    if_not(shaped(d), 12, if_not(is_idle(pending), 7, placed))
+    if !is_idle(pending) {
+        return 7;
+    }
+    if !d.placed {
+        return 5;
+    }
+    if !tables_fit(d, bytes, words) {
+        return 11;
+    }
+    0
 }
 
 // Why placing is refused before its own tests, or 0.
 pub fn unplaced_refusal(d: Device, bytes: usize, words: usize) -> u64
     ensures { λ r. ⌜ r ≡ unplacedRefusal d (8 * bytes) (words / 3) ⌝ }
 {
+    if !shaped(d) {
+        return 12;
+    }
     let pending = d.pending;
-    let unplaced = if_not(d.placed, if_not(tables_fit(d, bytes, words), 11, 0), 6);
-    if_not(shaped(d), 12, if_not(is_idle(pending), 7, unplaced))
+    if !is_idle(pending) {
+        return 7;
+    }
+    if d.placed {
+        return 6;
+    }
+    if !tables_fit(d, bytes, words) {
+        return 11;
+    }
+    0
 }
 
 // Why a host answer is refused before it is looked at, or 0.
 pub fn pending_refusal(d: Device, bytes: usize, words: usize) -> u64
     ensures { λ r. ⌜ r ≡ pendingRefusal d (8 * bytes) (words / 3) ⌝ }
 {
+    if !shaped(d) {
+        return 12;
+    }
     let pending = d.pending;
-    let waiting = if_not(
-        is_idle(pending),
-        if_not(tables_fit(d, bytes, words), 11, 0),
-        8,
-    );
-    if_not(shaped(d), 12, waiting)
+    if is_idle(pending) {
+        return 8;
+    }
+    if !tables_fit(d, bytes, words) {
+        return 11;
+    }
+    0
 }
 
 // Ends a request: the response goes to the status address, wholly or not at all.
