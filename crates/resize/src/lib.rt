@@ -7,7 +7,7 @@ use units::map_regions;
 use units::smaller;
 ghost use mathlib.Core.Path.{_≡_};
 ghost use mathlib.Core.Bool.{true};
-ghost use Prim.Native.Nat.{_+_, _-_, _*_, _≤_, min, max};
+ghost use Prim.Native.Nat.{_+_, _-_, _*_, _≤_, min};
 ghost use Rattle.rows.specs.Rows.{rowsOf};
 ghost use Rattle.units.specs.Numbers.{mapRegions};
 ghost use Rattle.resize.specs.Resize.{newSize, grown, rowOf, creationSize, growthOf};

@@ -1,7 +1,7 @@
 // SPDX-License-Identifier: Apache-2.0 AND BSD-3-Clause
 // The numbers of the device: three kinds of address, the sizes, the alignment, rounding, and sums that are tested and not made.
 ghost use mathlib.Core.Path.{_≡_};
-ghost use Prim.Native.Nat.{_+_, _-_, _*_, _/_, _%_, min, max};
+ghost use Prim.Native.Nat.{_+_, _-_, _*_, _/_, _%_, min};
 ghost use lib.Dec.{leb};
 ghost use Rattle.units.specs.Numbers.{held, bytesOf, blocksIn, mapRegion, mapRegions, between, alignmentOf, roundUp};
 
