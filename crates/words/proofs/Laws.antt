@@ -1,12 +1,13 @@
--- Encoding and decoding are inverse: a record reads back from its words, and words that are a record's are what it is written as. Assumes nothing.
-use Prim.Native.Nat.{ℕ, _+_, _≤_}
+-- Words written one at a time are words written at once. Encoding and decoding are inverse: a record reads back from its words, and words that are a record's are what it is written as. Assumes nothing.
+use Prim.Native.Nat.{ℕ, _+_, _≤_, _<_}
 use mathlib.Core.Path.{_≡_, refl, sym, ap}
 use mathlib.Core.Bool.{Bool, true, false, _&&_}
 use mathlib.Core.List.{List, [], _∷_, _++_}
 use native.Mathlib.Omega.{arith}
+use native.Mathlib.Numerals.{add-one}
 use lib.Dec.{leb, eqb}
-use lib.ListN.{length, drop, length-append}
-use lib.Seq.{set-getD}
+use lib.ListN.{length, drop, getD, set, length-append, drop-of-length-le}
+use lib.Seq.{drop-cons, set-getD}
 use borrow.Author.Tests.{le-leb, leb-true, eqb-true, eqb-false}
 use Rattle.units.proofs.Tests.{by-test, and-left, and-right}
 use Rattle.wire.specs.Bytes.{put}
@@ -20,6 +21,21 @@ use Rattle.words.specs.declared.Call.the-variants.{Known, Unknown}
 use Rattle.words.specs.declared.Decoded.{Decoded}
 use Rattle.words.specs.declared.Decoded.the-variants.{Is, NoRecord}
 use Rattle.words.specs.Record.{bit, word, pendingWords, wordsOf, pendingOf, pendingFits, callOf, isRecord, recordOf, decodedOf}
+
+-- ---- words one at a time
+
+-- the first word of what is left is written
+pub put-next : (xs : List ℕ) (i : ℕ) (ys : List ℕ) → i < length ys
+    → put xs i (drop i ys) ≡ put (set xs i (getD ys i 0)) (i + 1) (drop (i + 1) ys)
+unfolding put
+put-next xs i ys h = rw (drop-cons ys i 0 h, add-one i)
+
+-- no word is left
+pub put-none : (xs : List ℕ) (i : ℕ) (ys : List ℕ) → length ys ≤ i → put xs i (drop i ys) ≡ xs
+unfolding put
+put-none xs i ys h = rw (drop-of-length-le ys h)
+
+-- ---- the tests of a record
 
 both : (a b : Bool) → (a && b) ≡ true → (a ≡ true) × (b ≡ true)
 both a b h = (and-left a b h, and-right a b h)

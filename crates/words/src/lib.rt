@@ -17,6 +17,9 @@ ghost use Rattle.words.specs.Answers.{answerWords, questionWords, number
 // A record's length in words.
 pub const RECORD_WORDS: usize = 15;
 
+// An answer's length in words.
+pub const ANSWER_WORDS: usize = 9;
+
 // What words mean.
 pub enum Decoded {
     Is(Device),
@@ -174,7 +177,7 @@ pub fn encode(d: Device, words: &mut [u64])
 }
 
 // What the host is asked, as the words of an answer.
-fn question_words(call: HostCall) -> [u64; 9]
+fn question_words(call: HostCall) -> [u64; ANSWER_WORDS]
     ensures { λ r. ⌜ r ≡ questionWords call ⌝ }
 {
     match call {
@@ -184,7 +187,7 @@ fn question_words(call: HostCall) -> [u64; 9]
 }
 
 // An answer as words.
-fn answer_words(answer: Answer) -> [u64; 9]
+fn answer_words(answer: Answer) -> [u64; ANSWER_WORDS]
     ensures { λ r. ⌜ r ≡ answerWords answer ⌝ }
 {
     match answer {
@@ -217,12 +220,32 @@ pub fn number_of(answer: Answer) -> u64
     all[1]
 }
 
+// The words of an answer, each stored at once, where there is room for all.
+fn store_answer(words: &mut [u64], all: [u64; ANSWER_WORDS])
+    requires { ⌜ 9 ≤ length (now words) ⌝ }
+    ensures { λ _. ⌜ now (words .exit) ≡ put (now (words .entry)) 0 all ⌝ }
+{
+    words[0] = all[0];
+    words[1] = all[1];
+    words[2] = all[2];
+    words[3] = all[3];
+    words[4] = all[4];
+    words[5] = all[5];
+    words[6] = all[6];
+    words[7] = all[7];
+    words[8] = all[8];
+}
+
 // Writes an answer as words, none past the end, and tells its number.
 pub fn tell(answer: Answer, words: &mut [u64]) -> u64
     ensures { λ r. ⌜ r ≡ numberOf answer ⌝ }
     ensures { λ _. ⌜ now (words .exit) ≡ put (now (words .entry)) 0 (answerWords answer) ⌝ }
 {
     let all = answer_words(answer);
-    write_words(words, &all);
+    if ANSWER_WORDS <= words.len() {
+        store_answer(words, all);
+    } else {
+        write_words(words, &all);
+    }
     all[1]
 }

@@ -1,28 +1,15 @@
 -- `words::write_words` meets its contract. The loop's invariant: writing what is left of `what` from `i` on gives what writing all of it from the first word on gives.
 -- The measure is what is left of the words. Assumes nothing.
-use Prim.Native.Nat.{ℕ, _+_, _-_, _≤_, _<_}
+use Prim.Native.Nat.{_-_}
 use mathlib.Core.Path.{_≡_, refl, sym, _∙_}
-use mathlib.Core.List.{List}
 use native.Mathlib.Omega.{arith}
-use native.Mathlib.Numerals.{add-one}
 use borrow.Author.Needs.{needs}
-use lib.ListN.{length, drop, getD, set, length-set, drop-of-length-le}
-use lib.Seq.{drop-cons}
+use lib.ListN.{length, drop, length-set}
 use Rattle.wire.specs.Bytes.{put}
 use Rattle.wire.proofs.Laws.{put-past}
+use Rattle.words.proofs.Laws.{put-next, put-none}
 use Rattle.words.proofs.write_words.Statement.{statement}
 use Rattle.words.proofs.write_words.Tie as tie
-
--- no word is left
-none : (xs : List ℕ) (i : ℕ) (ys : List ℕ) → length ys ≤ i → put xs i (drop i ys) ≡ xs
-unfolding put
-none xs i ys h = rw (drop-of-length-le ys h)
-
--- a turn writes the first word of what is left
-turn : (xs : List ℕ) (i : ℕ) (ys : List ℕ) → i < length ys
-    → put xs i (drop i ys) ≡ put (set xs i (getD ys i 0)) (i + 1) (drop (i + 1) ys)
-unfolding put
-turn xs i ys h = rw (drop-cons ys i 0 h, add-one i)
 
 abbrev Inv-loop : tie.InvT-loop
 Inv-loop words₀ what i₀ words i =
@@ -40,7 +27,7 @@ same-length c = omega arith
 returns : tie.Need-returns Inv-loop μ-loop
 returns c =
     let o = c .before .before .loop in
-    sym (none (o .words) (o .i) (c .before .before .before .args .what .now) (c .if1 .taken)) ∙ o .inv .1
+    sym (put-none (o .words) (o .i) (c .before .before .before .args .what .now) (c .if1 .taken)) ∙ o .inv .1
 
 mul-words : tie.Need-mul-words Inv-loop μ-loop
 mul-words c = search needs
@@ -64,7 +51,7 @@ loop-again : tie.Need-loop-again Inv-loop μ-loop
 loop-again c =
     let o = c .before .before .before .loop in (
       simp length-set (o .inv .0),
-      sym (turn (o .words) (o .i) (c .before .before .before .before .args .what .now) (c .before .if1 .left)) ∙ o .inv .1,
+      sym (put-next (o .words) (o .i) (c .before .before .before .before .args .what .now) (c .before .if1 .left)) ∙ o .inv .1,
     )
 
 same-length-2 : tie.Need-same-length-2 Inv-loop μ-loop
