@@ -10,6 +10,7 @@ use Rattle.wire.specs.Bytes.{put}
 use Rattle.wire.proofs.Laws.{put-past}
 use Rattle.record.specs.declared.Device.{Device}
 use Rattle.step.specs.declared.Answered.{Answered}
+use Rattle.step.specs.declared.Answer.{Answer}
 use Rattle.step.specs.declared.Answer.the-variants.{Refused}
 use Rattle.step.specs.World.{Outcome, Meets, worldOf, ReadConfig, WriteConfig}
 use Rattle.step.specs.Step.{step, readConfig, writeConfig}
@@ -21,23 +22,25 @@ use Rattle.words.specs.declared.Decoded.the-variants.{Is, NoRecord}
 use Rattle.words.specs.Record.{wordsOf, decodedOf}
 use Rattle.words.specs.Answers.{answerWords, numberOf}
 use Rattle.words.proofs.Laws.{decoded-encodes, decoded-long}
-use Rattle.capi.specs.Exports.{madeNumber, madeWords, MadeIn, lent, Finished, Called, Exported}
+use Rattle.capi.specs.Exports.{madeNumber, madeWords, MadeIn, lent, Called, Exported}
 
 -- what the device's call promises, written out as words, is what the export promises
 pub served : (call : Device → Outcome) (words : List ℕ) (r : Decoded) → r ≡ decodedOf words → (d : Device) → r ≡ Is d
     → (s : Answered) (words′ answer answer′ bitmap bitmap′ table table′ bytes bytes′ : List ℕ) (number : ℕ)
-    → Meets (call d) s bitmap′ table table′ bytes′ → Finished s words words′ answer answer′ number
+    → Meets (call d) s bitmap′ table table′ bytes′
+    → (words′ ≡ put words 0 (wordsOf (s .device))) × (15 ≤ length words → decodedOf words′ ≡ Is (s .device))
+    → (number ≡ numberOf (s .answer)) × (answer′ ≡ put answer 0 (answerWords (s .answer)))
     → Exported call (lent words answer bitmap table bytes) (lent words′ answer′ bitmap′ table′ bytes′) number
 unfolding Called
-served call words r e d f s words′ answer answer′ bitmap bitmap′ table table′ bytes bytes′ number m w =
+served call words r e d f s words′ answer answer′ bitmap bitmap′ table table′ bytes bytes′ number m w t =
     let is : decodedOf words ≡ Is d = sym e ∙ f in
     let long = decoded-long words d is in
     rw is
     (record {
-      numbered = w .numbered ∙ ap numberOf (m .answered);
-      recorded = w .recorded ∙ ap (λ (d : Device). put words 0 (wordsOf d)) (m .recorded);
-      decodes = w .decodes long ∙ ap Is (m .recorded);
-      told = w .told ∙ ap (λ a. put answer 0 (answerWords a)) (m .answered);
+      numbered = t .0 ∙ ap numberOf (m .answered);
+      recorded = w .0 ∙ ap (λ (d : Device). put words 0 (wordsOf d)) (m .recorded);
+      decodes = w .1 long ∙ ap Is (m .recorded);
+      told = t .1 ∙ ap (λ a. put answer 0 (answerWords a)) (m .answered);
       marked = m .marked;
       mapped = m .mapped;
       left = m .left;
@@ -54,22 +57,22 @@ foreign call words r e f answer answer′ bitmap table bytes number n t =
     rw is (record { numbered = n; told = t; recorded = refl; marked = refl; mapped = refl; left = refl })
 
 -- a call that leaves the record as it is need not write it
-pub unwritten : (words : List ℕ) (r : Decoded) → r ≡ decodedOf words → (d : Device) → r ≡ Is d → (s : Answered)
-    → s .device ≡ d → (number : ℕ) → number ≡ numberOf (s .answer) → Finished s words words [] [] number
-unwritten words r e d f s same number n =
-    let is : decodedOf words ≡ Is d = sym e ∙ f in
-    record {
-      numbered = n;
-      recorded = sym (ap (λ (d : Device). put words 0 (wordsOf d)) same ∙ decoded-encodes words d is);
-      decodes = λ long. is ∙ sym (ap Is same);
-      told = sym (put-past [] 0 (answerWords (s .answer)) (omega arith));
-    }
+pub unwritten : (words : List ℕ) (r : Decoded) → r ≡ decodedOf words → (d : Device) → r ≡ Is d → (d′ : Device) → d′ ≡ d
+    → (words ≡ put words 0 (wordsOf d′)) × (15 ≤ length words → decodedOf words ≡ Is d′)
+unwritten words r e d f d′ same =
+    let is : decodedOf words ≡ Is d = sym e ∙ f in (
+      sym (ap (λ (d : Device). put words 0 (wordsOf d)) same ∙ decoded-encodes words d is),
+      λ long. is ∙ sym (ap Is same),
+    )
+
+-- where no answer slice is lent, none is written
+pub untold : (answer : Answer) → [] ≡ put [] 0 (answerWords answer)
+untold answer = sym (put-past [] 0 (answerWords answer) (omega arith))
 
 -- no record, and no answer slice
 pub unserved : (call : Device → Outcome) (words : List ℕ) (r : Decoded) → r ≡ decodedOf words → r ≡ NoRecord
     → (bytes : List ℕ) → Exported call (lent words [] [] [] bytes) (lent words [] [] [] bytes) 12
-unserved call words r e f bytes =
-    foreign call words r e f [] [] [] [] bytes 12 refl (sym (put-past [] 0 (answerWords (Refused 12)) (omega arith)))
+unserved call words r e f bytes = foreign call words r e f [] [] [] [] bytes 12 refl (untold (Refused 12))
 
 -- the config's calls leave the record as it is
 pub read-keeps : (d : Device) (offset : ℕ) (buffer : List ℕ) → step (worldOf d [] []) (ReadConfig offset buffer) .world .device ≡ d

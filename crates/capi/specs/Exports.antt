@@ -1,5 +1,5 @@
 -- What an exported call leaves in the slices that it was lent: what the device's call ends in, as words. Assumes nothing.
-use Prim.Native.Nat.{ℕ, _≤_}
+use Prim.Native.Nat.{ℕ}
 use mathlib.Core.Path.{_≡_}
 use mathlib.Core.Bool.{Bool, cond}
 use mathlib.Core.List.{List}
@@ -14,7 +14,6 @@ use Rattle.placing.specs.declared.Node.the-variants.{None, Number}
 use Rattle.placing.specs.declared.Made.{Made}
 use Rattle.placing.specs.declared.Made.the-variants.{Device as MadeDevice, Refused}
 use Rattle.step.specs.declared.Answer.the-variants.{Refused as RefusedWith}
-use Rattle.step.specs.declared.Answered.{Answered}
 use Rattle.step.specs.World.{Outcome}
 use Rattle.words.specs.declared.Decoded.{Decoded}
 use Rattle.words.specs.declared.Decoded.the-variants.{Is, NoRecord}
@@ -52,13 +51,6 @@ pub record Lent : Type 0 where
 abbrev pub lent : (words answer bitmap table bytes : List ℕ) → Lent
 lent words answer bitmap table bytes =
     record { words = words; answer = answer; bitmap = bitmap; table = table; bytes = bytes }
-
--- an answer of the device and its record, as words
-pub record Finished (s : Answered) (words words′ answer answer′ : List ℕ) (number : ℕ) : Type 0 where
-  pub numbered : number ≡ numberOf (s .answer)
-  pub recorded : words′ ≡ put words 0 (wordsOf (s .device))
-  pub decodes : 15 ≤ length words → decodedOf words′ ≡ Is (s .device)
-  pub told : answer′ ≡ put answer 0 (answerWords (s .answer))
 
 -- the call's outcome: its number, and all that it leaves; the next call goes on from the outcome's record
 pub record Told (o : Outcome) (entry exit : Lent) (number : ℕ) : Type 0 where

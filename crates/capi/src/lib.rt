@@ -10,7 +10,6 @@ use placing::place;
 use placing::set_requested_size;
 use serving::request;
 use step::Answer;
-use step::Answered;
 use units::GuestAddr;
 use units::HostAddr;
 use words::Decoded;
@@ -26,17 +25,7 @@ ghost use Rattle.rows.specs.Rows.{rowsOf};
 ghost use Rattle.placing.specs.Made.{made};
 ghost use Rattle.step.specs.World.{worldOf, Place, SetRequestedSize, Request, HostAnswer, ReadConfig, WriteConfig};
 ghost use Rattle.step.specs.Step.{step};
-ghost use Rattle.capi.specs.Exports.{nodeOf, MadeIn, lent, Finished, Exported};
-
-// A call's answer and record, as words.
-fn finish(s: Answered, words: &mut [u64], answer: &mut [u64]) -> u64
-    ensures { λ r. ⌜ Finished s (now (words .entry)) (now (words .exit)) (now (answer .entry)) (now (answer .exit)) r ⌝ }
-{
-    let d = s.device;
-    let a = s.answer;
-    encode(d, words);
-    tell(a, answer)
-}
+ghost use Rattle.capi.specs.Exports.{nodeOf, MadeIn, lent, Exported};
 
 // The node of a device, as the enum of its constructor has it.
 fn node_of(node_given: bool, node: u16) -> Node
@@ -96,7 +85,10 @@ pub extern "C" fn jambcopper_place(
         return tell(Answer::Refused(12), answer);
     };
     let s = place(d, bitmap, table, GuestAddr(start), size, slots);
-    finish(s, words, answer)
+    let d = s.device;
+    let a = s.answer;
+    encode(d, words);
+    tell(a, answer)
 }
 
 // Changes the requested size.
@@ -118,7 +110,10 @@ pub extern "C" fn jambcopper_set_requested_size(
         return tell(Answer::Refused(12), answer);
     };
     let s = set_requested_size(d, bitmap, table, requested_mib);
-    finish(s, words, answer)
+    let d = s.device;
+    let a = s.answer;
+    encode(d, words);
+    tell(a, answer)
 }
 
 // One chain of the guest.
@@ -151,7 +146,10 @@ pub extern "C" fn jambcopper_request(
         GuestAddr(descriptors),
         head,
     );
-    finish(s, words, answer)
+    let d = s.device;
+    let a = s.answer;
+    encode(d, words);
+    tell(a, answer)
 }
 
 // The host's answer to what it was asked.
@@ -176,7 +174,10 @@ pub extern "C" fn jambcopper_host_answer(
         return tell(Answer::Refused(12), answer);
     };
     let s = host_answer(d, bitmap, table, mem, GuestAddr(base), ok, HostAddr(host));
-    finish(s, words, answer)
+    let d = s.device;
+    let a = s.answer;
+    encode(d, words);
+    tell(a, answer)
 }
 
 // Reads the config.
