@@ -1,12 +1,12 @@
 -- What one turn of a loop over the blocks does: the loop stands at bit k of byte j, with `left` blocks to go. Assumes nothing.
-use Prim.Native.Nat.{ℕ, suc, _+_, _-_, _*_, _/_, _%_, _≤_, _<_}
+use Prim.Native.Nat.{ℕ, zero, suc, _+_, _-_, _*_, _/_, _%_, _≤_, _<_}
 use mathlib.Core.Path.{_≡_, refl, ap, _∙_, sym}
 use mathlib.Core.Bool.{Bool, false}
 use mathlib.Core.List.{List, [], _∷_}
 use native.Mathlib.Omega.{arith}
 use lib.ListN.{length, getD, set, length-set, List·getD-eq-default}
 use lib.Seq.{take-set-le, drop-set-lt}
-use Rattle.bitmap.specs.Blocks.{lowBits, blocks, blockAt, range, fill, Outside, Filled}
+use Rattle.bitmap.specs.Blocks.{lowBits, blocks, blockAt, range, fill, firstSet, Outside, Filled}
 use Rattle.bitmap.proofs.Laws.{blocks-length, range-step, range-end, fill-none, fill-end, fill-split}
 use Rattle.bitmap.proofs.Bytes.{blocks-at, blocks-put}
 
@@ -39,6 +39,30 @@ module _ (xs : List ℕ) (j k left : ℕ) where
       let n : suc (place j k) ≡ next j k = omega arith in
       ap (range (blocks xs) (place j k)) e
       ∙ rw (range-step (blocks xs) (place j k) (left - 1) (omega (arith, blocks-length xs)), blocks-at xs j k l u, ← q, n)
+
+-- a byte of zeros has no bit
+no-bit : (n i : ℕ) → blockAt (lowBits n 0) i ≡ false
+unfolding lowBits
+no-bit zero i = refl
+no-bit (suc n) zero = refl
+no-bit (suc n) (suc i) = no-bit n i
+
+-- so a search passes its eight blocks at once: i of them are passed
+module _ (xs : List ℕ) (j left at : ℕ) (l : j < length xs) (e : getD xs j 0 ≡ 0) (h : 8 ≤ left) where
+  zeros-to : (i : ℕ) → i ≤ 8 → firstSet at (range (blocks xs) (place j 0) left) ≡ firstSet (at + i) (range (blocks xs) (place j i) (left - i))
+  unfolding firstSet
+  zeros-to zero u = let a : at + 0 ≡ at = omega arith in let z : left - 0 ≡ left = omega arith in rw (a, z)
+  zeros-to (suc i) u =
+      let q : false ≡ blockAt (lowBits 8 (getD xs j 0)) i = rw e (sym (no-bit 8 i)) in
+      let n : next j i ≡ place j (suc i) = omega arith in
+      let a : suc (at + i) ≡ at + suc i = omega arith in
+      let z : left - i - 1 ≡ left - suc i = omega arith in
+      zeros-to i (omega arith)
+      ∙ ap (firstSet (at + i)) (range-turn xs j i (left - i) false l (omega arith) (λ w. omega arith) q)
+      ∙ rw (n, z, ← a)
+
+  pub zeros-passed : firstSet at (range (blocks xs) (place j 0) left) ≡ firstSet (at + 8) (range (blocks xs) (place (j + 1) 0) (left - 8))
+  zeros-passed = let n : place j 8 ≡ place (j + 1) 0 = omega arith in rw n at (zeros-to 8 (omega arith))
 
 -- ---- writing: the bytes are xs, and filling `left` blocks from `at` on is what is left to do
 pub record Filling (entry : List ℕ) (first count : ℕ) (v : Bool) (xs : List ℕ) (at left : ℕ) : Type 0 where

@@ -93,7 +93,7 @@ pub fn clear(bitmap: &mut [u8], bytes: usize)
     }
 }
 
-// The lowest plugged block from `from` up to, not including, `end`.
+// The lowest plugged block from `from` up to, not including, `end`. A byte without one is passed at once.
 pub fn next_set(bitmap: &[u8], from: usize, end: usize) -> Found
     ensures { λ r. ⌜ r ≡ nextSet (blocks (now (bitmap .entry))) from end ⌝ }
 {
@@ -104,12 +104,17 @@ pub fn next_set(bitmap: &[u8], from: usize, end: usize) -> Found
         if end <= at {
             return Found::Nothing;
         }
-        if bit(bitmap[j], k) {
-            return Found::At(at);
+        if (k == 0) & (bitmap[j] == 0) & (8 <= end - at) {
+            j += 1;
+            at += 8;
+        } else {
+            if bit(bitmap[j], k) {
+                return Found::At(at);
+            }
+            j += (k + 1) / 8;
+            k = (k + 1) % 8;
+            at += 1;
         }
-        j += (k + 1) / 8;
-        k = (k + 1) % 8;
-        at += 1;
     }
     Found::Nothing
 }

@@ -1,12 +1,17 @@
 -- `bitmap::next_set` meets its contract. The loop's invariant: `at` is the block at bit k of byte j, and the search from there gives the answer.
 -- The measure is the number of blocks up to `end`. Assumes nothing.
-use Prim.Native.Nat.{_-_, _<_, _+_}
-use mathlib.Core.Path.{_≡_}
-use mathlib.Core.List.{_∷_}
+use Prim.Native.Nat.{ℕ, _-_, _<_, _+_, _≤_}
+use mathlib.Core.Path.{_≡_, sym, _∙_}
+use mathlib.Core.Bool.{_&&_}
+use mathlib.Core.List.{List, _∷_}
 use native.Mathlib.Numerals.{add-one}
 use native.Mathlib.Omega.{arith}
+use lib.Dec.{eqb}
+use lib.ListN.{getD}
+use borrow.Author.Tests.{eqb-true, leb-true}
+use Rattle.units.proofs.Tests.{and-left, and-right}
 use Rattle.bitmap.specs.Blocks.{blocks, range, firstSet, nextSet}
-use Rattle.bitmap.proofs.Turns.{place, next, start, range-out, range-turn}
+use Rattle.bitmap.proofs.Turns.{place, next, start, range-out, range-turn, zeros-passed}
 use Rattle.bitmap.proofs.next_set.Statement.{statement}
 use Rattle.bitmap.proofs.next_set.Tie as tie
 
@@ -27,6 +32,51 @@ returns c =
     let z : c .before .before .before .before .args .end - o .at ≡ 0 = omega arith in
     rw z at (o .inv .1)
 
+shared-slice-read-if2 : tie.Need-shared-slice-read-if2 Inv-loop μ-loop
+shared-slice-read-if2 c = omega arith
+
+sub-if2 : tie.Need-sub-if2 Inv-loop μ-loop
+sub-if2 c = omega arith
+
+-- a byte of zeros, from its first bit on, with eight blocks to go
+pub record Zeros (bitmap : List ℕ) (j k left : ℕ) : Type 0 where
+  pub first : k ≡ 0
+  pub none : getD bitmap j 0 ≡ 0
+  pub eight : 8 ≤ left
+
+zeros : (c : tie.Then2 Inv-loop μ-loop) →
+    let a = c .before .before .before .before .before .before .args in
+    let o = c .before .before .before .before .loop in
+    Zeros (a .bitmap .now) (o .j) (o .k) (a .end - o .at)
+zeros c =
+    let a = c .before .before .before .before .before .before .args in
+    let o = c .before .before .before .before .loop in
+    let starts = eqb (o .k) 0 in
+    let empty = eqb (getD (a .bitmap .now) (o .j) 0) 0 in
+    let both = and-left (starts && empty) _ (c .if2 .taken) in
+    record {
+      first = eqb-true (o .k) 0 (and-left starts empty both);
+      none = eqb-true (getD (a .bitmap .now) (o .j) 0) 0 (and-right starts empty both);
+      eight = leb-true 8 (a .end - o .at) (and-right (starts && empty) _ (c .if2 .taken));
+    }
+
+add-j : tie.Need-add-j Inv-loop μ-loop
+add-j c = omega arith
+
+add-at : tie.Need-add-at Inv-loop μ-loop
+add-at c = let z = zeros c in omega arith
+
+loop-less : tie.Need-loop-less Inv-loop μ-loop
+loop-less c = let z = zeros c in omega arith
+
+loop-again : tie.Need-loop-again Inv-loop μ-loop
+loop-again c =
+    let a = c .before .before .before .before .before .before .args in
+    let o = c .before .before .before .before .loop in
+    let z = zeros c in
+    let e : a .end - (o .at + 8) ≡ a .end - o .at - 8 = omega arith in
+    (omega arith, rw (z .first, e) (sym (zeros-passed (a .bitmap .now) (o .j) (a .end - o .at) (o .at) (c .before .before .before .loop-test .taken) (z .none) (z .eight)) ∙ rw (z .first) at (o .inv .1)))
+
 shared-slice-read-bit : tie.Need-shared-slice-read-bit Inv-loop μ-loop
 shared-slice-read-bit c = omega arith
 
@@ -35,40 +85,40 @@ bit-requires c κs = omega arith
 
 -- past the read of a bit, what is left begins with it
 turned : (c : tie.After-bit Inv-loop μ-loop) →
-    let a = c .before .before .before .before .before .before .args in
-    let o = c .before .before .before .before .loop in
+    let a = c .before .before .before .before .before .before .before .before .args in
+    let o = c .before .before .before .before .before .before .loop in
     firstSet (o .at) (c .bit .result ∷ range (blocks (a .bitmap .now)) (next (o .j) (o .k)) (a .end - o .at - 1)) ≡ nextSet (blocks (a .bitmap .now)) (a .from) (a .end)
 turned c =
-    let a = c .before .before .before .before .before .before .args in
-    let o = c .before .before .before .before .loop in
-    rw (range-turn (a .bitmap .now) (o .j) (o .k) (a .end - o .at) (c .bit .result) (c .before .before .before .loop-test .taken) (o .inv .0) (omega arith) (c .bit .ensures)) at (o .inv .1)
+    let a = c .before .before .before .before .before .before .before .before .args in
+    let o = c .before .before .before .before .before .before .loop in
+    rw (range-turn (a .bitmap .now) (o .j) (o .k) (a .end - o .at) (c .bit .result) (c .before .before .before .before .before .loop-test .taken) (o .inv .0) (omega arith) (c .bit .ensures)) at (o .inv .1)
 
 returns-2 : tie.Need-returns-2 Inv-loop μ-loop
 unfolding firstSet
-returns-2 c = rw (c .if2 .taken) at (turned (c .before))
-
-add-j : tie.Need-add-j Inv-loop μ-loop
-add-j c = omega arith
+returns-2 c = rw (c .if3 .taken) at (turned (c .before))
 
 add-j-2 : tie.Need-add-j-2 Inv-loop μ-loop
 add-j-2 c = omega arith
 
+add-j-3 : tie.Need-add-j-3 Inv-loop μ-loop
+add-j-3 c = omega arith
+
 add-k : tie.Need-add-k Inv-loop μ-loop
 add-k c = omega arith
 
-add-at : tie.Need-add-at Inv-loop μ-loop
-add-at c = omega arith
+add-at-2 : tie.Need-add-at-2 Inv-loop μ-loop
+add-at-2 c = omega arith
 
-loop-less : tie.Need-loop-less Inv-loop μ-loop
-loop-less c = omega arith
+loop-less-2 : tie.Need-loop-less-2 Inv-loop μ-loop
+loop-less-2 c = omega arith
 
-loop-again : tie.Need-loop-again Inv-loop μ-loop
+loop-again-2 : tie.Need-loop-again-2 Inv-loop μ-loop
 unfolding firstSet
-loop-again c =
-    let a = c .before .before .before .before .before .before .before .args in
-    let o = c .before .before .before .before .before .loop in
+loop-again-2 c =
+    let a = c .before .before .before .before .before .before .before .before .before .args in
+    let o = c .before .before .before .before .before .before .before .loop in
     let e : a .end - (o .at + 1) ≡ a .end - o .at - 1 = omega arith in
-    (omega arith, rw (e, add-one (o .at)) (rw (c .if2 .left) at (turned (c .before))))
+    (omega arith, rw (e, add-one (o .at)) (rw (c .if3 .left) at (turned (c .before))))
 
 returns-3 : tie.Need-returns-3 Inv-loop μ-loop
 unfolding firstSet
@@ -85,13 +135,19 @@ next-set-spec =
     μ-loop
     loop-holds
     returns
-    shared-slice-read-bit
-    bit-requires
-    returns-2
+    shared-slice-read-if2
+    sub-if2
     add-j
-    add-j-2
-    add-k
     add-at
     loop-less
     loop-again
+    shared-slice-read-bit
+    bit-requires
+    returns-2
+    add-j-2
+    add-j-3
+    add-k
+    add-at-2
+    loop-less-2
+    loop-again-2
     returns-3)
