@@ -29,7 +29,7 @@ use std::fmt;
 
 mod sys;
 
-use sys::{ANSWER_WORDS, RECORD_WORDS};
+use sys::{Lent, ANSWER_WORDS, RECORD_WORDS};
 
 /// The block: what is plugged and unplugged.
 pub const BLOCK_SIZE: u64 = 4 << 20;
@@ -195,10 +195,6 @@ impl Answer {
             _ => unreachable!("the device answers with 1 to 5"),
         }
     }
-
-    fn told(number: u64, words: &[u64; ANSWER_WORDS]) -> Result<Answer, Error> {
-        Error::check(number).map(|()| Answer::of(words))
-    }
 }
 
 /// A virtio-mem device with its bitmap and its map table.
@@ -220,19 +216,15 @@ impl Device {
         boot: u64,
     ) -> Result<Device, Error> {
         let mut record = [0; RECORD_WORDS];
-        // SAFETY: the slice is a live, unshared array; the function writes nothing else.
-        Error::check(unsafe {
-            sys::jambcopper_make(
-                record.as_mut_ptr(),
-                record.len(),
-                capacity_mib,
-                requested_mib,
-                multi_region,
-                node.is_some(),
-                node.unwrap_or(0),
-                boot,
-            )
-        })?;
+        Error::check(sys::make(
+            &mut record,
+            capacity_mib,
+            requested_mib,
+            multi_region,
+            node.is_some(),
+            node.unwrap_or(0),
+            boot,
+        ))?;
         let mut device = Device {
             record,
             bitmap: Vec::new(),
@@ -245,45 +237,12 @@ impl Device {
 
     /// Places the device at a range of guest addresses, with a memory slot for each map region.
     pub fn set_resource(&mut self, start: u64, size: u64, slots: &[u32]) -> Result<Answer, Error> {
-        let mut answer = [0; ANSWER_WORDS];
-        // SAFETY: each pointer and length is one live slice, and no two of them overlap.
-        let number = unsafe {
-            sys::jambcopper_place(
-                self.record.as_mut_ptr(),
-                self.record.len(),
-                self.bitmap.as_mut_ptr(),
-                self.bitmap.len(),
-                self.table.as_mut_ptr(),
-                self.table.len(),
-                start,
-                size,
-                slots.as_ptr(),
-                slots.len(),
-                answer.as_mut_ptr(),
-                answer.len(),
-            )
-        };
-        Answer::told(number, &answer)
+        self.told(|device, answer| device.place(start, size, slots, answer))
     }
 
     /// Changes the requested size, in MiB.
     pub fn set_requested_size(&mut self, requested_mib: u64) -> Result<Answer, Error> {
-        let mut answer = [0; ANSWER_WORDS];
-        // SAFETY: as in `set_resource`.
-        let number = unsafe {
-            sys::jambcopper_set_requested_size(
-                self.record.as_mut_ptr(),
-                self.record.len(),
-                self.bitmap.as_ptr(),
-                self.bitmap.len(),
-                self.table.as_ptr(),
-                self.table.len(),
-                requested_mib,
-                answer.as_mut_ptr(),
-                answer.len(),
-            )
-        };
-        Answer::told(number, &answer)
+        self.told(|device, answer| device.set_requested_size(requested_mib, answer))
     }
 
     /// Serves one chain of the guest's queue: `mem` is guest memory from the guest address `base` on, `descriptors` the
@@ -295,26 +254,7 @@ impl Device {
         descriptors: u64,
         head: u16,
     ) -> Result<Answer, Error> {
-        let mut answer = [0; ANSWER_WORDS];
-        // SAFETY: as in `set_resource`.
-        let number = unsafe {
-            sys::jambcopper_request(
-                self.record.as_mut_ptr(),
-                self.record.len(),
-                self.bitmap.as_mut_ptr(),
-                self.bitmap.len(),
-                self.table.as_ptr(),
-                self.table.len(),
-                mem.as_mut_ptr(),
-                mem.len(),
-                base,
-                descriptors,
-                head,
-                answer.as_mut_ptr(),
-                answer.len(),
-            )
-        };
-        Answer::told(number, &answer)
+        self.told(|device, answer| device.request(mem, base, descriptors, head, answer))
     }
 
     /// The host's answer to what it was asked. Guest memory is for the response to an unplug; a creation does not look
@@ -330,55 +270,33 @@ impl Device {
             HostAnswer::Discarded => (true, 0),
             HostAnswer::Failed => (false, 0),
         };
+        self.told(|device, answer| device.host_answer(mem, base, ok, host, answer))
+    }
+
+    /// What a call tells of this device.
+    fn told(
+        &mut self,
+        call: impl FnOnce(Lent, &mut [u64; ANSWER_WORDS]) -> u64,
+    ) -> Result<Answer, Error> {
         let mut answer = [0; ANSWER_WORDS];
-        // SAFETY: as in `set_resource`.
-        let number = unsafe {
-            sys::jambcopper_host_answer(
-                self.record.as_mut_ptr(),
-                self.record.len(),
-                self.bitmap.as_mut_ptr(),
-                self.bitmap.len(),
-                self.table.as_mut_ptr(),
-                self.table.len(),
-                mem.as_mut_ptr(),
-                mem.len(),
-                base,
-                ok,
-                host,
-                answer.as_mut_ptr(),
-                answer.len(),
-            )
+        let lent = Lent {
+            record: &mut self.record,
+            bitmap: &mut self.bitmap,
+            table: &mut self.table,
         };
-        Answer::told(number, &answer)
+        Error::check(call(lent, &mut answer))?;
+        Ok(Answer::of(&answer))
     }
 
     /// Reads the config space from `offset` on: up to its end or the buffer's; the rest of the buffer stays.
     pub fn read_config(&self, offset: u64, data: &mut [u8]) {
-        // SAFETY: as in `set_resource`; the record is only read.
-        let number = unsafe {
-            sys::jambcopper_read_config(
-                self.record.as_ptr(),
-                self.record.len(),
-                offset,
-                data.as_mut_ptr(),
-                data.len(),
-            )
-        };
+        let number = sys::read_config(&self.record, offset, data);
         debug_assert_eq!(number, 0);
     }
 
     /// A write of the config space, which does nothing.
     pub fn write_config(&mut self, offset: u64, data: &[u8]) {
-        // SAFETY: as in `read_config`.
-        let number = unsafe {
-            sys::jambcopper_write_config(
-                self.record.as_ptr(),
-                self.record.len(),
-                offset,
-                data.as_ptr(),
-                data.len(),
-            )
-        };
+        let number = sys::write_config(&self.record, offset, data);
         debug_assert_eq!(number, 0);
     }
 

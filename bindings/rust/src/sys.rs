@@ -1,87 +1,246 @@
 // SPDX-License-Identifier: Apache-2.0 AND BSD-3-Clause
-//! What the static library exports, as `bindings/c/jambcopper.h` has it. A slice is a pointer and how many elements it has.
+//! What the static library exports, as `bindings/c/jambcopper.h` has it, with slices in the place of pointers and lengths. Every
+//! function answers 01's number, and any slice of any length and contents is allowed.
 
 pub const RECORD_WORDS: usize = 15;
 pub const ANSWER_WORDS: usize = 9;
 
-extern "C" {
-    pub fn jambcopper_make(
-        record: *mut u64,
-        record_words: usize,
-        capacity_mib: u64,
-        requested_mib: u64,
-        multi_region: bool,
-        node_given: bool,
-        node: u16,
-        boot: u64,
-    ) -> u64;
-    pub fn jambcopper_place(
-        record: *mut u64,
-        record_words: usize,
-        bitmap: *mut u8,
-        bitmap_bytes: usize,
-        table: *mut u64,
-        table_words: usize,
-        start: u64,
-        size: u64,
-        slots: *const u32,
-        slot_count: usize,
-        answer: *mut u64,
-        answer_words: usize,
-    ) -> u64;
-    pub fn jambcopper_set_requested_size(
-        record: *mut u64,
-        record_words: usize,
-        bitmap: *const u8,
-        bitmap_bytes: usize,
-        table: *const u64,
-        table_words: usize,
-        requested_mib: u64,
-        answer: *mut u64,
-        answer_words: usize,
-    ) -> u64;
-    pub fn jambcopper_request(
-        record: *mut u64,
-        record_words: usize,
-        bitmap: *mut u8,
-        bitmap_bytes: usize,
-        table: *const u64,
-        table_words: usize,
-        mem: *mut u8,
-        mem_bytes: usize,
+/// The functions as C has them.
+mod c {
+    extern "C" {
+        pub fn jambcopper_make(
+            record: *mut u64,
+            record_words: usize,
+            capacity_mib: u64,
+            requested_mib: u64,
+            multi_region: bool,
+            node_given: bool,
+            node: u16,
+            boot: u64,
+        ) -> u64;
+        pub fn jambcopper_place(
+            record: *mut u64,
+            record_words: usize,
+            bitmap: *mut u8,
+            bitmap_bytes: usize,
+            table: *mut u64,
+            table_words: usize,
+            start: u64,
+            size: u64,
+            slots: *const u32,
+            slot_count: usize,
+            answer: *mut u64,
+            answer_words: usize,
+        ) -> u64;
+        pub fn jambcopper_set_requested_size(
+            record: *mut u64,
+            record_words: usize,
+            bitmap: *const u8,
+            bitmap_bytes: usize,
+            table: *const u64,
+            table_words: usize,
+            requested_mib: u64,
+            answer: *mut u64,
+            answer_words: usize,
+        ) -> u64;
+        pub fn jambcopper_request(
+            record: *mut u64,
+            record_words: usize,
+            bitmap: *mut u8,
+            bitmap_bytes: usize,
+            table: *const u64,
+            table_words: usize,
+            mem: *mut u8,
+            mem_bytes: usize,
+            base: u64,
+            descriptors: u64,
+            head: u16,
+            answer: *mut u64,
+            answer_words: usize,
+        ) -> u64;
+        pub fn jambcopper_host_answer(
+            record: *mut u64,
+            record_words: usize,
+            bitmap: *mut u8,
+            bitmap_bytes: usize,
+            table: *mut u64,
+            table_words: usize,
+            mem: *mut u8,
+            mem_bytes: usize,
+            base: u64,
+            ok: bool,
+            host: u64,
+            answer: *mut u64,
+            answer_words: usize,
+        ) -> u64;
+        pub fn jambcopper_read_config(
+            record: *const u64,
+            record_words: usize,
+            offset: u64,
+            data: *mut u8,
+            data_bytes: usize,
+        ) -> u64;
+        pub fn jambcopper_write_config(
+            record: *const u64,
+            record_words: usize,
+            offset: u64,
+            data: *const u8,
+            data_bytes: usize,
+        ) -> u64;
+    }
+}
+
+/// The memory that a device works on: its record, its bitmap and its map table.
+pub struct Lent<'a> {
+    pub record: &'a mut [u64],
+    pub bitmap: &'a mut [u8],
+    pub table: &'a mut [u64],
+}
+
+// SAFETY, for every call below: each pointer and length is one live slice, no two of them overlap where one is written, and the
+// functions are proved to touch nothing else.
+
+#[inline]
+pub fn make(
+    record: &mut [u64],
+    capacity_mib: u64,
+    requested_mib: u64,
+    multi_region: bool,
+    node_given: bool,
+    node: u16,
+    boot: u64,
+) -> u64 {
+    unsafe {
+        c::jambcopper_make(
+            record.as_mut_ptr(),
+            record.len(),
+            capacity_mib,
+            requested_mib,
+            multi_region,
+            node_given,
+            node,
+            boot,
+        )
+    }
+}
+
+impl Lent<'_> {
+    #[inline]
+    pub fn place(self, start: u64, size: u64, slots: &[u32], answer: &mut [u64]) -> u64 {
+        unsafe {
+            c::jambcopper_place(
+                self.record.as_mut_ptr(),
+                self.record.len(),
+                self.bitmap.as_mut_ptr(),
+                self.bitmap.len(),
+                self.table.as_mut_ptr(),
+                self.table.len(),
+                start,
+                size,
+                slots.as_ptr(),
+                slots.len(),
+                answer.as_mut_ptr(),
+                answer.len(),
+            )
+        }
+    }
+
+    #[inline]
+    pub fn set_requested_size(self, requested_mib: u64, answer: &mut [u64]) -> u64 {
+        unsafe {
+            c::jambcopper_set_requested_size(
+                self.record.as_mut_ptr(),
+                self.record.len(),
+                self.bitmap.as_ptr(),
+                self.bitmap.len(),
+                self.table.as_ptr(),
+                self.table.len(),
+                requested_mib,
+                answer.as_mut_ptr(),
+                answer.len(),
+            )
+        }
+    }
+
+    #[inline]
+    pub fn request(
+        self,
+        mem: &mut [u8],
         base: u64,
         descriptors: u64,
         head: u16,
-        answer: *mut u64,
-        answer_words: usize,
-    ) -> u64;
-    pub fn jambcopper_host_answer(
-        record: *mut u64,
-        record_words: usize,
-        bitmap: *mut u8,
-        bitmap_bytes: usize,
-        table: *mut u64,
-        table_words: usize,
-        mem: *mut u8,
-        mem_bytes: usize,
+        answer: &mut [u64],
+    ) -> u64 {
+        unsafe {
+            c::jambcopper_request(
+                self.record.as_mut_ptr(),
+                self.record.len(),
+                self.bitmap.as_mut_ptr(),
+                self.bitmap.len(),
+                self.table.as_ptr(),
+                self.table.len(),
+                mem.as_mut_ptr(),
+                mem.len(),
+                base,
+                descriptors,
+                head,
+                answer.as_mut_ptr(),
+                answer.len(),
+            )
+        }
+    }
+
+    #[inline]
+    pub fn host_answer(
+        self,
+        mem: &mut [u8],
         base: u64,
         ok: bool,
         host: u64,
-        answer: *mut u64,
-        answer_words: usize,
-    ) -> u64;
-    pub fn jambcopper_read_config(
-        record: *const u64,
-        record_words: usize,
-        offset: u64,
-        data: *mut u8,
-        data_bytes: usize,
-    ) -> u64;
-    pub fn jambcopper_write_config(
-        record: *const u64,
-        record_words: usize,
-        offset: u64,
-        data: *const u8,
-        data_bytes: usize,
-    ) -> u64;
+        answer: &mut [u64],
+    ) -> u64 {
+        unsafe {
+            c::jambcopper_host_answer(
+                self.record.as_mut_ptr(),
+                self.record.len(),
+                self.bitmap.as_mut_ptr(),
+                self.bitmap.len(),
+                self.table.as_mut_ptr(),
+                self.table.len(),
+                mem.as_mut_ptr(),
+                mem.len(),
+                base,
+                ok,
+                host,
+                answer.as_mut_ptr(),
+                answer.len(),
+            )
+        }
+    }
+}
+
+#[inline]
+pub fn read_config(record: &[u64], offset: u64, data: &mut [u8]) -> u64 {
+    unsafe {
+        c::jambcopper_read_config(
+            record.as_ptr(),
+            record.len(),
+            offset,
+            data.as_mut_ptr(),
+            data.len(),
+        )
+    }
+}
+
+#[inline]
+pub fn write_config(record: &[u64], offset: u64, data: &[u8]) -> u64 {
+    unsafe {
+        c::jambcopper_write_config(
+            record.as_ptr(),
+            record.len(),
+            offset,
+            data.as_ptr(),
+            data.len(),
+        )
+    }
 }

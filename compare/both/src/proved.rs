@@ -3,7 +3,7 @@
 use oracle::rust::{BLOCK, MAP_REGION};
 use oracle::trace::{First, Want};
 
-use crate::sys::{self, ANSWER_WORDS, RECORD_WORDS};
+use crate::sys::{self, Lent, ANSWER_WORDS, RECORD_WORDS};
 
 /// Lent behind what is needed, and never to be touched.
 const SPARE: u8 = 0xcc;
@@ -61,19 +61,15 @@ pub struct Proved {
 impl Proved {
     pub fn make(first: &First) -> Result<Proved, u64> {
         let mut record = [0; RECORD_WORDS];
-        // SAFETY: here and below, each pointer and length is one live slice, and no two overlap.
-        let number = unsafe {
-            sys::jambcopper_make(
-                record.as_mut_ptr(),
-                record.len(),
-                first.capacity_mib,
-                first.requested_mib,
-                first.multi,
-                first.node.is_some(),
-                first.node.unwrap_or(0),
-                first.boot,
-            )
-        };
+        let number = sys::make(
+            &mut record,
+            first.capacity_mib,
+            first.requested_mib,
+            first.multi,
+            first.node.is_some(),
+            first.node.unwrap_or(0),
+            first.boot,
+        );
         if number != 0 {
             return Err(number);
         }
@@ -126,124 +122,39 @@ impl Proved {
             && words.iter().all(|&word| word == u64::from(SPARE))
     }
 
-    pub fn place(&mut self, start: u64, size: u64, slots: &[u32]) -> Told {
+    /// What the device is lent, for one call.
+    #[inline]
+    pub fn lent(&mut self) -> Lent<'_> {
+        Lent {
+            record: &mut self.record,
+            bitmap: &mut self.bitmap,
+            table: &mut self.table,
+        }
+    }
+
+    fn told(&mut self, call: impl FnOnce(Lent, &mut [u64; ANSWER_WORDS]) -> u64) -> Told {
         let mut words = [0; ANSWER_WORDS];
-        let number = unsafe {
-            sys::jambcopper_place(
-                self.record.as_mut_ptr(),
-                self.record.len(),
-                self.bitmap.as_mut_ptr(),
-                self.bitmap.len(),
-                self.table.as_mut_ptr(),
-                self.table.len(),
-                start,
-                size,
-                slots.as_ptr(),
-                slots.len(),
-                words.as_mut_ptr(),
-                words.len(),
-            )
-        };
+        let number = call(self.lent(), &mut words);
         Told { number, words }
+    }
+
+    pub fn place(&mut self, start: u64, size: u64, slots: &[u32]) -> Told {
+        self.told(|device, words| device.place(start, size, slots, words))
     }
 
     pub fn set_requested_size(&mut self, mib: u64) -> Told {
-        let mut words = [0; ANSWER_WORDS];
-        let number = unsafe {
-            sys::jambcopper_set_requested_size(
-                self.record.as_mut_ptr(),
-                self.record.len(),
-                self.bitmap.as_ptr(),
-                self.bitmap.len(),
-                self.table.as_ptr(),
-                self.table.len(),
-                mib,
-                words.as_mut_ptr(),
-                words.len(),
-            )
-        };
-        Told { number, words }
+        self.told(|device, words| device.set_requested_size(mib, words))
     }
 
     pub fn request(&mut self, memory: &mut [u8], base: u64, table: u64, head: u16) -> Told {
-        let mut words = [0; ANSWER_WORDS];
-        let number = self.request_into(memory, base, table, head, &mut words);
-        Told { number, words }
-    }
-
-    /// The export alone, as a host calls it that keeps its answer's words.
-    #[inline(always)]
-    pub fn request_into(
-        &mut self,
-        memory: &mut [u8],
-        base: u64,
-        table: u64,
-        head: u16,
-        words: &mut [u64; ANSWER_WORDS],
-    ) -> u64 {
-        unsafe {
-            sys::jambcopper_request(
-                self.record.as_mut_ptr(),
-                self.record.len(),
-                self.bitmap.as_mut_ptr(),
-                self.bitmap.len(),
-                self.table.as_ptr(),
-                self.table.len(),
-                memory.as_mut_ptr(),
-                memory.len(),
-                base,
-                table,
-                head,
-                words.as_mut_ptr(),
-                words.len(),
-            )
-        }
+        self.told(|device, words| device.request(memory, base, table, head, words))
     }
 
     pub fn host_answer(&mut self, memory: &mut [u8], base: u64, ok: bool, host: u64) -> Told {
-        let mut words = [0; ANSWER_WORDS];
-        let number = self.host_answer_into(memory, base, ok, host, &mut words);
-        Told { number, words }
-    }
-
-    /// The export alone.
-    #[inline(always)]
-    pub fn host_answer_into(
-        &mut self,
-        memory: &mut [u8],
-        base: u64,
-        ok: bool,
-        host: u64,
-        words: &mut [u64; ANSWER_WORDS],
-    ) -> u64 {
-        unsafe {
-            sys::jambcopper_host_answer(
-                self.record.as_mut_ptr(),
-                self.record.len(),
-                self.bitmap.as_mut_ptr(),
-                self.bitmap.len(),
-                self.table.as_mut_ptr(),
-                self.table.len(),
-                memory.as_mut_ptr(),
-                memory.len(),
-                base,
-                ok,
-                host,
-                words.as_mut_ptr(),
-                words.len(),
-            )
-        }
+        self.told(|device, words| device.host_answer(memory, base, ok, host, words))
     }
 
     pub fn read_config(&self, offset: u64, data: &mut [u8]) -> u64 {
-        unsafe {
-            sys::jambcopper_read_config(
-                self.record.as_ptr(),
-                self.record.len(),
-                offset,
-                data.as_mut_ptr(),
-                data.len(),
-            )
-        }
+        sys::read_config(&self.record, offset, data)
     }
 }

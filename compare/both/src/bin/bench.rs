@@ -177,9 +177,13 @@ impl Side {
                 let mut memory = rust.guest().read(BASE, LENGTH);
                 let mut answer = [0; ANSWER_WORDS];
                 meter.measure(|| {
-                    device.request_into(&mut memory, BASE, BASE, 0, &mut answer);
+                    device
+                        .lent()
+                        .request(&mut memory, BASE, BASE, 0, &mut answer);
                     while answer[0] == 2 {
-                        device.host_answer_into(&mut memory, BASE, true, 0, &mut answer);
+                        device
+                            .lent()
+                            .host_answer(&mut memory, BASE, true, 0, &mut answer);
                     }
                 });
                 memory[(at - BASE) as usize..][..10].to_vec()

@@ -134,20 +134,16 @@ impl Lent {
         let mut record = words(random, 15);
         let capacity = random.pick(&[256, 512, 2048, 2304, 4096, 8192]);
         let multi = random.chance(50);
-        // SAFETY: here and below, each pointer and length is one live slice, and no two overlap.
-        unsafe {
-            let requested = 4 * random.below(1 + capacity / 4);
-            sys::jambcopper_make(
-                record.as_mut_ptr(),
-                record.len(),
-                capacity,
-                requested,
-                multi,
-                random.chance(50),
-                random.next() as u16,
-                number(random),
-            );
-        }
+        let requested = 4 * random.below(1 + capacity / 4);
+        sys::make(
+            &mut record,
+            capacity,
+            requested,
+            multi,
+            random.chance(50),
+            random.next() as u16,
+            number(random),
+        );
         let blocks = record[3] / (4 * MIB);
         let rows = match record[8] {
             1 => record[3].div_ceil(2 * GIB),
@@ -200,98 +196,41 @@ impl Lent {
         let base = random.pick(&[BASE, BASE, BASE, BASE, 0, u64::MAX - 511, u64::MAX]);
         let (any, other) = (number(random), number(random));
         let export = random.pick(&[0, 1, 1, 2, 3, 3, 3, 4, 4, 4, 5, 6]);
-        let number = unsafe {
-            match export {
-                0 => {
-                    let mut record = words(random, record.len());
-                    sys::jambcopper_make(
-                        record.as_mut_ptr(),
-                        record.len(),
-                        any,
-                        other,
-                        random.chance(50),
-                        random.chance(50),
-                        any as u16,
-                        number(random),
-                    )
-                }
-                1 => sys::jambcopper_place(
-                    record.as_mut_ptr(),
-                    record.len(),
-                    bitmap.as_mut_ptr(),
-                    bitmap.len(),
-                    table.as_mut_ptr(),
-                    table.len(),
-                    random.pick(&[4 * GIB, 4 * GIB, 0, any]),
-                    random.pick(&[record.get(3).copied().unwrap_or(0), other]),
-                    slots.as_ptr(),
-                    slots.len(),
-                    answer.as_mut_ptr(),
-                    answer.len(),
-                ),
-                2 => sys::jambcopper_set_requested_size(
-                    record.as_mut_ptr(),
-                    record.len(),
-                    bitmap.as_ptr(),
-                    bitmap.len(),
-                    table.as_ptr(),
-                    table.len(),
-                    random.pick(&[4 * (any % 1024), any]),
-                    answer.as_mut_ptr(),
-                    answer.len(),
-                ),
-                3 => sys::jambcopper_request(
-                    record.as_mut_ptr(),
-                    record.len(),
-                    bitmap.as_mut_ptr(),
-                    bitmap.len(),
-                    table.as_ptr(),
-                    table.len(),
-                    memory.as_mut_ptr(),
-                    memory.len(),
-                    base,
-                    random.pick(&[base, base, base, any]),
-                    random.pick(&[0, 0, 0, 1, 127, 128, any as u16]),
-                    answer.as_mut_ptr(),
-                    answer.len(),
-                ),
-                4 => sys::jambcopper_host_answer(
-                    record.as_mut_ptr(),
-                    record.len(),
-                    bitmap.as_mut_ptr(),
-                    bitmap.len(),
-                    table.as_mut_ptr(),
-                    table.len(),
-                    memory.as_mut_ptr(),
-                    memory.len(),
-                    base,
-                    random.chance(80),
-                    any,
-                    answer.as_mut_ptr(),
-                    answer.len(),
-                ),
-                5 => {
-                    let size = length(random, 56);
-                    let mut data = bytes(random, size);
-                    sys::jambcopper_read_config(
-                        record.as_ptr(),
-                        record.len(),
-                        random.pick(&[any % 70, any]),
-                        data.as_mut_ptr(),
-                        data.len(),
-                    )
-                }
-                _ => {
-                    let size = length(random, 56);
-                    let data = bytes(random, size);
-                    sys::jambcopper_write_config(
-                        record.as_ptr(),
-                        record.len(),
-                        any,
-                        data.as_ptr(),
-                        data.len(),
-                    )
-                }
+        let size = random.pick(&[record.get(3).copied().unwrap_or(0), other]);
+        let device = sys::Lent {
+            record,
+            bitmap,
+            table,
+        };
+        let number = match export {
+            0 => sys::make(
+                &mut words(random, device.record.len()),
+                any,
+                other,
+                random.chance(50),
+                random.chance(50),
+                any as u16,
+                number(random),
+            ),
+            1 => {
+                let start = random.pick(&[4 * GIB, 4 * GIB, 0, any]);
+                device.place(start, size, slots, answer)
+            }
+            2 => device.set_requested_size(random.pick(&[4 * (any % 1024), any]), answer),
+            3 => {
+                let descriptors = random.pick(&[base, base, base, any]);
+                let head = random.pick(&[0, 0, 0, 1, 127, 128, any as u16]);
+                device.request(memory, base, descriptors, head, answer)
+            }
+            4 => device.host_answer(memory, base, random.chance(80), any, answer),
+            5 => {
+                let size = length(random, 56);
+                let mut data = bytes(random, size);
+                sys::read_config(device.record, random.pick(&[any % 70, any]), &mut data)
+            }
+            _ => {
+                let size = length(random, 56);
+                sys::write_config(device.record, any, &bytes(random, size))
             }
         };
         (export, number)
