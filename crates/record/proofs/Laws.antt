@@ -11,7 +11,8 @@ use Rattle.units.proofs.Tests.{by-test, and-left, and-right}
 use Rattle.record.specs.declared.Device.{Device}
 use Rattle.record.specs.declared.Pending.{Pending}
 use Rattle.record.specs.declared.Pending.the-variants.{Nothing, Create, Discard, DiscardOne}
-use Rattle.record.specs.Shape.{alignmentOk, regionOk, sizeOk, blocksOk, insideOk, spanOf, startOk, severalOk, pendingOk, restOk, shapedOf, isIdle}
+use Rattle.record.specs.Shape.{alignmentOk, regionOk, sizeOk, spanOf, startOk, severalOk, pendingOk, shapedOf, isIdle}
+use Rattle.record.specs.Tests.{blocksOk, insideOk, restOk}
 use Rattle.record.specs.Changes.{configWith, deviceWith, pendingTo, placedTo, startTo, usableTo, pluggedTo, requestedTo}
 
 -- ---- the five alignments

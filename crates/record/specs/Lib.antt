@@ -1,2 +1,3 @@
 pub mod Shape
 pub mod Changes
+pub mod Tests

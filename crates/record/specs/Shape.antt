@@ -20,13 +20,6 @@ regionOk region alignment =
 unfoldable pub sizeOk : (b size region : ℕ) → Bool
 sizeOk b size region = eqb (size % b) 0 && leb size region
 
--- .. the three multiples at once, and the three bounds
-abbrev pub blocksOk : (requested usable plugged : ℕ) → Bool
-blocksOk requested usable plugged = eqb (requested % 4194304) 0 && (eqb (usable % 4194304) 0 && eqb (plugged % 4194304) 0)
-
-abbrev pub insideOk : (requested usable plugged region : ℕ) → Bool
-insideOk requested usable plugged region = leb requested region && (leb usable region && leb plugged region)
-
 -- what 4 adds to the start: "region (several regions: + 2 GiB x their count)"
 unfoldable pub spanOf : (region : ℕ) (several : Bool) → ℕ
 spanOf region several = cond several (mapRegions region several * mapRegion) region
@@ -46,11 +39,6 @@ pendingOk (Create first last) b region several plugged = leb first last && ltb l
 pendingOk (Discard first count status) b region several plugged =
     leb (first + count) (blocksIn b region) && leb (bytesOf b count) plugged
 pendingOk (DiscardOne block status) b region several plugged = ltb block (blocksIn b region)
-
--- the last parts of the shape: of a single region that waits for nothing, its end alone
-unfoldable pub restOk : (start region : ℕ) (several : Bool) (pending : Pending) (plugged : ℕ) → Bool
-restOk start region several pending plugged =
-    leb (start + spanOf region several) top && (severalOk several region && pendingOk pending 4194304 region several plugged)
 
 -- "Record shape": the whole paragraph, in its order
 unfoldable pub shapedOf : Device → Bool

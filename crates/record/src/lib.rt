@@ -13,7 +13,8 @@ ghost use mathlib.Core.Bool.{true};
 ghost use Prim.Native.Nat.{_+_, _%_};
 ghost use lib.Dec.{leb, eqb};
 ghost use Rattle.units.specs.Numbers.{top};
-ghost use Rattle.record.specs.Shape.{alignmentOk, regionOk, blocksOk, insideOk, spanOf, startOk, severalOk, pendingOk, restOk, shapedOf, isIdle, featuresOf};
+ghost use Rattle.record.specs.Shape.{alignmentOk, regionOk, spanOf, startOk, severalOk, pendingOk, shapedOf, isIdle, featuresOf};
+ghost use Rattle.record.specs.Tests.{blocksOk, insideOk, restOk};
 
 const VIRTIO_F_VERSION_1: u64 = 32;
 

@@ -1,4 +1,4 @@
-use Rattle.record.specs.Shape.{restOk}
+use Rattle.record.specs.Tests.{restOk}
 use borrow.Author.Needs.{needs}
 use Rattle.record.proofs.rest_ok.Statement.{statement}
 use Rattle.record.proofs.rest_ok.Tie as tie

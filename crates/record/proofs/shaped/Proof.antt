@@ -5,7 +5,8 @@ use lib.Dec.{eqb}
 use borrow.Author.Tests.{eq-eqb, ne-eqb}
 use Rattle.units.proofs.Tests.{passed, refused}
 use Rattle.record.proofs.Laws.{tested, aligned, unshaped, rest-is, single}
-use Rattle.record.specs.Shape.{restOk, shapedOf}
+use Rattle.record.specs.Shape.{shapedOf}
+use Rattle.record.specs.Tests.{restOk}
 use borrow.Author.Needs.{needs}
 use Rattle.record.proofs.shaped.Statement.{statement}
 use Rattle.record.proofs.shaped.Tie as tie
