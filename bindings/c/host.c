@@ -1,12 +1,13 @@
 /* SPDX-License-Identifier: Apache-2.0 AND BSD-3-Clause */
 /*
- * A small real host: it creates the device's memory with memfd_create and mmap, gives it back with
- * madvise(MADV_REMOVE), and plays a guest that plugs, touches and unplugs it. The numbers that it prints are the
+ * A small real host: it creates the device's memory with memfd_create and mmap, gives it back by punching a hole into
+ * the memfd (fallocate), and plays a guest that plugs, touches and unplugs it. The numbers that it prints are the
  * kernel's: how much memory the memfd holds (st_blocks).
  */
 #define _GNU_SOURCE
 #include "jambcopper.h"
 
+#include <fcntl.h>
 #include <inttypes.h>
 #include <linux/virtio_mem.h>
 #include <linux/virtio_ring.h>
@@ -69,15 +70,16 @@ static bool create(struct host *h)
     return true;
 }
 
-/* Discard: the memory goes back to the kernel. */
+/* Discard: the memory goes back to the kernel. A hole in the memfd is one in every mapping of it. */
 static bool discard(struct host *h)
 {
     if (h->refuse) {
         h->refuse = false;
         return false;
     }
-    void *at = (void *)(uintptr_t)h->answer[JAMBCOPPER_ANSWER_WHERE];
-    return madvise(at, h->answer[JAMBCOPPER_ANSWER_SIZE], MADV_REMOVE) == 0;
+    uint64_t offset = h->answer[JAMBCOPPER_ANSWER_WHERE] - (uint64_t)(uintptr_t)h->memory;
+    return fallocate(h->memfd, FALLOC_FL_PUNCH_HOLE | FALLOC_FL_KEEP_SIZE, (off_t)offset,
+                     (off_t)h->answer[JAMBCOPPER_ANSWER_SIZE]) == 0;
 }
 
 /* Answers what the device asks, until it asks no more. */

@@ -1,0 +1,93 @@
+// The tests (b), (c) and (d), and the state of a range.
+use super::show::end;
+use super::show::number;
+use super::show::word;
+use change::Change;
+use change::HostRange;
+use change::Range;
+use change::change_of;
+use change::host_of;
+use change::range_of;
+use change::state_of;
+use units::GuestAddr;
+use units::HostAddr;
+use units::RegionOffset;
+
+fn write_range(range: Range) {
+    match range {
+        Range::Inside(offset) => number(b": inside ", offset.0),
+        Range::Misaligned => word(b": misaligned"),
+        Range::NoBlocks => word(b": no blocks"),
+        Range::Overflows => word(b": overflows"),
+        Range::BelowStart => word(b": below start"),
+        Range::PastUsable => word(b": past usable"),
+        Range::EndPastUsable => word(b": end past usable"),
+    }
+}
+
+fn write_host(host: HostRange) {
+    match host {
+        HostRange::At(at) => number(b": host ", at.0),
+        HostRange::CrossesBorder => word(b": crosses border"),
+        HostRange::Unmapped => word(b": unmapped"),
+        HostRange::SumPasses => word(b": sum passes"),
+    }
+}
+
+fn write_legal(first: u64, offset: RegionOffset, host: HostAddr) {
+    number(b": legal block ", first);
+    number(b" offset ", offset.0);
+    number(b" host ", host.0);
+}
+
+fn write_change(change: Change) {
+    match change {
+        Change::Legal(first, offset, host) => write_legal(first, offset, host),
+        Change::Outside(range) => write_range(range),
+        Change::WrongState => word(b": wrong state"),
+        Change::NoHost(host) => write_host(host),
+    }
+}
+
+// On a device at 4 GiB, of which 8 GiB are usable.
+fn change(plug: bool, several: bool, addr: u64, blocks: u64, bitmap: &[u8], table: &[u64]) {
+    write_change(change_of(
+        GuestAddr(4294967296),
+        8589934592,
+        several,
+        GuestAddr(addr),
+        (blocks % 65536) as u16,
+        plug,
+        bitmap,
+        table,
+    ));
+}
+
+fn state(region: u64, addr: u64, blocks: u64, bitmap: &[u8]) {
+    let state = state_of(
+        GuestAddr(4294967296),
+        region,
+        GuestAddr(addr),
+        (blocks % 65536) as u16,
+        bitmap,
+    );
+    number(b": state ", state as u64);
+}
+
+pub fn command(kind: u8, v: [u64; 8], name: &[u8], bitmap: &[u8], table: &[u64]) -> bool {
+    word(name);
+    match kind {
+        b'r' => write_range(range_of(
+            GuestAddr(v[0]),
+            v[1],
+            GuestAddr(v[2]),
+            (v[3] % 65536) as u16,
+        )),
+        b'h' => write_host(host_of(v[0] == 1, table, RegionOffset(v[1]), v[2])),
+        b'c' => change(v[0] == 1, v[1] == 1, v[2], v[3], bitmap, table),
+        b's' => state(v[0], v[1], v[2], bitmap),
+        _ => word(b": no command"),
+    }
+    end();
+    true
+}
