@@ -1,12 +1,15 @@
-// Raw descriptors, and what the chain makes of them.
+// Raw descriptors, and what the chain makes of them, by itself and through a reader that holds the memory.
 use super::lines::front;
 use super::lines::small;
 use super::show::end;
 use super::show::number;
 use super::show::wide;
 use super::show::word;
+use chain::Link;
 use chain::Parsed;
 use chain::Place;
+use chain_reader::parse_chain;
+use chain_reader::second_link;
 use units::GuestAddr;
 use wire::VirtioMemResp;
 use wire::write_u16;
@@ -88,13 +91,40 @@ fn deliver(name: &[u8], base: u64, status: u64) {
     show(&mem);
 }
 
+// The request or the reason, and the second descriptor, by a reader that holds the memory, which is at 4096 with its table.
+fn show_read(mem: &[u8], head: u16) {
+    number(b"head ", head as u64);
+    let parsed = parse_chain(mem, GuestAddr(4096), GuestAddr(4096), head);
+    let Parsed::Request(req, status) = parsed else {
+        number(b" reason ", parsed.reason());
+        return;
+    };
+    number(b" type ", req.req_type as u64);
+    number(b" addr ", req.addr.0);
+    number(b" blocks ", req.nb_blocks as u64);
+    number(b" status ", status.0);
+}
+
+fn read(mem: &[u8], head: u16) {
+    show_read(mem, head);
+    let Link::Is(second) = second_link(mem, GuestAddr(4096), GuestAddr(4096), head) else {
+        word(b", no second");
+        end();
+        return;
+    };
+    number(b", second at ", second.addr.0);
+    end();
+}
+
 pub fn command(kind: u8, v: [u64; 8], name: &[u8], mem: &mut [u8]) -> bool {
     match kind {
         b'L' => lay(mem, (v[0] % 65536) as u16, v[1], v[2], v[3], v[4]),
         b'R' => lay_request(mem, (v[0] % 65536) as u16),
+        b'W' => write_u64(mem, small(v[0]), v[1]),
         b'c' => parse(name, front(&mem[..], small(v[0])), v[1], v[2], v[3]),
         b'p' => place(name, front(&mem[..], small(v[0])), v[1], v[2], v[3]),
         b'd' => deliver(name, v[0], v[1]),
+        b'r' => read(front(&mem[..], small(v[0])), (v[1] % 65536) as u16),
         _ => return false,
     }
     true

@@ -25,9 +25,9 @@ use denote.Struct.Values.{Values}
 use Rattle.units.specs.declared.GuestAddr.{GuestAddr}
 use Rattle.units.proofs.GuestAddr as G
 use Rattle.units.proofs.GuestAddr.Laws as G′
-use Rattle.in_place.specs.declared.ChainReader.{ChainReader}
-use Rattle.in_place.proofs.ChainReader as T
-use Rattle.in_place.proofs.ChainReader.Laws as T′
+use Rattle.chain_reader.specs.declared.ChainReader.{ChainReader}
+use Rattle.chain_reader.proofs.ChainReader as T
+use Rattle.chain_reader.proofs.ChainReader.Laws as T′
 
 -- the machine values of a guest address, a slice and a reader
 abbrev pub gval : GuestAddr → Val

@@ -1,4 +1,4 @@
--- `in_place::ChainReader::advanced` meets its contract: a walk of its MIR, by hand. The reader is taken apart, `index_after` is called on its fields, in their order, and a reader is made anew of the same fields and the index that it returned.
+-- `chain_reader::ChainReader::advanced` meets its contract: a walk of its MIR, by hand. The reader is taken apart, `index_after` is called on its fields, in their order, and a reader is made anew of the same fields and the index that it returned.
 -- The reader is Copy: what it owns is had twice, one copy is kept whole for the exit, and the other, with the facts of the new index in the place of the old one's, is what the result owns.
 -- Assumes nothing.
 use mathlib.Core.List.{[], _∷_}
@@ -38,19 +38,19 @@ use denote.Triple.Walked.{says, Stays, stay-none, walkOf, goes-none, Walks, ends
 use denote.Exit.{yes}
 use denote.Triple.Clauses.{ensured, lasts}
 use Rattle.chain.specs.Chain.{linkAt}
-use Rattle.in_place.specs.Reader.{indexAfter}
-use Rattle.in_place.specs.declared.ChainReader.{ChainReader}
-use Rattle.in_place.proofs.Walk.{B, D, L, Own, rval, parts, fvals, twice, apart}
-use Rattle.in_place.proofs.ChainReader as T
-use Rattle.in_place.proofs.ChainReader.Laws as T′
-use Rattle.in_place.proofs.index_after as g
-use Rattle.in_place.proofs.index_after.Symbol as g-def
-use Rattle.in_place.proofs.index_after.Symbol.{name as #g}
-use Rattle.in_place.proofs.index_after.Met as g-thm
-use Rattle.in_place.proofs.ChainReader.advanced.Key.{name as #f}
-use Rattle.in_place.proofs.ChainReader.advanced as f
-use Rattle.in_place.proofs.ChainReader.advanced.Statement as stated
-use Rattle.in_place.proofs.ChainReader.advanced.Code as code
+use Rattle.chain_reader.specs.Reader.{indexAfter}
+use Rattle.chain_reader.specs.declared.ChainReader.{ChainReader}
+use Rattle.chain_reader.proofs.Walk.{B, D, L, Own, rval, parts, fvals, twice, apart}
+use Rattle.chain_reader.proofs.ChainReader as T
+use Rattle.chain_reader.proofs.ChainReader.Laws as T′
+use Rattle.chain_reader.proofs.index_after as g
+use Rattle.chain_reader.proofs.index_after.Symbol as g-def
+use Rattle.chain_reader.proofs.index_after.Symbol.{name as #g}
+use Rattle.chain_reader.proofs.index_after.Met as g-thm
+use Rattle.chain_reader.proofs.ChainReader.advanced.Key.{name as #f}
+use Rattle.chain_reader.proofs.ChainReader.advanced as f
+use Rattle.chain_reader.proofs.ChainReader.advanced.Statement as stated
+use Rattle.chain_reader.proofs.ChainReader.advanced.Code as code
 
 abbrev stayed : Stays (f.ended .signature .params) (f.ended .kept)
 stayed = (stay-none B yes, tt)
@@ -130,4 +130,4 @@ advanced-spec 𝓤 H 𝓜 𝓖 𝓡 =
     entered 𝓤 H (tripleOf 𝓤 H (𝓖 .A) f.signature (f.spec 𝓤 H (𝓖 .A) (𝓜 .mem) (𝓡 .run)))
     (tables 𝓤 H 𝓜 𝓡 code.env .C) (tables 𝓤 H 𝓜 𝓡 code.env .Λ) #f code.function (code.unfolded 𝓤 H 𝓜 𝓡)
     (meets 𝓤 H (𝓖 .A) (givenOf 𝓤 H 𝓜 𝓖) (𝓜 .mem) (𝓡 .run) (tablesOf 𝓤 H 𝓜 (tables 𝓤 H 𝓜 𝓡 code.env))
-    (cited 𝓤 H (Callee 𝓤 H (𝓖 .A) (𝓜 .mem) (𝓡 .run)) 𝓜 𝓡 code.env #g g-def.routine code.calls-in-place·index-after (g-thm.met 𝓤 H 𝓜 𝓖 𝓡)))
+    (cited 𝓤 H (Callee 𝓤 H (𝓖 .A) (𝓜 .mem) (𝓡 .run)) 𝓜 𝓡 code.env #g g-def.routine code.calls-chain-reader·index-after (g-thm.met 𝓤 H 𝓜 𝓖 𝓡)))

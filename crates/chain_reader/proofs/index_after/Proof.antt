@@ -1,8 +1,8 @@
--- `in_place::index_after` meets its contract: each return is the case of `indexAfter` that the tests led to.
+-- `chain_reader::index_after` meets its contract: each return is the case of `indexAfter` that the tests led to.
 use borrow.Author.Needs.{needs}
-use Rattle.in_place.specs.Reader.{indexAfter}
-use Rattle.in_place.proofs.index_after.Statement.{statement}
-use Rattle.in_place.proofs.index_after.Tie as tie
+use Rattle.chain_reader.specs.Reader.{indexAfter}
+use Rattle.chain_reader.proofs.index_after.Statement.{statement}
+use Rattle.chain_reader.proofs.index_after.Tie as tie
 
 link-at-requires : tie.Need-link-at-requires
 link-at-requires c κs = search needs

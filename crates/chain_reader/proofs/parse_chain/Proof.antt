@@ -1,4 +1,4 @@
--- `in_place::parse_chain` meets its contract: a walk of its MIR, by hand. The reader that `new` returns is held in a local and passed to `request`. All that the proof knows of either is that it meets its contract.
+-- `chain_reader::parse_chain` meets its contract: a walk of its MIR, by hand. The reader that `new` returns is held in a local and passed to `request`. All that the proof knows of either is that it meets its contract.
 -- In a local of a body MIR erases the lifetime of the reader's type, so the value is shown to have the type at `erased`.
 -- Assumes nothing.
 use mathlib.Core.Path.{_≡_, refl, _∙_}
@@ -39,25 +39,25 @@ use Rattle.chain.specs.Chain.{parsed}
 use Rattle.units.specs.declared.GuestAddr.{GuestAddr}
 use Rattle.units.proofs.GuestAddr as G
 use Rattle.units.proofs.GuestAddr.Laws as G′
-use Rattle.in_place.specs.declared.ChainReader.{ChainReader}
-use Rattle.in_place.proofs.Walk.{gval, gvals, sval, B, fields, fvals, lent, passes}
+use Rattle.chain_reader.specs.declared.ChainReader.{ChainReader}
+use Rattle.chain_reader.proofs.Walk.{gval, gvals, sval, B, fields, fvals, lent, passes}
 use Rattle.chain.specs.declared.Parsed.{Parsed}
-use Rattle.in_place.proofs.ChainReader as T
-use Rattle.in_place.proofs.ChainReader.Laws as T′
+use Rattle.chain_reader.proofs.ChainReader as T
+use Rattle.chain_reader.proofs.ChainReader.Laws as T′
 use Rattle.chain.proofs.Parsed as S
 use Rattle.chain.proofs.Parsed.Laws as S′
-use Rattle.in_place.proofs.ChainReader.new as new
-use Rattle.in_place.proofs.ChainReader.new.Symbol as new-def
-use Rattle.in_place.proofs.ChainReader.new.Symbol.{name as #new}
-use Rattle.in_place.proofs.ChainReader.new.Met as new-thm
-use Rattle.in_place.proofs.ChainReader.request as next
-use Rattle.in_place.proofs.ChainReader.request.Symbol as next-def
-use Rattle.in_place.proofs.ChainReader.request.Symbol.{name as #next}
-use Rattle.in_place.proofs.ChainReader.request.Met as next-thm
-use Rattle.in_place.proofs.parse_chain.Key.{name as #f}
-use Rattle.in_place.proofs.parse_chain as f
-use Rattle.in_place.proofs.parse_chain.Statement as stated
-use Rattle.in_place.proofs.parse_chain.Code as code
+use Rattle.chain_reader.proofs.ChainReader.new as new
+use Rattle.chain_reader.proofs.ChainReader.new.Symbol as new-def
+use Rattle.chain_reader.proofs.ChainReader.new.Symbol.{name as #new}
+use Rattle.chain_reader.proofs.ChainReader.new.Met as new-thm
+use Rattle.chain_reader.proofs.ChainReader.request as next
+use Rattle.chain_reader.proofs.ChainReader.request.Symbol as next-def
+use Rattle.chain_reader.proofs.ChainReader.request.Symbol.{name as #next}
+use Rattle.chain_reader.proofs.ChainReader.request.Met as next-thm
+use Rattle.chain_reader.proofs.parse_chain.Key.{name as #f}
+use Rattle.chain_reader.proofs.parse_chain as f
+use Rattle.chain_reader.proofs.parse_chain.Statement as stated
+use Rattle.chain_reader.proofs.parse_chain.Code as code
 
 abbrev stayed : Stays (f.ended .signature .params) (f.ended .kept)
 stayed = (stay-none-slice (0 ∷ []) tt (plain (λ _. u8)) yes, (stay-none (λ _. G.the-row) yes, (stay-none (λ _. G.the-row) yes, (stay-none (λ _. u16) yes, tt))))
@@ -155,5 +155,5 @@ parse-chain-spec 𝓤 H 𝓜 𝓖 𝓡 =
     entered 𝓤 H (tripleOf 𝓤 H (𝓖 .A) f.signature (f.spec 𝓤 H (𝓖 .A) (𝓜 .mem) (𝓡 .run)))
     (tables 𝓤 H 𝓜 𝓡 code.env .C) (tables 𝓤 H 𝓜 𝓡 code.env .Λ) #f code.function (code.unfolded 𝓤 H 𝓜 𝓡)
     (meets 𝓤 H (𝓖 .A) (givenOf 𝓤 H 𝓜 𝓖) (𝓜 .mem) (𝓡 .run) (tablesOf 𝓤 H 𝓜 (tables 𝓤 H 𝓜 𝓡 code.env))
-    (cited 𝓤 H (New 𝓤 H (𝓖 .A) (𝓜 .mem) (𝓡 .run)) 𝓜 𝓡 code.env #new new-def.routine code.calls-in-place·ChainReader·new (new-thm.met 𝓤 H 𝓜 𝓖 𝓡))
-    (cited 𝓤 H (Next 𝓤 H (𝓖 .A) (𝓜 .mem) (𝓡 .run)) 𝓜 𝓡 code.env #next next-def.routine code.calls-in-place·ChainReader·request (next-thm.met 𝓤 H 𝓜 𝓖 𝓡)))
+    (cited 𝓤 H (New 𝓤 H (𝓖 .A) (𝓜 .mem) (𝓡 .run)) 𝓜 𝓡 code.env #new new-def.routine code.calls-chain-reader·ChainReader·new (new-thm.met 𝓤 H 𝓜 𝓖 𝓡))
+    (cited 𝓤 H (Next 𝓤 H (𝓖 .A) (𝓜 .mem) (𝓡 .run)) 𝓜 𝓡 code.env #next next-def.routine code.calls-chain-reader·ChainReader·request (next-thm.met 𝓤 H 𝓜 𝓖 𝓡)))

@@ -1,4 +1,4 @@
--- `in_place::ChainReader::request` meets its contract: a walk of its MIR, by hand. The reader is taken apart, and `chain::parse` is called on its fields, in their order: so what the reader owns, opened, is what the callee asks.
+-- `chain_reader::ChainReader::current` meets its contract: a walk of its MIR, by hand. The reader is taken apart, and `chain::link_at` is called on its fields, in their order: so what the reader owns, opened, is what the callee asks.
 -- The reader is Copy: what it owns is had twice, one copy is kept whole for the exit.
 -- Assumes nothing.
 use mathlib.Core.Path.{_≡_}
@@ -34,22 +34,22 @@ use denote.Triple.Table.{entered, cited}
 use denote.Triple.Walked.{says, Stays, stay-none, walkOf, goes-none, Walks, ends-at, walked, walk-meets}
 use denote.Exit.{yes}
 use denote.Triple.Clauses.{ensured, lasts}
-use Rattle.chain.specs.Chain.{parsed}
-use Rattle.in_place.specs.declared.ChainReader.{ChainReader}
-use Rattle.chain.specs.declared.Parsed.{Parsed}
-use Rattle.in_place.proofs.Walk.{B, Own, rval, parts, fvals, apart}
-use Rattle.in_place.proofs.ChainReader as T
-use Rattle.in_place.proofs.ChainReader.Laws as T′
-use Rattle.chain.proofs.Parsed as S
-use Rattle.chain.proofs.Parsed.Laws as S′
-use Rattle.chain.proofs.parse as g
-use Rattle.chain.proofs.parse.Symbol as g-def
-use Rattle.chain.proofs.parse.Symbol.{name as #g}
-use Rattle.chain.proofs.parse.Met as g-thm
-use Rattle.in_place.proofs.ChainReader.request.Key.{name as #f}
-use Rattle.in_place.proofs.ChainReader.request as f
-use Rattle.in_place.proofs.ChainReader.request.Statement as stated
-use Rattle.in_place.proofs.ChainReader.request.Code as code
+use Rattle.chain.specs.Chain.{linkAt}
+use Rattle.chain_reader.specs.declared.ChainReader.{ChainReader}
+use Rattle.chain.specs.declared.Link.{Link}
+use Rattle.chain_reader.proofs.Walk.{B, Own, rval, parts, fvals, apart}
+use Rattle.chain_reader.proofs.ChainReader as T
+use Rattle.chain_reader.proofs.ChainReader.Laws as T′
+use Rattle.chain.proofs.Link as S
+use Rattle.chain.proofs.Link.Laws as S′
+use Rattle.chain.proofs.link_at as g
+use Rattle.chain.proofs.link_at.Symbol as g-def
+use Rattle.chain.proofs.link_at.Symbol.{name as #g}
+use Rattle.chain.proofs.link_at.Met as g-thm
+use Rattle.chain_reader.proofs.ChainReader.current.Key.{name as #f}
+use Rattle.chain_reader.proofs.ChainReader.current as f
+use Rattle.chain_reader.proofs.ChainReader.current.Statement as stated
+use Rattle.chain_reader.proofs.ChainReader.current.Code as code
 
 abbrev stayed : Stays (f.ended .signature .params) (f.ended .kept)
 stayed = (stay-none B yes, tt)
@@ -60,8 +60,8 @@ module _ {M : Type 1} (𝓤 : URA M) (H : Heap 𝓤) (A : Atoms 𝓤) (mem : Mem
   Callee = tripleOf 𝓤 H A g.signature (g.spec 𝓤 H A mem run)
 
 module _ {M : Type 1} (𝓤 : URA M) (H : Heap 𝓤) (A : Atoms 𝓤) (W : Given 𝓤 H A) (mem : Memory → SProp 𝓤) (run : Routine → Fun 𝓤) (κ : Lft) (q : Share) (d : ChainReader) where
-  abbrev found : Parsed
-  found = parsed (now (d .mem)) (d .base .0) (d .table .0) (d .index)
+  abbrev found : Link
+  found = linkAt (now (d .mem)) (d .base .0) (d .table .0) (d .index)
 
   abbrev Post : Val → SProp 𝓤
   Post = walkOf 𝓤 H A f.ended stayed (f.clauses 𝓤 H A mem run) .post (((κ, tt), (q, tt), tt, (d, tt), (rval d ∷ [], tt)), tt)
@@ -70,10 +70,10 @@ module _ {M : Type 1} (𝓤 : URA M) (H : Heap 𝓤) (A : Atoms 𝓤) (W : Given
   to = (((κ, tt), (q, tt), tt, parts κ d, fvals (d .mem) (d .base) (d .table) (d .index)), tt)
 
   -- of the callee's `ensured`, the clause alone: it has no `&mut`, so what is said of last values is dropped
-  said : (r : Parsed) → ent 𝓤 (ensured 𝓤 H A g.ended (g.clauses 𝓤 H A mem run) (κ, tt) (parts κ d) tt r) (fact 𝓤 (r ≡ found))
+  said : (r : Link) → ent 𝓤 (ensured 𝓤 H A g.ended (g.clauses 𝓤 H A mem run) (κ, tt) (parts κ d) tt r) (fact 𝓤 (r ≡ found))
   said r = exE 𝓤 _ (λ ws. snd∗ 𝓤 (sem 𝓤 H A (lasts g.ended (κ, tt) (parts κ d) ws)) (fact 𝓤 (r ≡ found)))
 
-  exits : (r : Parsed) (u : Val) → r ≡ found → ent 𝓤 (⋆ 𝓤 H A (‵ (S.the-row .own r (u ∷ [])) ∷ (‵ (flft κ q) ⊛ ‵ ftrue) ∷ ‵ (Own κ d) ∷ [])) (Post u)
+  exits : (r : Link) (u : Val) → r ≡ found → ent 𝓤 (⋆ 𝓤 H A (‵ (S.the-row .own r (u ∷ [])) ∷ (‵ (flft κ q) ⊛ ‵ ftrue) ∷ ‵ (Own κ d) ∷ [])) (Post u)
   exits r u e =
       qed W (‵ (S.the-row .own r (u ∷ [])) ∷ (‵ (flft κ q) ⊛ ‵ ftrue) ∷ ‵ (Own κ d) ∷ []) ∵
       suffices ! _ (ends-at 𝓤 H A f.ended stayed (f.clauses 𝓤 H A mem run) W (((κ, tt), (q, tt), tt, (d, tt), (rval d ∷ [], tt)), tt) u r (tt, tt) (tt, tt)) $ says ! e $
@@ -91,7 +91,7 @@ module _ {M : Type 1} (𝓤 : URA M) (H : Heap 𝓤) (A : Atoms 𝓤) (W : Given
         move ! (12 ∷ []) $ use1 W (raw (Callee 𝓤 H A mem run .pre to) ⊛ ‵ (Own κ d)) (apart 𝓤 H A W κ q d) $ split ! $
         -- [what the callee asks; what the reader owns; _5; …; _4; …; _3; …; _2; …; _1; …; room for _0; …]
         calls-at ! fm (Callee 𝓤 H A mem run) known to (and-then ! (load ! (from ! (stop !)) (look ! 8 refl)) (and-then ! (load ! (from ! (stop !)) (look ! 6 refl)) (and-then ! (load ! (from ! (stop !)) (look ! 4 refl)) (and-then ! (load ! (from ! (stop !)) (look ! 2 refl)) (no-more !))))) (λ u.
-        use1 W (later (some (λ (r : Parsed). ((‵ (flft κ q) ⊛ ‵ ftrue) ⊛ ‵ (S.the-row .own r (u ∷ []))) ⊛ raw (ensured 𝓤 H A g.ended (g.clauses 𝓤 H A mem run) (κ, tt) (parts κ d) tt r)))) (id⊢ 𝓤 _) $ await ! tt $ pick ! (λ r.
+        use1 W (later (some (λ (r : Link). ((‵ (flft κ q) ⊛ ‵ ftrue) ⊛ ‵ (S.the-row .own r (u ∷ []))) ⊛ raw (ensured 𝓤 H A g.ended (g.clauses 𝓤 H A mem run) (κ, tt) (parts κ d) tt r)))) (id⊢ 𝓤 _) $ await ! tt $ pick ! (λ r.
         split ! $ move ! (1 ∷ []) $ use1 W (raw (fact 𝓤 (r ≡ found))) (said r) $ heard ! (r ≡ found) (λ e. split ! $ move ! (1 ∷ []) $
         -- [the result; the token; what the reader owns; _5; …; _4; …; _3; …; _2; …; _1; …; room for _0; …]
         peeks ! S.the-row (Is S.the-row) (shows 𝓤 H A S.the-row) r (u ∷ []) (λ is.
@@ -111,10 +111,10 @@ meets : {M : Type 1} (𝓤 : URA M) (H : Heap 𝓤) (A : Atoms 𝓤) (W : Given 
 meets 𝓤 H A W mem run 𝓣 known = walk-meets 𝓤 H A f.ended stayed W (goes-none 𝓤 H A W 1 B yes (λ κs x f. refl), tt) (f.clauses 𝓤 H A mem run) (WpFn 𝓤 H (𝓣 .C) (𝓣 .Λ) code.function) (WpFn-mono 𝓤 H (W .laws) 𝓣 code.function)
     (walks 𝓤 H A W mem run (𝓣 .C) (𝓣 .Λ) (fmOf 𝓤 H (W .laws) 𝓣) known)
 
-pub request-spec : {M : Type 1} → stated.statement M
+pub current-spec : {M : Type 1} → stated.statement M
 unfolding code.routine tablesOf
-request-spec 𝓤 H 𝓜 𝓖 𝓡 =
+current-spec 𝓤 H 𝓜 𝓖 𝓡 =
     entered 𝓤 H (tripleOf 𝓤 H (𝓖 .A) f.signature (f.spec 𝓤 H (𝓖 .A) (𝓜 .mem) (𝓡 .run)))
     (tables 𝓤 H 𝓜 𝓡 code.env .C) (tables 𝓤 H 𝓜 𝓡 code.env .Λ) #f code.function (code.unfolded 𝓤 H 𝓜 𝓡)
     (meets 𝓤 H (𝓖 .A) (givenOf 𝓤 H 𝓜 𝓖) (𝓜 .mem) (𝓡 .run) (tablesOf 𝓤 H 𝓜 (tables 𝓤 H 𝓜 𝓡 code.env))
-    (cited 𝓤 H (Callee 𝓤 H (𝓖 .A) (𝓜 .mem) (𝓡 .run)) 𝓜 𝓡 code.env #g g-def.routine code.calls-chain·parse (g-thm.met 𝓤 H 𝓜 𝓖 𝓡)))
+    (cited 𝓤 H (Callee 𝓤 H (𝓖 .A) (𝓜 .mem) (𝓡 .run)) 𝓜 𝓡 code.env #g g-def.routine code.calls-chain·link-at (g-thm.met 𝓤 H 𝓜 𝓖 𝓡)))

@@ -1,4 +1,4 @@
--- `in_place::ChainReader::new` meets its contract: a walk of its MIR, by hand. A reader is made of the slice passed, the two addresses and the index, in the result's local.
+-- `chain_reader::ChainReader::new` meets its contract: a walk of its MIR, by hand. A reader is made of the slice passed, the two addresses and the index, in the result's local.
 -- A `&[u8]` is Copy, so what it owns is had twice: once for mem at exit, and once inside the result, beside the facts of the other fields.
 -- Assumes nothing.
 use mathlib.Core.Path.{refl}
@@ -34,15 +34,15 @@ use denote.Triple.Spec.{Meets, tripleOf}
 use denote.Triple.Table.{entered}
 use denote.Triple.Walked.{says, Stays, stay-none, stay-none-slice, walkOf, goes-none, goes-none-slice, Walks, ends-at, walked, walk-meets}
 use denote.Exit.{yes}
-use Rattle.in_place.specs.declared.ChainReader.{ChainReader}
-use Rattle.in_place.proofs.Walk.{gval, gvals, sval, rval, fields, fvals, D, L}
+use Rattle.chain_reader.specs.declared.ChainReader.{ChainReader}
+use Rattle.chain_reader.proofs.Walk.{gval, gvals, sval, rval, fields, fvals, D, L}
 use Rattle.units.specs.declared.GuestAddr.{GuestAddr}
 use Rattle.units.proofs.GuestAddr as G
 use Rattle.units.proofs.GuestAddr.Laws as G′
-use Rattle.in_place.proofs.ChainReader.new.Key.{name as #f}
-use Rattle.in_place.proofs.ChainReader.new as f
-use Rattle.in_place.proofs.ChainReader.new.Statement as stated
-use Rattle.in_place.proofs.ChainReader.new.Code as code
+use Rattle.chain_reader.proofs.ChainReader.new.Key.{name as #f}
+use Rattle.chain_reader.proofs.ChainReader.new as f
+use Rattle.chain_reader.proofs.ChainReader.new.Statement as stated
+use Rattle.chain_reader.proofs.ChainReader.new.Code as code
 
 abbrev stayed : Stays (f.ended .signature .params) (f.ended .kept)
 stayed = (stay-none-slice (0 ∷ []) tt (plain (λ _. u8)) yes, (stay-none (λ _. G.the-row) yes, (stay-none (λ _. G.the-row) yes, (stay-none (λ _. u16) yes, tt))))

@@ -1,4 +1,4 @@
--- `in_place::second_link` meets its contract: a walk of its MIR, by hand. The reader that one call returns is held in a local and passed to the next. All that the proof knows of `new`, of `advanced` and of `current` is that each meets its contract.
+-- `chain_reader::second_link` meets its contract: a walk of its MIR, by hand. The reader that one call returns is held in a local and passed to the next. All that the proof knows of `new`, of `advanced` and of `current` is that each meets its contract.
 -- In a local of a body MIR erases the lifetime of the reader's type, so the value is shown to have the type at `erased`.
 -- Assumes nothing.
 use mathlib.Core.Path.{_≡_, refl, _∙_}
@@ -36,34 +36,34 @@ use denote.Triple.Walked.{says, Stays, stay-none, stay-none-slice, walkOf, goes-
 use denote.Exit.{yes}
 use denote.Triple.Clauses.{ensured, lasts}
 use Rattle.chain.specs.Chain.{linkAt}
-use Rattle.in_place.specs.Reader.{indexAfter, secondLink}
-use Rattle.in_place.proofs.Laws.{link-behind}
+use Rattle.chain_reader.specs.Reader.{indexAfter, secondLink}
+use Rattle.chain_reader.proofs.Laws.{link-behind}
 use Rattle.units.specs.declared.GuestAddr.{GuestAddr}
 use Rattle.units.proofs.GuestAddr as G
 use Rattle.units.proofs.GuestAddr.Laws as G′
-use Rattle.in_place.specs.declared.ChainReader.{ChainReader}
-use Rattle.in_place.proofs.Walk.{gval, gvals, sval, B, fields, fvals, lent, passes}
+use Rattle.chain_reader.specs.declared.ChainReader.{ChainReader}
+use Rattle.chain_reader.proofs.Walk.{gval, gvals, sval, B, fields, fvals, lent, passes}
 use Rattle.chain.specs.declared.Link.{Link}
-use Rattle.in_place.proofs.ChainReader as T
-use Rattle.in_place.proofs.ChainReader.Laws as T′
+use Rattle.chain_reader.proofs.ChainReader as T
+use Rattle.chain_reader.proofs.ChainReader.Laws as T′
 use Rattle.chain.proofs.Link as S
 use Rattle.chain.proofs.Link.Laws as S′
-use Rattle.in_place.proofs.ChainReader.new as new
-use Rattle.in_place.proofs.ChainReader.new.Symbol as new-def
-use Rattle.in_place.proofs.ChainReader.new.Symbol.{name as #new}
-use Rattle.in_place.proofs.ChainReader.new.Met as new-thm
-use Rattle.in_place.proofs.ChainReader.advanced as on
-use Rattle.in_place.proofs.ChainReader.advanced.Symbol as on-def
-use Rattle.in_place.proofs.ChainReader.advanced.Symbol.{name as #on}
-use Rattle.in_place.proofs.ChainReader.advanced.Met as on-thm
-use Rattle.in_place.proofs.ChainReader.current as next
-use Rattle.in_place.proofs.ChainReader.current.Symbol as next-def
-use Rattle.in_place.proofs.ChainReader.current.Symbol.{name as #next}
-use Rattle.in_place.proofs.ChainReader.current.Met as next-thm
-use Rattle.in_place.proofs.second_link.Key.{name as #f}
-use Rattle.in_place.proofs.second_link as f
-use Rattle.in_place.proofs.second_link.Statement as stated
-use Rattle.in_place.proofs.second_link.Code as code
+use Rattle.chain_reader.proofs.ChainReader.new as new
+use Rattle.chain_reader.proofs.ChainReader.new.Symbol as new-def
+use Rattle.chain_reader.proofs.ChainReader.new.Symbol.{name as #new}
+use Rattle.chain_reader.proofs.ChainReader.new.Met as new-thm
+use Rattle.chain_reader.proofs.ChainReader.advanced as on
+use Rattle.chain_reader.proofs.ChainReader.advanced.Symbol as on-def
+use Rattle.chain_reader.proofs.ChainReader.advanced.Symbol.{name as #on}
+use Rattle.chain_reader.proofs.ChainReader.advanced.Met as on-thm
+use Rattle.chain_reader.proofs.ChainReader.current as next
+use Rattle.chain_reader.proofs.ChainReader.current.Symbol as next-def
+use Rattle.chain_reader.proofs.ChainReader.current.Symbol.{name as #next}
+use Rattle.chain_reader.proofs.ChainReader.current.Met as next-thm
+use Rattle.chain_reader.proofs.second_link.Key.{name as #f}
+use Rattle.chain_reader.proofs.second_link as f
+use Rattle.chain_reader.proofs.second_link.Statement as stated
+use Rattle.chain_reader.proofs.second_link.Code as code
 
 abbrev stayed : Stays (f.ended .signature .params) (f.ended .kept)
 stayed = (stay-none-slice (0 ∷ []) tt (plain (λ _. u8)) yes, (stay-none (λ _. G.the-row) yes, (stay-none (λ _. G.the-row) yes, (stay-none (λ _. u16) yes, tt))))
@@ -189,6 +189,6 @@ second-link-spec 𝓤 H 𝓜 𝓖 𝓡 =
     entered 𝓤 H (tripleOf 𝓤 H (𝓖 .A) f.signature (f.spec 𝓤 H (𝓖 .A) (𝓜 .mem) (𝓡 .run)))
     (tables 𝓤 H 𝓜 𝓡 code.env .C) (tables 𝓤 H 𝓜 𝓡 code.env .Λ) #f code.function (code.unfolded 𝓤 H 𝓜 𝓡)
     (meets 𝓤 H (𝓖 .A) (givenOf 𝓤 H 𝓜 𝓖) (𝓜 .mem) (𝓡 .run) (tablesOf 𝓤 H 𝓜 (tables 𝓤 H 𝓜 𝓡 code.env))
-    (cited 𝓤 H (New 𝓤 H (𝓖 .A) (𝓜 .mem) (𝓡 .run)) 𝓜 𝓡 code.env #new new-def.routine code.calls-in-place·ChainReader·new (new-thm.met 𝓤 H 𝓜 𝓖 𝓡))
-    (cited 𝓤 H (On 𝓤 H (𝓖 .A) (𝓜 .mem) (𝓡 .run)) 𝓜 𝓡 code.env #on on-def.routine code.calls-in-place·ChainReader·advanced (on-thm.met 𝓤 H 𝓜 𝓖 𝓡))
-    (cited 𝓤 H (Next 𝓤 H (𝓖 .A) (𝓜 .mem) (𝓡 .run)) 𝓜 𝓡 code.env #next next-def.routine code.calls-in-place·ChainReader·current (next-thm.met 𝓤 H 𝓜 𝓖 𝓡)))
+    (cited 𝓤 H (New 𝓤 H (𝓖 .A) (𝓜 .mem) (𝓡 .run)) 𝓜 𝓡 code.env #new new-def.routine code.calls-chain-reader·ChainReader·new (new-thm.met 𝓤 H 𝓜 𝓖 𝓡))
+    (cited 𝓤 H (On 𝓤 H (𝓖 .A) (𝓜 .mem) (𝓡 .run)) 𝓜 𝓡 code.env #on on-def.routine code.calls-chain-reader·ChainReader·advanced (on-thm.met 𝓤 H 𝓜 𝓖 𝓡))
+    (cited 𝓤 H (Next 𝓤 H (𝓖 .A) (𝓜 .mem) (𝓡 .run)) 𝓜 𝓡 code.env #next next-def.routine code.calls-chain-reader·ChainReader·current (next-thm.met 𝓤 H 𝓜 𝓖 𝓡)))

@@ -1,0 +1,16 @@
+-- A law on the reader, for callers: where a reader goes on is where the device's parse goes on.
+use Prim.Native.Nat.{ℕ}
+use mathlib.Core.Path.{_≡_, refl}
+use mathlib.Core.List.{List}
+use Rattle.units.proofs.Tests.{by-test}
+use Rattle.chain.specs.declared.Link.{Link}
+use Rattle.chain.specs.declared.Link.the-variants.{Is, Missing}
+use Rattle.chain.specs.Standard.{hasNext}
+use Rattle.chain.specs.Chain.{linkAt, linkAfter}
+use Rattle.chain_reader.specs.Reader.{indexAfter, linkBehind}
+
+-- the descriptor at the index after a link is the descriptor behind it, and there is none at 128
+pub link-behind : (mem : List ℕ) (base table : ℕ) (link : Link) → linkAt mem base table (indexAfter link) ≡ linkBehind mem base table link
+unfolding indexAfter linkBehind linkAfter linkAt
+link-behind mem base table Missing = refl
+link-behind mem base table (Is d) = by-test (hasNext d) (λ t. simp t) (λ t. simp t)
