@@ -16,8 +16,10 @@ use oracle::stand_ins::virtio_queue::{QueueOwnedT, QueueT};
 use oracle::trace::First;
 
 const HELP: &str = "\
-bench FILE SVG      measures, and writes the table into FILE and the plot as SVG
-bench SIDE ROW      one row of one side, for callgrind: SIDE is mem.rs or proved";
+bench FILE SVG clock|no-clock COUNT..
+                    measures, and writes the table into FILE and the plot as SVG: nanoseconds by the clock, and the
+                    instructions of a row, which COUNT.. SIDE ROW prints (bin/count and this program)
+bench SIDE ROW      one row of one side, marked for bin/count: SIDE is mem.rs or proved";
 
 /// 1 TiB in a single region at 4 GiB, all of it requested.
 const FIRST: &str = "capacity_mib=1048576 requested_mib=1048576 multi=0 node=none boot=1073741824 addr=4294967296 slot=1";
@@ -84,16 +86,16 @@ const ROWS: [Row; 13] = [
     row("queue", What::Queue, 0, 201),
 ];
 
-/// Measures a stretch: callgrind collects in it alone, or its nanoseconds are kept.
+/// Measures a stretch: it is marked, so that instructions are counted in it alone, or its nanoseconds are kept.
 #[derive(Default)]
 struct Meter {
-    callgrind: bool,
+    marks: bool,
     nanoseconds: Vec<u64>,
 }
 
 impl Meter {
     fn measure<T>(&mut self, call: impl FnOnce() -> T) -> T {
-        if self.callgrind {
+        if self.marks {
             toggle_collect();
             let out = black_box(call());
             toggle_collect();
@@ -239,11 +241,17 @@ impl Side {
     }
 }
 
-/// A row's figures: instructions and nanoseconds of a call.
+/// A row's figures: instructions and nanoseconds of a call. An emulator's nanoseconds say nothing, and are none.
 #[derive(Clone, Copy)]
 struct Figures {
     instructions: u64,
-    nanoseconds: u64,
+    nanoseconds: Option<u64>,
+}
+
+/// How the figures are had: the command that counts, and whether the clock is to be believed.
+struct Measure<'a> {
+    count: &'a [&'a str],
+    clock: bool,
 }
 
 fn main() {
@@ -252,12 +260,15 @@ fn main() {
     match args[..] {
         [side @ ("mem.rs" | "proved"), name] => {
             let mut meter = Meter {
-                callgrind: true,
+                marks: true,
                 ..Meter::default()
             };
             Side::new(side == "proved").run(find(name), &mut meter);
         }
-        [file, svg] => write(file, svg),
+        [file, svg, clock @ ("clock" | "no-clock"), ref count @ ..] if !count.is_empty() => {
+            let clock = clock == "clock";
+            write(file, svg, &Measure { count, clock })
+        }
         _ => {
             eprintln!("{HELP}");
             exit(2)
@@ -270,77 +281,94 @@ fn find(name: &str) -> &'static Row {
     found.unwrap_or_else(|| panic!("no row {name}"))
 }
 
-/// Runs a row twice: under callgrind, and by the clock.
-fn figures(row: &Row, proved: bool) -> Figures {
+impl Measure<'_> {
+    /// Runs a row twice: to count, and by the clock.
+    fn figures(&self, row: &Row, proved: bool) -> Figures {
+        Figures {
+            instructions: self.instructions(row, proved) / u64::from(row.repeat),
+            nanoseconds: self.clock.then(|| nanoseconds(row, proved)),
+        }
+    }
+
+    /// All the instructions of a row.
+    fn instructions(&self, row: &Row, proved: bool) -> u64 {
+        let side = if proved { "proved" } else { "mem.rs" };
+        let output = Command::new(self.count[0])
+            .args(&self.count[1..])
+            .args([side, row.name])
+            .output()
+            .unwrap_or_else(|e| panic!("{}: {e}", self.count[0]));
+        let number = String::from_utf8_lossy(&output.stdout).trim().parse();
+        number.unwrap_or_else(|_| {
+            let said = String::from_utf8_lossy(&output.stderr);
+            panic!("{} counted nothing:\n{said}", self.count[0])
+        })
+    }
+}
+
+fn nanoseconds(row: &Row, proved: bool) -> u64 {
     let (mut meter, mut clock) = (Meter::default(), Meter::default());
     Side::new(proved).run(row, &mut meter);
     for _ in 0..200 {
         clock.measure(|| ());
     }
-    Figures {
-        instructions: collected(row, proved) / u64::from(row.repeat),
-        nanoseconds: meter.least() - clock.least(),
-    }
+    meter.least() - clock.least()
 }
 
-/// The instructions that callgrind collects.
-fn collected(row: &Row, proved: bool) -> u64 {
-    let program = env::current_exe().expect("this program");
-    let output = Command::new("valgrind")
-        .args([
-            "--tool=callgrind",
-            "--collect-atstart=no",
-            "--callgrind-out-file=/dev/null",
-        ])
-        .arg(program)
-        .args([if proved { "proved" } else { "mem.rs" }, row.name])
-        .output()
-        .expect("valgrind is there");
-    let said = String::from_utf8_lossy(&output.stderr);
-    let line = said
-        .lines()
-        .find_map(|line| line.split_once("Collected : "));
-    let number = line.and_then(|(_, number)| number.trim().parse().ok());
-    number.unwrap_or_else(|| panic!("callgrind says no number:\n{said}"))
-}
+const HEAD: [&str; 2] = [
+    "| call | mem.rs, instructions | proved, instructions | ratio | ratio with the queue |",
+    "|---|---:|---:|---:|---:|",
+];
+const HEAD_OF_TIMES: [&str; 2] = [" mem.rs, ns | proved, ns | ratio |", "---:|---:|---:|"];
 
-const HEAD: &str = "\
-| call | mem.rs, instructions | proved, instructions | ratio | ratio with the queue | mem.rs, ns | proved, ns | ratio |
-|---|---:|---:|---:|---:|---:|---:|---:|
-";
+const NO_TIMES: &str =
+    " No times: this was measured under an emulator, whose times say nothing.";
 
 /// The table and the plot. What the queue costs is taken off the requests of mem.rs.
-fn write(file: &str, svg: &str) {
-    let queue = figures(find("queue"), false);
-    let mut table = HEAD.to_string();
+fn write(file: &str, svg: &str, measure: &Measure) {
+    let queue = measure.figures(find("queue"), false);
+    let mut table = String::new();
+    for (head, of_times) in HEAD.iter().zip(HEAD_OF_TIMES) {
+        table += head;
+        table += if measure.clock { of_times } else { "" };
+        table += "\n";
+    }
+    let ratio = |proved: u64, rust: u64| proved as f64 / rust as f64;
     let mut bars = Vec::new();
     for row in &ROWS[..ROWS.len() - 1] {
-        let (mut rust, proved) = (figures(row, false), figures(row, true));
-        let mut around = 0;
-        if let What::Request(..) = row.what {
-            around = queue.instructions;
-            rust.instructions -= queue.instructions;
-            rust.nanoseconds = rust.nanoseconds.saturating_sub(queue.nanoseconds).max(1);
-        }
-        let ratio = |proved: u64, rust: u64| proved as f64 / rust as f64;
-        let instructions = ratio(proved.instructions, rust.instructions);
+        let (rust, proved) = (measure.figures(row, false), measure.figures(row, true));
+        let is_request = matches!(row.what, What::Request(..));
+        let around = if is_request { queue.instructions } else { 0 };
+        let of_rust = rust.instructions - around;
+        let instructions = ratio(proved.instructions, of_rust);
         table += &format!(
-            "| {} | {} | {} | {instructions:.2} | {:.2} | {} | {} | {:.2} |\n",
+            "| {} | {} | {} | {instructions:.2} | {:.2} |",
             row.name,
-            grouped(rust.instructions),
+            grouped(of_rust),
             grouped(proved.instructions),
-            ratio(proved.instructions + around, rust.instructions + around),
-            grouped(rust.nanoseconds),
-            grouped(proved.nanoseconds),
-            ratio(proved.nanoseconds, rust.nanoseconds),
+            ratio(proved.instructions + around, rust.instructions),
         );
+        if let (Some(rust), Some(proved), Some(queue)) =
+            (rust.nanoseconds, proved.nanoseconds, queue.nanoseconds)
+        {
+            let around = if is_request { queue } else { 0 };
+            let rust = rust.saturating_sub(around).max(1);
+            table += &format!(
+                " {} | {} | {:.2} |",
+                grouped(rust),
+                grouped(proved),
+                ratio(proved, rust)
+            );
+        }
+        table += "\n";
         println!("{}: {instructions:.2}", row.name);
         bars.push((row.name, instructions));
     }
     table += &format!(
-        "\nThe queue's share, {} instructions and {} ns, is taken off the requests of mem.rs.\n\n{}",
+        "\nThe queue's share, {} instructions{}, is taken off the requests of mem.rs.{}\n\n{}",
         queue.instructions,
-        queue.nanoseconds,
+        queue.nanoseconds.map_or(String::new(), |ns| format!(" and {ns} ns")),
+        if measure.clock { "" } else { NO_TIMES },
         memory()
     );
     let text = fs::read_to_string(file).unwrap_or_else(|e| panic!("{file}: {e}"));
