@@ -11,7 +11,7 @@ fn main() {
     let folder = Path::new(&manifest).join("../..").join(&named); // an absolute name stays as it is
     let library = folder.join("libcapi.a");
     if !library.exists() {
-        eprintln!("JAMBCOPPER_LIB names {named}, taken from the repository's root, and libcapi.a is not there: run `rt staticlib capi`");
+        eprintln!("JAMBCOPPER_LIB names {named}, taken from the repository's root, and libcapi.a is not there: run bin/library");
         exit(1)
     }
     println!("cargo:rerun-if-changed={}", library.display());

@@ -321,8 +321,7 @@ const HEAD: [&str; 2] = [
 ];
 const HEAD_OF_TIMES: [&str; 2] = [" mem.rs, ns | proved, ns | ratio |", "---:|---:|---:|"];
 
-const NO_TIMES: &str =
-    " No times: this was measured under an emulator, whose times say nothing.";
+const NO_TIMES: &str = " No times: this was measured under an emulator, whose times say nothing.";
 
 /// The table and the plot. What the queue costs is taken off the requests of mem.rs.
 fn write(file: &str, svg: &str, measure: &Measure) {
@@ -367,7 +366,9 @@ fn write(file: &str, svg: &str, measure: &Measure) {
     table += &format!(
         "\nThe queue's share, {} instructions{}, is taken off the requests of mem.rs.{}\n\n{}",
         queue.instructions,
-        queue.nanoseconds.map_or(String::new(), |ns| format!(" and {ns} ns")),
+        queue
+            .nanoseconds
+            .map_or(String::new(), |ns| format!(" and {ns} ns")),
         if measure.clock { "" } else { NO_TIMES },
         memory()
     );
