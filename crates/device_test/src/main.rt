@@ -6,7 +6,7 @@
 // printed by its name.
 //
 // chains.txt asks the chain; changes.txt the range test, the plug and unplug decision and the state; placings.txt making, placing
-// and size changes; servings.txt requests and discards.
+// and size changes; servings.txt requests and discards; values.txt the numbers, the record's shape and the usable size.
 use scene::Scene;
 
 mod chains; // chains.txt
@@ -16,6 +16,7 @@ mod placings; // placings.txt
 mod scene; // what the calls of a file stand on
 mod servings; // servings.txt
 mod show; // what they print
+mod values; // values.txt
 
 // A command that calls a part of the device with what is lent to it. Whether it is one.
 fn call_lent(
@@ -30,6 +31,11 @@ fn call_lent(
 ) -> Scene {
     if file == 1 {
         let known = changes::command(kind, v, name, &bitmap[..], &table[..]);
+        return scene::after(scene, known);
+    }
+    if file == 4 {
+        let d = scene.device;
+        let known = values::command(d, kind, v, name, &table[..]);
         return scene::after(scene, known);
     }
     if file == 2 {
@@ -168,4 +174,5 @@ fn main() {
     run_file(b"changes.txt", 1);
     run_file(b"placings.txt", 2);
     run_file(b"servings.txt", 3);
+    run_file(b"values.txt", 4);
 }

@@ -97,6 +97,17 @@ fn with_pending(scene: Scene, pending: Pending) -> Scene {
     )
 }
 
+fn with_alignment(scene: Scene, alignment: u64) -> Scene {
+    let d = scene.device;
+    with_device(
+        scene,
+        Device {
+            alignment: alignment,
+            ..d
+        },
+    )
+}
+
 // So much of the bitmap and of the map table is lent from now on.
 fn lent(scene: Scene, bytes: usize, words: usize) -> Scene {
     Scene {
@@ -157,6 +168,14 @@ fn device_command(scene: Scene, kind: u8, v: [u64; 8]) -> Scene {
                 status: GuestAddr(v[2]),
             },
         ),
+        b'O' => with_pending(
+            scene,
+            Pending::DiscardOne {
+                block: v[0],
+                status: GuestAddr(v[1]),
+            },
+        ),
+        b'A' => with_alignment(scene, v[0]),
         b'M' => made(scene, v[0], v[1], v[2] == 1, v[3]),
         _ => after(scene, false),
     }
