@@ -3,6 +3,7 @@ use super::lines::front;
 use super::lines::small;
 use super::show::end;
 use super::show::number;
+use super::show::print;
 use super::show::wide;
 use super::show::word;
 use chain::Link;
@@ -45,27 +46,28 @@ fn parse(name: &[u8], mem: &[u8], base: u64, table: u64, head: u64) {
         (head % 65536) as u16,
     );
     let Parsed::Request(req, status) = parsed else {
-        number(b": reason=", parsed.reason());
-        end();
+        print(b": reason=#\n", &[parsed.reason()]);
         return;
     };
-    number(b": type=", req.req_type as u64);
-    number(b" addr=", req.addr.0);
-    number(b" blocks=", req.nb_blocks as u64);
-    number(b" status=", status.0);
-    end();
+    print(
+        b": type=# addr=# blocks=# status=#\n",
+        &[
+            req.req_type as u64,
+            req.addr.0,
+            req.nb_blocks as u64,
+            status.0,
+        ],
+    );
 }
 
 // Where `size` bytes lie in the memory.
 fn place(name: &[u8], mem: &[u8], base: u64, addr: u64, size: u64) {
     word(name);
     let Place::At(at) = chain::place_of(mem, GuestAddr(base), GuestAddr(addr), size) else {
-        word(b": outside");
-        end();
+        word(b": outside\n");
         return;
     };
-    number(b": at=", at as u64);
-    end();
+    print(b": at=#\n", &[at as u64]);
 }
 
 fn show(bytes: &[u8]) {
@@ -99,21 +101,24 @@ fn show_read(mem: &[u8], head: u16) {
         number(b" reason ", parsed.reason());
         return;
     };
-    number(b" type ", req.req_type as u64);
-    number(b" addr ", req.addr.0);
-    number(b" blocks ", req.nb_blocks as u64);
-    number(b" status ", status.0);
+    print(
+        b" type # addr # blocks # status #",
+        &[
+            req.req_type as u64,
+            req.addr.0,
+            req.nb_blocks as u64,
+            status.0,
+        ],
+    );
 }
 
 fn read(mem: &[u8], head: u16) {
     show_read(mem, head);
     let Link::Is(second) = second_link(mem, GuestAddr(4096), GuestAddr(4096), head) else {
-        word(b", no second");
-        end();
+        word(b", no second\n");
         return;
     };
-    number(b", second at ", second.addr.0);
-    end();
+    print(b", second at #\n", &[second.addr.0]);
 }
 
 pub fn command(kind: u8, v: [u64; 8], name: &[u8], mem: &mut [u8]) -> bool {

@@ -1,6 +1,7 @@
 // The tests (b), (c) and (d), and the state of a range.
 use super::show::end;
 use super::show::number;
+use super::show::print;
 use super::show::word;
 use change::Change;
 use change::HostRange;
@@ -35,9 +36,10 @@ fn write_host(host: HostRange) {
 }
 
 fn write_legal(first: u64, offset: RegionOffset, host: HostAddr) {
-    number(b": legal block ", first);
-    number(b" offset ", offset.0);
-    number(b" host ", host.0);
+    print(
+        b": legal block # offset # host #",
+        &[first, offset.0, host.0],
+    );
 }
 
 fn write_change(change: Change) {

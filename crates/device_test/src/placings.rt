@@ -5,6 +5,7 @@ use super::scene::after;
 use super::scene::with_device;
 use super::show::end;
 use super::show::number;
+use super::show::print;
 use super::show::wide;
 use super::show::word;
 use placing::Made;
@@ -31,9 +32,7 @@ fn flag(holds: bool) {
 fn show_call(call: HostCall) {
     match call {
         HostCall::Create { guest, size, slot } => {
-            number(b"create ", guest.0);
-            number(b" ", size);
-            number(b" ", slot);
+            print(b"create # # #", &[guest.0, size, slot]);
         }
         HostCall::Discard {
             offset: _,
@@ -58,9 +57,11 @@ fn show_answer(answer: Answer) {
 fn show(s: Answered) -> Device {
     let answer = s.answer;
     show_answer(answer);
-    number(b" ", s.device.config.requested_size);
-    number(b" ", s.device.config.usable_region_size);
-    number(b" ", s.device.config.addr.0);
+    let c = s.device.config;
+    print(
+        b" # # #",
+        &[c.requested_size, c.usable_region_size, c.addr.0],
+    );
     flag(s.device.placed);
     end();
     s.device
@@ -70,12 +71,10 @@ fn show_made(made: Made) {
     word(b"new");
     match made {
         Made::Device(d) => {
-            number(b" ", d.config.region_size);
-            number(b" ", d.config.requested_size);
-            number(b" ", d.alignment);
+            let c = d.config;
+            print(b" # # #", &[c.region_size, c.requested_size, d.alignment]);
             flag(d.multi_region);
-            number(b" ", d.avail_features);
-            number(b" ", d.config.node_id as u64);
+            print(b" # #", &[d.avail_features, c.node_id as u64]);
         }
         Made::Refused(n) => number(b" refused ", n),
     }
@@ -114,10 +113,7 @@ fn sized(scene: Scene, bitmap: &[u8], table: &[u64], mib: u64) -> Scene {
 fn show_row(table: &[u64], row: u64) {
     let at = (row % 65536) as usize * 3;
     if at + 2 < table.len() {
-        number(b"row ", table[at]);
-        number(b" ", table[at + 1]);
-        number(b" ", table[at + 2]);
-        end();
+        print(b"row # # #\n", &[table[at], table[at + 1], table[at + 2]]);
     }
 }
 

@@ -1,8 +1,8 @@
 // Requests and discard answers: each with its answer and all that it leaves.
 use super::scene::Scene;
 use super::scene::after;
-use super::show::end;
 use super::show::number;
+use super::show::print;
 use super::show::word;
 use record::HostCall;
 use step::Answer;
@@ -21,9 +21,10 @@ fn show_call(call: HostCall) {
             slot: _,
         } => word(b"want=create"),
         HostCall::Discard { offset, size, host } => {
-            number(b"want=discard offset=", offset.0);
-            number(b" size=", size);
-            number(b" host=", host.0);
+            print(
+                b"want=discard offset=# size=# host=#",
+                &[offset.0, size, host.0],
+            );
         }
     }
 }
@@ -35,9 +36,10 @@ fn show_answer(answer: Answer) {
         Answer::Sized => word(b"sized"),
         Answer::Unserved(reason) => number(b"length=0 reason=", reason),
         Answer::Served(resp, length) => {
-            number(b"resp=", resp.resp_type as u64);
-            number(b" state=", resp.state as u64);
-            number(b" length=", length as u64);
+            print(
+                b"resp=# state=# length=#",
+                &[resp.resp_type as u64, resp.state as u64, length as u64],
+            );
         }
         Answer::Done => word(b"done"),
     }
@@ -45,12 +47,14 @@ fn show_answer(answer: Answer) {
 
 // The plugged size, blocks 0 to 63 and 512 to 575 as numbers, and the type and state at the usual status address.
 fn show_left(plugged: u64, bitmap: &[u8], mem: &[u8]) {
-    number(b" plugged=", plugged);
-    number(b" blocks=", wire::read_u64(bitmap, 0));
-    number(b",", wire::read_u64(bitmap, 64));
-    number(b" status=", wire::read_u16(mem, 96) as u64);
-    number(b",", wire::read_u16(mem, 104) as u64);
-    end();
+    let first = wire::read_u64(bitmap, 0);
+    let later = wire::read_u64(bitmap, 64);
+    let resp_type = wire::read_u16(mem, 96) as u64;
+    let state = wire::read_u16(mem, 104) as u64;
+    print(
+        b" plugged=# blocks=#,# status=#,#\n",
+        &[plugged, first, later, resp_type, state],
+    );
 }
 
 // Guest memory from 4096 on: a chain of two descriptors, a request at 64, and ones everywhere else, at 96 too, where the response goes.
@@ -76,10 +80,7 @@ fn asked(
     blocks: u64,
     status: u64,
 ) -> Scene {
-    number(b"type=", req_type);
-    number(b" addr=", addr);
-    number(b" blocks=", blocks);
-    word(b" -> ");
+    print(b"type=# addr=# blocks=# -> ", &[req_type, addr, blocks]);
     let d = scene.device;
     let mut mem = laid(req_type, addr, blocks, status);
     let s = serving::request(
@@ -105,8 +106,7 @@ fn asked(
 
 // One answer of the host.
 fn answered(scene: Scene, bitmap: &mut [u8], table: &[u64], ok: u64) -> Scene {
-    number(b"host ok=", ok);
-    word(b" -> ");
+    print(b"host ok=# -> ", &[ok]);
     let d = scene.device;
     let mut mem = scene.mem;
     let s = serving::discard_answered(d, bitmap, table, &mut mem, GuestAddr(4096), ok == 1);

@@ -1,6 +1,7 @@
 // The numbers of the device at their limits, the shape of a record, and the usable size with its creation: a name and what comes of it.
 use super::show::end;
 use super::show::number;
+use super::show::print;
 use super::show::word;
 use record::Device;
 use resize::Growth;
@@ -41,9 +42,7 @@ fn of_numbers(kind: u8, v: [u64; 8]) -> u64 {
 fn show_growth(growth: Growth) {
     match growth {
         Growth::Asks(i, last, bytes) => {
-            number(b" ", i);
-            number(b" ", last);
-            number(b" ", bytes);
+            print(b" # # #", &[i, last, bytes]);
         }
         Growth::Settled => word(b" settled"),
     }
