@@ -1,4 +1,5 @@
 // Raw descriptors, and what the chain makes of them, by itself and through a reader that holds the memory.
+use super::lines::Numbers;
 use super::lines::front;
 use super::lines::small;
 use super::show::end;
@@ -121,15 +122,15 @@ fn read(mem: &[u8], head: u16) {
     print(b", second at #\n", &[second.addr.0]);
 }
 
-pub fn command(kind: u8, v: [u64; 8], name: &[u8], mem: &mut [u8]) -> bool {
+pub fn command(kind: u8, v: Numbers, name: &[u8], mem: &mut [u8]) -> bool {
     match kind {
-        b'L' => lay(mem, (v[0] % 65536) as u16, v[1], v[2], v[3], v[4]),
-        b'R' => lay_request(mem, (v[0] % 65536) as u16),
-        b'W' => write_u64(mem, small(v[0]), v[1]),
-        b'c' => parse(name, front(&mem[..], small(v[0])), v[1], v[2], v[3]),
-        b'p' => place(name, front(&mem[..], small(v[0])), v[1], v[2], v[3]),
-        b'd' => deliver(name, v[0], v[1]),
-        b'r' => read(front(&mem[..], small(v[0])), (v[1] % 65536) as u16),
+        b'L' => lay(mem, (v.0 % 65536) as u16, v.1, v.2, v.3, v.4),
+        b'R' => lay_request(mem, (v.0 % 65536) as u16),
+        b'W' => write_u64(mem, small(v.0), v.1),
+        b'c' => parse(name, front(&mem[..], small(v.0)), v.1, v.2, v.3),
+        b'p' => place(name, front(&mem[..], small(v.0)), v.1, v.2, v.3),
+        b'd' => deliver(name, v.0, v.1),
+        b'r' => read(front(&mem[..], small(v.0)), (v.1 % 65536) as u16),
         _ => return false,
     }
     true

@@ -1,4 +1,5 @@
 // The tests (b), (c) and (d), and the state of a range.
+use super::lines::Numbers;
 use super::show::end;
 use super::show::number;
 use super::show::print;
@@ -76,18 +77,13 @@ fn state(region: u64, addr: u64, blocks: u64, bitmap: &[u8]) {
     number(b": state ", state as u64);
 }
 
-pub fn command(kind: u8, v: [u64; 8], name: &[u8], bitmap: &[u8], table: &[u64]) -> bool {
+pub fn command(kind: u8, v: Numbers, name: &[u8], bitmap: &[u8], table: &[u64]) -> bool {
     word(name);
     match kind {
-        b'r' => write_range(range_of(
-            GuestAddr(v[0]),
-            v[1],
-            GuestAddr(v[2]),
-            (v[3] % 65536) as u16,
-        )),
-        b'h' => write_host(host_of(v[0] == 1, table, RegionOffset(v[1]), v[2])),
-        b'c' => change(v[0] == 1, v[1] == 1, v[2], v[3], bitmap, table),
-        b's' => state(v[0], v[1], v[2], bitmap),
+        b'r' => write_range(range_of(GuestAddr(v.0), v.1, GuestAddr(v.2), (v.3 % 65536) as u16)),
+        b'h' => write_host(host_of(v.0 == 1, table, RegionOffset(v.1), v.2)),
+        b'c' => change(v.0 == 1, v.1 == 1, v.2, v.3, bitmap, table),
+        b's' => state(v.0, v.1, v.2, bitmap),
         _ => word(b": no command"),
     }
     end();

@@ -49,6 +49,18 @@ pub fn byte_at(s: &[u8], i: usize) -> u8 {
     0
 }
 
+// The numbers of a line, in their order.
+pub struct Numbers(
+    pub u64,
+    pub u64,
+    pub u64,
+    pub u64,
+    pub u64,
+    pub u64,
+    pub u64,
+    pub u64,
+);
+
 // The numbers of a line that have been read: the last is still open where the byte before was a digit of it.
 struct Reading {
     v: [u64; 8],
@@ -100,8 +112,12 @@ fn read(r: Reading, b: u8) -> Reading {
     with_digit(r, b - b'0')
 }
 
+fn listed(v: [u64; 8]) -> Numbers {
+    Numbers(v[0], v[1], v[2], v[3], v[4], v[5], v[6], v[7])
+}
+
 // The numbers of a line, in their order, and 0 where there are no more. What stands between them is for the reader.
-pub fn numbers(line: &[u8]) -> [u64; 8] {
+pub fn numbers_of(line: &[u8]) -> Numbers {
     let none = [0u64; 8];
     let mut r = Reading {
         v: none,
@@ -113,5 +129,6 @@ pub fn numbers(line: &[u8]) -> [u64; 8] {
         r = read(r, line[i]);
         i += 1;
     }
-    r.v
+    let v = r.v;
+    listed(v)
 }

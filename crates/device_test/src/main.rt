@@ -7,6 +7,7 @@
 //
 // chains.txt asks the chain; changes.txt the range test, the plug and unplug decision and the state; placings.txt making, placing
 // and size changes; servings.txt requests and discards; values.txt the numbers, the record's shape and the usable size.
+use lines::Numbers;
 use scene::Scene;
 
 mod chains; // chains.txt
@@ -23,7 +24,7 @@ fn call_lent(
     scene: Scene,
     file: u64,
     kind: u8,
-    v: [u64; 8],
+    v: Numbers,
     name: &[u8],
     bitmap: &mut [u8],
     table: &mut [u64],
@@ -48,7 +49,7 @@ fn call(
     scene: Scene,
     file: u64,
     kind: u8,
-    v: [u64; 8],
+    v: Numbers,
     name: &[u8],
     bitmap: &mut [u8],
     bytes: usize,
@@ -78,7 +79,7 @@ fn command(
     scene: Scene,
     file: u64,
     kind: u8,
-    v: [u64; 8],
+    v: Numbers,
     name: &[u8],
     bitmap: &mut [u8],
     table: &mut [u64],
@@ -118,7 +119,7 @@ fn run_line(
     let name = lines::front(line, colon);
     let text = lines::command_of(line, colon);
     let kind = lines::byte_at(text, 0);
-    let v = lines::numbers(text);
+    let v = lines::numbers_of(text);
     let after = command(scene, file, kind, v, name, bitmap, table, slots, mem);
     if !after.known {
         show::word(name);

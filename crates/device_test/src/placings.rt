@@ -1,4 +1,5 @@
 // Making, placing, size changes and the answers to creations: each with its answer and the record then.
+use super::lines::Numbers;
 use super::lines::small;
 use super::scene::Scene;
 use super::scene::after;
@@ -124,21 +125,21 @@ fn show_byte(bitmap: &[u8], at: usize) {
     }
 }
 
-fn new(v: [u64; 8]) {
-    if v[3] == 1 {
-        let node = Node::Number((v[4] % 65536) as u16);
-        show_made(Mem::new(v[0], v[1], v[2] == 1, node, v[5]));
+fn new(v: Numbers) {
+    if v.3 == 1 {
+        let node = Node::Number((v.4 % 65536) as u16);
+        show_made(Mem::new(v.0, v.1, v.2 == 1, node, v.5));
     } else {
-        show_made(Mem::new(v[0], v[1], v[2] == 1, Node::None, v[5]));
+        show_made(Mem::new(v.0, v.1, v.2 == 1, Node::None, v.5));
     }
 }
 
 // The commands that show what is there, and what is made.
-fn shown(kind: u8, v: [u64; 8], bitmap: &[u8], table: &[u64]) -> bool {
+fn shown(kind: u8, v: Numbers, bitmap: &[u8], table: &[u64]) -> bool {
     match kind {
         b'n' => new(v),
-        b'r' => show_row(table, v[0]),
-        b'b' => show_byte(bitmap, small(v[0])),
+        b'r' => show_row(table, v.0),
+        b'b' => show_byte(bitmap, small(v.0)),
         _ => return false,
     }
     true
@@ -147,15 +148,15 @@ fn shown(kind: u8, v: [u64; 8], bitmap: &[u8], table: &[u64]) -> bool {
 pub fn command(
     scene: Scene,
     kind: u8,
-    v: [u64; 8],
+    v: Numbers,
     bitmap: &mut [u8],
     table: &mut [u64],
     slots: &[u32],
 ) -> Scene {
     match kind {
-        b'p' => placed(scene, bitmap, table, v[0], v[1], slots, small(v[2])),
-        b'c' => answered(scene, &bitmap[..], table, v[0] == 1, v[1]),
-        b's' => sized(scene, &bitmap[..], &table[..], v[0]),
+        b'p' => placed(scene, bitmap, table, v.0, v.1, slots, small(v.2)),
+        b'c' => answered(scene, &bitmap[..], table, v.0 == 1, v.1),
+        b's' => sized(scene, &bitmap[..], &table[..], v.0),
         _ => after(scene, shown(kind, v, &bitmap[..], &table[..])),
     }
 }

@@ -1,4 +1,5 @@
 // What the calls of a file stand on: a device, how much of the bitmap and of the map table is lent to them, and guest memory.
+use super::lines::Numbers;
 use super::lines::small;
 use placing::Made;
 use placing::Mem;
@@ -146,37 +147,37 @@ fn made(scene: Scene, capacity: u64, requested: u64, several: bool, boot: u64) -
     with_device(scene, d)
 }
 
-fn device_command(scene: Scene, kind: u8, v: [u64; 8]) -> Scene {
+fn device_command(scene: Scene, kind: u8, v: Numbers) -> Scene {
     match kind {
-        b'L' => lent(scene, small(v[0]), small(v[1])),
+        b'L' => lent(scene, small(v.0), small(v.1)),
         b'R' => with_record(
             scene,
-            device(v[0], v[1], v[2] == 1, v[3], v[4], v[5], v[6], v[7] == 1),
+            device(v.0, v.1, v.2 == 1, v.3, v.4, v.5, v.6, v.7 == 1),
         ),
         b'C' => with_pending(
             scene,
             Pending::Create {
-                first: v[0],
-                last: v[1],
+                first: v.0,
+                last: v.1,
             },
         ),
         b'D' => with_pending(
             scene,
             Pending::Discard {
-                first: v[0],
-                count: v[1],
-                status: GuestAddr(v[2]),
+                first: v.0,
+                count: v.1,
+                status: GuestAddr(v.2),
             },
         ),
         b'O' => with_pending(
             scene,
             Pending::DiscardOne {
-                block: v[0],
-                status: GuestAddr(v[1]),
+                block: v.0,
+                status: GuestAddr(v.1),
             },
         ),
-        b'A' => with_alignment(scene, v[0]),
-        b'M' => made(scene, v[0], v[1], v[2] == 1, v[3]),
+        b'A' => with_alignment(scene, v.0),
+        b'M' => made(scene, v.0, v.1, v.2 == 1, v.3),
         _ => after(scene, false),
     }
 }
@@ -186,22 +187,22 @@ fn device_command(scene: Scene, kind: u8, v: [u64; 8]) -> Scene {
 pub fn command(
     scene: Scene,
     kind: u8,
-    v: [u64; 8],
+    v: Numbers,
     bitmap: &mut [u8],
     table: &mut [u64],
     slots: &mut [u32],
 ) -> Scene {
     match kind {
         b'B' => {
-            set_blocks(bitmap, v[0], v[1], v[2] == 1);
+            set_blocks(bitmap, v.0, v.1, v.2 == 1);
             after(scene, true)
         }
         b'W' => {
-            set_word(table, small(v[0]), v[1]);
+            set_word(table, small(v.0), v.1);
             after(scene, true)
         }
         b'S' => {
-            set_slot(slots, small(v[0]), v[1]);
+            set_slot(slots, small(v.0), v.1);
             after(scene, true)
         }
         _ => device_command(scene, kind, v),

@@ -1,4 +1,5 @@
 // Requests and discard answers: each with its answer and all that it leaves.
+use super::lines::Numbers;
 use super::scene::Scene;
 use super::scene::after;
 use super::show::number;
@@ -132,11 +133,11 @@ fn overwritten(scene: Scene, addr: u64, blocks: u64, status: u64) -> Scene {
     }
 }
 
-pub fn command(scene: Scene, kind: u8, v: [u64; 8], bitmap: &mut [u8], table: &[u64]) -> Scene {
+pub fn command(scene: Scene, kind: u8, v: Numbers, bitmap: &mut [u8], table: &[u64]) -> Scene {
     match kind {
-        b't' => asked(scene, bitmap, table, v[0], v[1], v[2], v[3]),
-        b'h' => answered(scene, bitmap, table, v[0]),
-        b'o' => overwritten(scene, v[0], v[1], v[2]),
+        b't' => asked(scene, bitmap, table, v.0, v.1, v.2, v.3),
+        b'h' => answered(scene, bitmap, table, v.0),
+        b'o' => overwritten(scene, v.0, v.1, v.2),
         _ => after(scene, false),
     }
 }

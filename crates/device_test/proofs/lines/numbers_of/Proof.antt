@@ -1,9 +1,9 @@
--- `device_test::lines::numbers` is safe and ends: the measure is what is left of the line.
+-- `device_test::lines::numbers_of` is safe and ends: the measure is what is left of the line.
 use Prim.Native.Nat.{_-_}
 use lib.ListN.{length}
 use borrow.Author.Needs.{needs}
-use Rattle.device_test.proofs.lines.numbers.Statement.{statement}
-use Rattle.device_test.proofs.lines.numbers.Tie as tie
+use Rattle.device_test.proofs.lines.numbers_of.Statement.{statement}
+use Rattle.device_test.proofs.lines.numbers_of.Tie as tie
 
 abbrev Inv-loop : tie.InvT-loop
 Inv-loop line r₀ i₀ r i = Unit {0}
@@ -29,11 +29,14 @@ loop-less c = search needs
 loop-again : tie.Need-loop-again Inv-loop μ-loop
 loop-again c = search needs
 
+listed-requires : tie.Need-listed-requires Inv-loop μ-loop
+listed-requires c κs = search needs
+
 returns : tie.Need-returns Inv-loop μ-loop
 returns c = search needs
 
-pub numbers-spec : {M : Type 1} → statement M
-numbers-spec =
+pub numbers-of-spec : {M : Type 1} → statement M
+numbers-of-spec =
     tie.close
     (tie.spec
     Inv-loop
@@ -44,4 +47,5 @@ numbers-spec =
     add-i
     loop-less
     loop-again
+    listed-requires
     returns)
