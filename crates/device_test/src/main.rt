@@ -2,8 +2,8 @@
 // to the file stdout, whose lines were worked out by other means than this code.
 //
 // A line is NAME: COMMAND, or a COMMAND that is its own name. The first letter of a command says what it is, and its numbers count;
-// its words are for the reader. Commands in capitals say what the calls stand on, and print nothing. A line that is no command is
-// printed by its name.
+// its words are for the reader. A command with a capital says what the calls stand on, and prints nothing. A line without a command
+// is printed by its name. A wrong letter shows as a line that stdout has not.
 //
 // chains.txt asks the chain; changes.txt the range test, the plug and unplug decision and the state; placings.txt making, placing
 // and size changes; servings.txt requests and discards; values.txt the numbers, the record's shape and the usable size.
@@ -19,7 +19,7 @@ mod servings; // servings.txt
 mod show; // what they print
 mod values; // values.txt
 
-// A command that calls a part of the device with what is lent to it. Whether it is one.
+// A command that calls a part of the device with what is lent to it; `known` says whether it is one.
 fn call_lent(
     scene: Scene,
     file: u64,
