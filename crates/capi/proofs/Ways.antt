@@ -15,8 +15,8 @@ use Rattle.step.specs.declared.Answer.the-variants.{Refused}
 use Rattle.step.specs.World.{Outcome, Meets, worldOf, ReadConfig, WriteConfig}
 use Rattle.step.specs.Step.{step, readConfig, writeConfig}
 use Rattle.record.specs.Shape.{shapedOf}
-use Rattle.placing.specs.declared.Made.{Made}
-use Rattle.placing.specs.declared.Made.the-variants.{Device as MadeDevice, Refused as MadeRefused}
+use Rattle.making.specs.declared.Made.{Made}
+use Rattle.making.specs.declared.Made.the-variants.{Device as MadeDevice, Refused as MadeRefused}
 use Rattle.words.specs.declared.Decoded.{Decoded}
 use Rattle.words.specs.declared.Decoded.the-variants.{Is, NoRecord}
 use Rattle.words.specs.Record.{wordsOf, decodedOf}

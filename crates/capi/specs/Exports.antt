@@ -9,10 +9,10 @@ use Rattle.bitmap.specs.Blocks.{blocks}
 use Rattle.rows.specs.Rows.{written}
 use Rattle.wire.specs.Bytes.{put}
 use Rattle.record.specs.declared.Device.{Device}
-use Rattle.placing.specs.declared.Node.{Node}
-use Rattle.placing.specs.declared.Node.the-variants.{None, Number}
-use Rattle.placing.specs.declared.Made.{Made}
-use Rattle.placing.specs.declared.Made.the-variants.{Device as MadeDevice, Refused}
+use Rattle.making.specs.declared.Node.{Node}
+use Rattle.making.specs.declared.Node.the-variants.{None, Number}
+use Rattle.making.specs.declared.Made.{Made}
+use Rattle.making.specs.declared.Made.the-variants.{Device as MadeDevice, Refused}
 use Rattle.step.specs.declared.Answer.the-variants.{Refused as RefusedWith}
 use Rattle.step.specs.World.{Outcome}
 use Rattle.words.specs.declared.Decoded.{Decoded}

@@ -1,9 +1,9 @@
 // What the calls of a file stand on: a device, how much of the bitmap and of the map table is lent to them, and guest memory.
 use super::lines::Numbers;
 use super::lines::small;
-use placing::Made;
-use placing::Mem;
-use placing::Node;
+use making::Made;
+use making::Mem;
+use making::Node;
 use record::Device;
 use record::Pending;
 use units::GuestAddr;

@@ -5,10 +5,10 @@ use mathlib.Core.Bool.{Bool}
 use mathlib.Core.List.{List}
 use Rattle.record.specs.declared.Device.{Device}
 use Rattle.step.specs.World.{Call}
-use Rattle.placing.specs.declared.Node.{Node}
-use Rattle.placing.specs.declared.Made.the-variants.{Device as MadeDevice}
-use Rattle.placing.specs.Made.{made}
-use Rattle.placing.proofs.Newly.{made-new}
+use Rattle.making.specs.declared.Node.{Node}
+use Rattle.making.specs.declared.Made.the-variants.{Device as MadeDevice}
+use Rattle.making.specs.Made.{made}
+use Rattle.making.proofs.Newly.{made-new}
 use Rattle.history.specs.History.{Fresh, Told, after, begun}
 use Rattle.history.proofs.Demand3.{demand-3}
 

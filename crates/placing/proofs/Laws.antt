@@ -1,13 +1,11 @@
 -- How the outcomes of placing, of a size change and of a creation's answer come about, test by test. Assumes nothing.
-use Prim.Native.Nat.{ℕ, _+_, _*_, _%_, _≤_}
-use mathlib.Core.Path.{_≡_, refl, ap, sym, _∙_}
-use mathlib.Core.Bool.{Bool, true, false, cond, not, _||_}
+use Prim.Native.Nat.{ℕ, _+_, _*_, _≤_}
+use mathlib.Core.Path.{_≡_, refl, ap, sym}
+use mathlib.Core.Bool.{Bool, true, false, cond}
 use mathlib.Core.List.{List, []}
 use native.Mathlib.Omega.{arith}
-use lib.Dec.{ltb, eqb}
-use borrow.Author.Tests.{eq-eqb, ne-eqb, eqb-true, ltb-false, not-false}
+use borrow.Author.Tests.{eq-eqb, ne-eqb}
 use Rattle.units.specs.Numbers.{top, mapRegion, mapRegions}
-use Rattle.units.proofs.Tests.{by-test}
 use Rattle.bitmap.specs.Blocks.{blocks}
 use Rattle.rows.specs.declared.MapRow.{MapRow}
 use Rattle.rows.specs.Rows.{written}
@@ -79,17 +77,6 @@ asked-within d e usable new rows i last size g =
     let p = span-several region (d .«multi_region») (rw (a .regions)) in
     let m : mapRegions region (d .«multi_region») ≡ mapRegions region true = rw (a .regions) in
     omega (arith, s .start-span, s .rows-some, a .ends, f .to, p)
-
--- ---- a size in bytes past the tests of 1
-pub record Asked (bytes region : ℕ) : Type 0 where
-  pub within : bytes ≤ region
-  pub whole : bytes % 4194304 ≡ 0
-
-pub asked-is : (bytes region : ℕ) (t : Bool) → t ≡ (ltb region bytes || not (eqb (bytes % 4194304) 0)) → t ≡ false → Asked bytes region
-asked-is bytes region t e f =
-    by-test (ltb region bytes) (λ u. let z : _≡_ {A = Bool} true false = sym (rw u at e) ∙ f in let y : _≡_ {A = ℕ} 0 1 = cc in absurd (omega arith))
-    (λ u. let m = sym (rw u at e) ∙ f in
-    record { within = ltb-false region bytes u; whole = eqb-true (bytes % 4194304) 0 (not-false (eqb (bytes % 4194304) 0) m) })
 
 -- ---- placing: what is asked first, of several regions and of a single one
 pub placing-several : (w : World) → several w ≡ true → placing w ≡ resized w

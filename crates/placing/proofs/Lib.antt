@@ -1,4 +1,3 @@
 pub mod Laws
-pub mod Newly
 pub mod Creation
 mod Writes

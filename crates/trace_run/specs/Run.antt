@@ -12,11 +12,11 @@ use Rattle.step.specs.declared.Answer.{Answer}
 use Rattle.step.specs.declared.Answer.the-variants.{Refused, Wants, Sized, Unserved, Served, Done}
 use Rattle.step.specs.World.{World, Call, Place, Outcome}
 use Rattle.step.specs.Step.{step}
-use Rattle.placing.specs.declared.Node.{Node}
-use Rattle.placing.specs.declared.Node.the-variants.{None, Number}
-use Rattle.placing.specs.declared.Made.{Made}
-use Rattle.placing.specs.declared.Made.the-variants.{Device as MadeDevice, Refused as NotMade}
-use Rattle.placing.specs.Made.{made}
+use Rattle.making.specs.declared.Node.{Node}
+use Rattle.making.specs.declared.Node.the-variants.{None, Number}
+use Rattle.making.specs.declared.Made.{Made}
+use Rattle.making.specs.declared.Made.the-variants.{Device as MadeDevice, Refused as NotMade}
+use Rattle.making.specs.Made.{made}
 use Rattle.text.specs.Putting.{Put}
 use Rattle.trace_text.specs.declared.Node.{Node as WrittenNode}
 use Rattle.trace_text.specs.declared.Node.the-variants.{None as WrittenNone, Number as WrittenNumber}

@@ -1,7 +1,7 @@
 // A run of a trace, a line at a time: the first makes the device and places it, and each later one is an op on it.
-use placing::Made;
-use placing::Mem;
-use placing::Node;
+use making::Made;
+use making::Mem;
+use making::Node;
 use placing::place;
 use record::Device;
 use step::Answer;
@@ -20,7 +20,7 @@ ghost use mathlib.Core.Bool.{true};
 ghost use Prim.Native.Nat.{_+_, _≤_};
 ghost use lib.ListN.{length, take};
 ghost use Rattle.record.specs.Shape.{shapedOf};
-ghost use Rattle.placing.specs.declared.Made.the-variants as made;
+ghost use Rattle.making.specs.declared.Made.the-variants as made;
 ghost use Rattle.trace_text.specs.Lines.{refusalText};
 ghost use Rattle.trace_step.specs.Trace.{textOf};
 ghost use Rattle.trace_run.specs.Run.{lentOf, nodeOf, countedFrom, placedAs, begunOn, begun, goneOn, turn, Prints, Comes, Serves, SlotFits};

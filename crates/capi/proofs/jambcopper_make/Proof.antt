@@ -1,7 +1,7 @@
 -- `capi::jambcopper_make` meets its contract: 12 where there is no room, else what was made. Assumes nothing.
 use mathlib.Core.Path.{ap, _∙_}
-use Rattle.placing.specs.declared.Node.{Node}
-use Rattle.placing.specs.Made.{made}
+use Rattle.making.specs.declared.Node.{Node}
+use Rattle.making.specs.Made.{made}
 use Rattle.capi.proofs.Ways.{no-room, made-refused, made-device}
 use borrow.Author.Needs.{needs}
 use Rattle.capi.proofs.jambcopper_make.Statement.{statement}

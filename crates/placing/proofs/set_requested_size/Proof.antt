@@ -12,7 +12,8 @@ use Rattle.record.specs.Changes.{requestedTo}
 use denote.Ref.{now}
 use Rattle.step.specs.World.{worldOf}
 use Rattle.step.specs.Step.{step, deviceOf, setRequestedSize}
-use Rattle.placing.proofs.Laws.{refused-meets, stops, goes-on, ready-shaped, resizes-meets, Asked, asked-is}
+use Rattle.making.proofs.Asked.{Asked, asked-is}
+use Rattle.placing.proofs.Laws.{refused-meets, stops, goes-on, ready-shaped, resizes-meets}
 use borrow.Author.Needs.{needs}
 use Rattle.placing.proofs.set_requested_size.Statement.{statement}
 use Rattle.placing.proofs.set_requested_size.Tie as tie

@@ -1,6 +1,6 @@
 -- `trace_run::begin` meets its contract: a device is made, which has the stated shape, or the line is refused. Assumes nothing.
 use mathlib.Core.Path.{sym, _∙_}
-use Rattle.placing.proofs.Newly.{made-new}
+use Rattle.making.proofs.Newly.{made-new}
 use Rattle.trace_run.specs.Run.{begunOn}
 use Rattle.trace_run.proofs.Laws.{printed-comes}
 use borrow.Author.Needs.{needs}

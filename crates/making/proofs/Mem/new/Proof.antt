@@ -1,14 +1,14 @@
--- `placing::Mem::new` meets its contract: 2 before 1, and only then a record. Assumes nothing.
+-- `making::Mem::new` meets its contract: 2 before 1, and only then a record. Assumes nothing.
 use Prim.Native.Nat.{_*_}
 use native.Mathlib.Omega.{arith}
 use borrow.Author.Tests.{lt-ltb, le-ltb, eq-eqb, ne-eqb}
 use Rattle.record.proofs.Laws.{aligned}
-use Rattle.placing.specs.Made.{made}
-use Rattle.placing.proofs.Laws.{asked-is}
-use Rattle.placing.proofs.Newly.{alignment-ok}
+use Rattle.making.specs.Made.{made}
+use Rattle.making.proofs.Asked.{asked-is}
+use Rattle.making.proofs.Newly.{alignment-ok}
 use borrow.Author.Needs.{needs}
-use Rattle.placing.proofs.Mem.new.Statement.{statement}
-use Rattle.placing.proofs.Mem.new.Tie as tie
+use Rattle.making.proofs.Mem.new.Statement.{statement}
+use Rattle.making.proofs.Mem.new.Tie as tie
 
 returns : tie.Need-returns
 unfolding made

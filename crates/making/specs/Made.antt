@@ -7,10 +7,10 @@ use Rattle.wire.specs.Layout.{newConfig}
 use Rattle.record.specs.declared.Device.{Device}
 use Rattle.record.specs.declared.Pending.the-variants.{Nothing}
 use Rattle.record.specs.Shape.{featuresOf}
-use Rattle.placing.specs.declared.Node.{Node}
-use Rattle.placing.specs.declared.Node.the-variants.{None, Number}
-use Rattle.placing.specs.declared.Made.{Made}
-use Rattle.placing.specs.declared.Made.the-variants.{Device as MadeDevice, Refused}
+use Rattle.making.specs.declared.Node.{Node}
+use Rattle.making.specs.declared.Node.the-variants.{None, Number}
+use Rattle.making.specs.declared.Made.{Made}
+use Rattle.making.specs.declared.Made.the-variants.{Device as MadeDevice, Refused}
 
 abbrev pub isGiven : Node → Bool
 isGiven None = false

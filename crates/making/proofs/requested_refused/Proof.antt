@@ -1,11 +1,11 @@
--- `placing::requested_refused` meets its contract: the product is made only where it is at most the region. Assumes nothing.
+-- `making::requested_refused` meets its contract: the product is made only where it is at most the region. Assumes nothing.
 use Prim.Native.Nat.{_*_}
 use native.Mathlib.Omega.{arith}
 use borrow.Author.Tests.{leb-true, leb-false, lt-ltb, le-ltb}
 use Rattle.units.proofs.Tests.{passed, refused}
 use borrow.Author.Needs.{needs}
-use Rattle.placing.proofs.requested_refused.Statement.{statement}
-use Rattle.placing.proofs.requested_refused.Tie as tie
+use Rattle.making.proofs.requested_refused.Statement.{statement}
+use Rattle.making.proofs.requested_refused.Tie as tie
 
 product-within-requires : tie.Need-product-within-requires
 product-within-requires c κs = search needs

@@ -1,7 +1,7 @@
--- `placing::new_device` meets its contract. Assumes nothing.
+-- `making::new_device` meets its contract. Assumes nothing.
 use borrow.Author.Needs.{needs}
-use Rattle.placing.proofs.new_device.Statement.{statement}
-use Rattle.placing.proofs.new_device.Tie as tie
+use Rattle.making.proofs.new_device.Statement.{statement}
+use Rattle.making.proofs.new_device.Tie as tie
 
 node-number-requires : tie.Need-node-number-requires
 node-number-requires c κs = search needs

@@ -12,10 +12,10 @@ use Rattle.record.specs.declared.Device.{Device}
 use Rattle.record.specs.declared.Pending.the-variants.{Nothing}
 use Rattle.record.specs.Shape.{alignmentOk, regionOk, spanOf, startOk, severalOk, pendingOk, shapedOf}
 use Rattle.record.proofs.Laws.{by-alignment, spans, size-ok, whole}
-use Rattle.placing.specs.declared.Node.{Node}
-use Rattle.placing.specs.declared.Made.the-variants.{Device as MadeDevice, Refused}
-use Rattle.placing.specs.Made.{requestedBad, newDevice, made}
-use Rattle.placing.proofs.Laws.{Asked, asked-is}
+use Rattle.making.specs.declared.Node.{Node}
+use Rattle.making.specs.declared.Made.the-variants.{Device as MadeDevice, Refused}
+use Rattle.making.specs.Made.{requestedBad, newDevice, made}
+use Rattle.making.proofs.Asked.{Asked, asked-is}
 
 -- ---- the alignment is one of the five
 power-ok : (m : ℕ) → 27 ≤ m → m ≤ 31 → alignmentOk (2 ^ m) ≡ true

@@ -1,12 +1,12 @@
--- `placing::region_of` meets its contract: the rounded capacity fits 64 bits. Assumes nothing.
+-- `making::region_of` meets its contract: the rounded capacity fits 64 bits. Assumes nothing.
 use Prim.Native.Nat.{_*_}
 use mathlib.Core.Path.{_∙_}
 use native.Mathlib.Omega.{arith}
 use Rattle.units.proofs.Laws.{held-fits}
-use Rattle.placing.proofs.Newly.{round-within}
+use Rattle.making.proofs.Newly.{round-within}
 use borrow.Author.Needs.{needs}
-use Rattle.placing.proofs.region_of.Statement.{statement}
-use Rattle.placing.proofs.region_of.Tie as tie
+use Rattle.making.proofs.region_of.Statement.{statement}
+use Rattle.making.proofs.region_of.Tie as tie
 
 mul-round-up : tie.Need-mul-round-up
 mul-round-up c = search needs
