@@ -6,8 +6,8 @@ use native.Mathlib.Omega.{arith}
 use lib.ListN.{length}
 use borrow.Author.Tests.{le-leb, lt-leb}
 use Rattle.units.proofs.Tests.{by-test}
-use Rattle.wire.specs.Bytes.{put}
-use Rattle.wire.proofs.Laws.{put-past}
+use Rattle.little_endian.specs.Bytes.{put}
+use Rattle.little_endian.proofs.Laws.{put-past}
 use Rattle.record.specs.declared.Device.{Device}
 use Rattle.step.specs.declared.Answered.{Answered}
 use Rattle.step.specs.declared.Answer.{Answer}

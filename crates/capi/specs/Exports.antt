@@ -7,7 +7,7 @@ use lib.Dec.{leb}
 use lib.ListN.{length}
 use Rattle.bitmap.specs.Blocks.{blocks}
 use Rattle.rows.specs.Rows.{written}
-use Rattle.wire.specs.Bytes.{put}
+use Rattle.little_endian.specs.Bytes.{put}
 use Rattle.record.specs.declared.Device.{Device}
 use Rattle.making.specs.declared.Node.{Node}
 use Rattle.making.specs.declared.Node.the-variants.{None, Number}

@@ -11,9 +11,10 @@ use Rattle.units.proofs.Tests.{by-test, and-left, and-right}
 use Rattle.units.specs.declared.GuestAddr.{GuestAddr}
 use Rattle.wire.specs.declared.VirtioMemReq.{VirtioMemReq}
 use Rattle.wire.specs.declared.VirtioMemResp.{VirtioMemResp}
-use Rattle.wire.specs.Bytes.{part}
+use Rattle.little_endian.specs.Bytes.{part}
 use Rattle.wire.specs.Layout.{requestAt, responseBytes}
-use Rattle.wire.proofs.Laws.{length-put, part-part, part-put, part-put-before, part-put-behind, request-part, length-response}
+use Rattle.little_endian.proofs.Laws.{length-put, part-part, part-put, part-put-before, part-put-behind}
+use Rattle.wire.proofs.Laws.{request-part, length-response}
 use Rattle.chain.specs.declared.Place.{Place}
 use Rattle.chain.specs.declared.Place.the-variants.{At, Outside}
 use Rattle.chain.specs.declared.Descriptor.{Descriptor}

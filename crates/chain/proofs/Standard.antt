@@ -2,8 +2,8 @@
 use Prim.Native.Nat.{ℕ, _<_, _^_}
 use mathlib.Core.Path.{_≡_, ap, _∙_}
 use mathlib.Core.List.{List}
-use Rattle.wire.specs.Bytes.{littleEndian, part}
-use Rattle.wire.proofs.Laws.{value-fits}
+use Rattle.little_endian.specs.Bytes.{littleEndian, part}
+use Rattle.little_endian.proofs.Laws.{value-fits}
 use Rattle.chain.specs.declared.Descriptor.{Descriptor}
 use Rattle.chain.specs.Standard.{virtqDesc, descriptorAt}
 use Rattle.chain.proofs.Laws.{descriptor-part}

@@ -6,7 +6,7 @@ use lib.Dec.{leb, ltb, eqb}
 use lib.ListN.{length}
 use Rattle.wire.specs.declared.VirtioMemReq.{VirtioMemReq}
 use Rattle.wire.specs.declared.VirtioMemResp.{VirtioMemResp}
-use Rattle.wire.specs.Bytes.{put}
+use Rattle.little_endian.specs.Bytes.{put}
 use Rattle.wire.specs.Layout.{requestAt, responseBytes}
 use Rattle.chain.specs.declared.Place.{Place}
 use Rattle.chain.specs.declared.Place.the-variants.{At, Outside}

@@ -3,7 +3,7 @@ use Prim.Native.Nat.{ℕ, _+_, _*_, _/_, _%_}
 use mathlib.Core.Bool.{Bool}
 use mathlib.Core.List.{List, _++_}
 use lib.Dec.{eqb}
-use Rattle.wire.specs.Bytes.{value, littleEndian, part}
+use Rattle.little_endian.specs.Bytes.{value, littleEndian, part}
 use Rattle.chain.specs.declared.Descriptor.{Descriptor}
 
 -- struct virtq_desc { le64 addr; le32 len; le16 flags; le16 next; }

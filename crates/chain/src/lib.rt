@@ -1,13 +1,13 @@
 // SPDX-License-Identifier: Apache-2.0 AND BSD-3-Clause
 // From descriptors in guest memory to a request, and the response back: memory is one lent slice with a base address.
+use little_endian::read_u16;
+use little_endian::read_u32;
+use little_endian::read_u64;
 use units::GuestAddr;
 use units::sum_within;
 use wire::VirtioMemReq;
 use wire::VirtioMemResp;
 use wire::read_request;
-use wire::read_u16;
-use wire::read_u32;
-use wire::read_u64;
 use wire::write_response;
 ghost use mathlib.Core.Path.{_≡_};
 ghost use Prim.Native.Nat.{_+_, _^_, _≤_};

@@ -12,11 +12,11 @@ use chain::Parsed;
 use chain::Place;
 use chain_reader::parse_chain;
 use chain_reader::second_link;
+use little_endian::write_u16;
+use little_endian::write_u32;
+use little_endian::write_u64;
 use units::GuestAddr;
 use wire::VirtioMemResp;
-use wire::write_u16;
-use wire::write_u32;
-use wire::write_u64;
 
 // Writes a descriptor from byte `at` on.
 fn lay(mem: &mut [u8], at: u16, addr: u64, len: u64, flags: u64, next: u64) {

@@ -48,10 +48,10 @@ fn show_answer(answer: Answer) {
 
 // The plugged size, blocks 0 to 63 and 512 to 575 as numbers, and the type and state at the usual status address.
 fn show_left(plugged: u64, bitmap: &[u8], mem: &[u8]) {
-    let first = wire::read_u64(bitmap, 0);
-    let later = wire::read_u64(bitmap, 64);
-    let resp_type = wire::read_u16(mem, 96) as u64;
-    let state = wire::read_u16(mem, 104) as u64;
+    let first = little_endian::read_u64(bitmap, 0);
+    let later = little_endian::read_u64(bitmap, 64);
+    let resp_type = little_endian::read_u16(mem, 96) as u64;
+    let state = little_endian::read_u16(mem, 104) as u64;
     print(
         b" plugged=# blocks=#,# status=#,#\n",
         &[plugged, first, later, resp_type, state],
@@ -61,13 +61,13 @@ fn show_left(plugged: u64, bitmap: &[u8], mem: &[u8]) {
 // Guest memory from 4096 on: a chain of two descriptors, a request at 64, and ones everywhere else, at 96 too, where the response goes.
 fn laid(req_type: u64, addr: u64, blocks: u64, status: u64) -> [u8; 112] {
     let mut mem: [u8; 112] = [255; 112];
-    wire::write_u64(&mut mem, 0, 4160);
-    wire::write_u64(&mut mem, 8, FIRST);
-    wire::write_u64(&mut mem, 16, status);
-    wire::write_u64(&mut mem, 24, SECOND);
-    wire::write_u16(&mut mem, 64, (req_type % 65536) as u16);
-    wire::write_u64(&mut mem, 72, addr);
-    wire::write_u16(&mut mem, 80, (blocks % 65536) as u16);
+    little_endian::write_u64(&mut mem, 0, 4160);
+    little_endian::write_u64(&mut mem, 8, FIRST);
+    little_endian::write_u64(&mut mem, 16, status);
+    little_endian::write_u64(&mut mem, 24, SECOND);
+    little_endian::write_u16(&mut mem, 64, (req_type % 65536) as u16);
+    little_endian::write_u64(&mut mem, 72, addr);
+    little_endian::write_u16(&mut mem, 80, (blocks % 65536) as u16);
     mem
 }
 

@@ -15,7 +15,7 @@ use Rattle.units.proofs.Tests.{and-left, and-right}
 use Rattle.bitmap.specs.Blocks.{allAre, nextSet}
 use Rattle.bitmap.specs.declared.Found.{Found}
 use Rattle.bitmap.specs.declared.Found.the-variants.{At, Nothing as NoneSet}
-use Rattle.wire.specs.Bytes.{put}
+use Rattle.little_endian.specs.Bytes.{put}
 use Rattle.wire.specs.Layout.{configBytes}
 use Rattle.wire.specs.declared.VirtioMemReq.{VirtioMemReq}
 use Rattle.rows.specs.declared.MapRow.{MapRow}

@@ -6,7 +6,7 @@ use mathlib.Core.List.{List, [], _∷_, _++_}
 use lib.ListN.{replicate}
 use Rattle.units.specs.Numbers.{mapRegions}
 use Rattle.bitmap.specs.Blocks.{every, fill, firstSet}
-use Rattle.wire.specs.Bytes.{value, littleEndian, part, put}
+use Rattle.little_endian.specs.Bytes.{value, littleEndian, part, put}
 use Rattle.wire.specs.Layout.{requestAt, responseBytes}
 use Rattle.chain.specs.Standard.{virtqDesc, descriptorAt, descriptorAddr}
 use Rattle.chain.specs.Chain.{inside, linkAt, linkAfter, withSecond, withFirst, parsed, reaches, delivered}

@@ -10,7 +10,7 @@ use Rattle.bitmap.specs.declared.Found.{Found}
 use Rattle.bitmap.specs.declared.Found.the-variants.{At, Nothing as NoneSet}
 use Rattle.wire.specs.declared.VirtioMemReq.{VirtioMemReq}
 use Rattle.wire.specs.declared.VirtioMemResp.{VirtioMemResp}
-use Rattle.wire.specs.Bytes.{put}
+use Rattle.little_endian.specs.Bytes.{put}
 use Rattle.wire.specs.Layout.{configBytes}
 use Rattle.chain.specs.declared.Parsed.{Parsed}
 use Rattle.chain.specs.declared.Parsed.the-variants.{Request as Got, Bad}

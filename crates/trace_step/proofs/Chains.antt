@@ -11,10 +11,11 @@ use Rattle.units.specs.Numbers.{top, bytesOf}
 use Rattle.bitmap.specs.declared.Found.{Found}
 use Rattle.bitmap.specs.declared.Found.the-variants.{At, Nothing as NoneSet}
 use Rattle.wire.specs.declared.VirtioMemReq.{VirtioMemReq}
-use Rattle.wire.specs.Bytes.{put, part, littleEndian}
+use Rattle.little_endian.specs.Bytes.{put, part, littleEndian}
 use Rattle.wire.specs.Layout.{requestAt}
 use Rattle.wire.specs.Standard.{virtioMemReq}
-use Rattle.wire.proofs.Laws.{length-put, part-put, part-put-inside, part-put-before, request-part}
+use Rattle.little_endian.proofs.Laws.{length-put, part-put, part-put-inside, part-put-before}
+use Rattle.wire.proofs.Laws.{request-part}
 use Rattle.wire.proofs.Standard.{request as request-laid}
 use Rattle.chain.specs.declared.Descriptor.{Descriptor}
 use Rattle.chain.specs.declared.Link.the-variants.{Is}

@@ -4,7 +4,7 @@ use mathlib.Core.Path.{_≡_}
 use mathlib.Core.List.{List, []}
 use Rattle.bitmap.specs.Blocks.{blocks}
 use Rattle.rows.specs.Rows.{written}
-use Rattle.wire.specs.Bytes.{value, part, put, littleEndian}
+use Rattle.little_endian.specs.Bytes.{value, part, put, littleEndian}
 use Rattle.record.specs.declared.Device.{Device}
 use Rattle.record.specs.declared.HostCall.the-variants.{Create, Discard}
 use Rattle.step.specs.declared.Answered.{Answered}

@@ -1,5 +1,9 @@
 // One line of a trace on the device: ops go through real chains in a guest memory, and answers come back as house lines.
 use device::host_answer;
+use little_endian::read_u16;
+use little_endian::write_u16;
+use little_endian::write_u32;
+use little_endian::write_u64;
 use placing::set_requested_size;
 use record::Device;
 use record::HostCall;
@@ -13,10 +17,6 @@ use trace_text::put_refusal;
 use trace_text::put_response;
 use trace_text::put_sized;
 use units::GuestAddr;
-use wire::read_u16;
-use wire::write_u16;
-use wire::write_u32;
-use wire::write_u64;
 ghost use mathlib.Core.Path.{_≡_};
 ghost use Rattle.text.specs.Putting.{Put};
 ghost use Rattle.step.specs.World.{worldOf, Meets};

@@ -4,10 +4,10 @@ use mathlib.Core.Path.{_≡_, refl}
 use lib.ListN.{length, replicate}
 use Rattle.wire.specs.declared.VirtioMemResp.{VirtioMemResp}
 use Rattle.wire.specs.declared.VirtioMemConfig.{VirtioMemConfig}
-use Rattle.wire.specs.Bytes.{littleEndian, part, put}
+use Rattle.little_endian.specs.Bytes.{littleEndian, part, put}
 use Rattle.wire.specs.Layout.{requestAt, responseBytes, configFields, configValues, laid, configBytes}
 use Rattle.wire.specs.Standard.{virtioMemReq, virtioMemResp, virtioMemConfig}
-use Rattle.wire.proofs.Laws.{value-fits}
+use Rattle.little_endian.proofs.Laws.{value-fits}
 
 -- a request as a driver writes it, its padding being anything, is read as its type, address and blocks
 pub request : (type p₀ p₁ p₂ addr blocks q₀ q₁ q₂ : ℕ) → type < 256 ^ 2 → addr < 256 ^ 8 → blocks < 256 ^ 2

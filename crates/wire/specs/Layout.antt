@@ -6,7 +6,7 @@ use Rattle.wire.specs.declared.VirtioMemReq.{VirtioMemReq}
 use Rattle.wire.specs.declared.VirtioMemResp.{VirtioMemResp}
 use Rattle.wire.specs.declared.VirtioMemConfig.{VirtioMemConfig}
 use Rattle.wire.specs.declared.Field.{Field}
-use Rattle.wire.specs.Bytes.{value, littleEndian, part, put}
+use Rattle.little_endian.specs.Bytes.{value, littleEndian, part, put}
 
 -- "Request, 24: type at 0 (2 bytes), address at 8 (8), blocks at 16 (2); others ignored."
 unfoldable pub requestAt : List ℕ → ℕ → VirtioMemReq

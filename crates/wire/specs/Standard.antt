@@ -1,7 +1,7 @@
 -- The structures of Virtio 1.2, section 5.15, member after member as the standard writes them. Assumes nothing.
 use Prim.Native.Nat.{ℕ}
 use mathlib.Core.List.{List, _++_}
-use Rattle.wire.specs.Bytes.{littleEndian}
+use Rattle.little_endian.specs.Bytes.{littleEndian}
 
 -- 1.4, Structure Specifications: a le16 and a le64 are two and eight bytes, lowest first
 abbrev pub le16 : ℕ → List ℕ

@@ -46,23 +46,23 @@ fn table() {
 fn reads(b: &[u8], at: usize) {
     number(b"read length=", b.len() as u64);
     number(b" at=", at as u64);
-    number(b" u16=", wire::read_u16(b, at) as u64);
-    number(b" u32=", wire::read_u32(b, at) as u64);
-    number(b" u64=", wire::read_u64(b, at));
+    number(b" u16=", little_endian::read_u16(b, at) as u64);
+    number(b" u32=", little_endian::read_u32(b, at) as u64);
+    number(b" u64=", little_endian::read_u64(b, at));
     line_end();
 }
 
 fn writes(at: usize) {
     number(b"write at=", at as u64);
     let mut two: [u8; 12] = [238; 12];
-    wire::write_u16(&mut two, at, 258);
+    little_endian::write_u16(&mut two, at, 258);
     bytes(&two);
     let mut four: [u8; 12] = [238; 12];
-    wire::write_u32(&mut four, at, 16909060);
+    little_endian::write_u32(&mut four, at, 16909060);
     number(b"write at=", at as u64);
     bytes(&four);
     let mut eight: [u8; 12] = [238; 12];
-    wire::write_u64(&mut eight, at, 72623859790382856);
+    little_endian::write_u64(&mut eight, at, 72623859790382856);
     number(b"write at=", at as u64);
     bytes(&eight);
 }

@@ -10,8 +10,8 @@ use lib.ListN.{length, drop, getD, set, length-append, drop-of-length-le}
 use lib.Seq.{drop-cons, set-getD}
 use borrow.Author.Tests.{le-leb, leb-true, eqb-true, eqb-false}
 use Rattle.units.proofs.Tests.{by-test, and-left, and-right}
-use Rattle.wire.specs.Bytes.{put}
-use Rattle.wire.proofs.Laws.{put-fits}
+use Rattle.little_endian.specs.Bytes.{put}
+use Rattle.little_endian.proofs.Laws.{put-fits}
 use Rattle.record.specs.declared.Device.{Device}
 use Rattle.record.specs.declared.Pending.{Pending}
 use Rattle.record.specs.declared.Pending.the-variants.{Nothing, Create, Discard, DiscardOne}

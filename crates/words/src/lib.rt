@@ -9,7 +9,7 @@ use wire::VirtioMemConfig;
 ghost use mathlib.Core.Path.{_≡_};
 ghost use Prim.Native.Nat.{_≤_};
 ghost use lib.ListN.{length};
-ghost use Rattle.wire.specs.Bytes.{put};
+ghost use Rattle.little_endian.specs.Bytes.{put};
 ghost use Rattle.words.specs.declared.Decoded.the-variants.{Is};
 ghost use Rattle.words.specs.Record.{bit, callOf, decodedOf, wordsOf, pendingWords};
 ghost use Rattle.words.specs.Answers.{answerWords, questionWords, numberOf};

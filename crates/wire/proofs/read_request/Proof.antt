@@ -1,67 +1,50 @@
--- `read_request` meets its contract: a request that is cut off, with zeros behind it, is the same request. Assumes nothing.
-use Prim.Native.Nat.{ℕ, _+_, _≤_}
-use mathlib.Core.Path.{_≡_, ap, _∙_}
+-- `read_request` meets its contract: each field stands at its place behind `at`.
+use Prim.Native.Nat.{ℕ, _+_}
+use mathlib.Core.Path.{_≡_}
 use mathlib.Core.List.{List}
 use native.Mathlib.Omega.{arith}
-use lib.ListN.{length, drop, replicate}
-use Rattle.wire.specs.Bytes.{put}
+use lib.ListN.{drop}
+use Rattle.little_endian.specs.Bytes.{part}
+use Rattle.little_endian.proofs.Laws.{part-drop}
 use Rattle.wire.specs.Layout.{requestAt}
-use Rattle.wire.proofs.Laws.{value-padded}
 use borrow.Author.Needs.{needs}
 use Rattle.wire.proofs.read_request.Statement.{statement}
 use Rattle.wire.proofs.read_request.Tie as tie
 
-padded : (xs : List ℕ) (at : ℕ) → length xs ≤ at + 24 → requestAt (put (replicate 24 0) 0 (drop at xs)) 0 ≡ requestAt xs at
+-- the request at the start of what stands from `at` on
+behind : (xs : List ℕ) (at : ℕ) → requestAt (drop at xs) 0 ≡ requestAt xs at
 unfolding requestAt
-padded xs at h =
-    let t = value-padded xs 24 at 0 2 h in
-    let a = value-padded xs 24 at 8 8 h in
-    let n = value-padded xs 24 at 16 2 h in
+behind xs at =
+    let t : part (drop at xs) 0 2 ≡ part xs (at + 0) 2 = part-drop xs at 0 2 in
+    let a : part (drop at xs) 8 8 ≡ part xs (at + 8) 8 = part-drop xs at 8 8 in
+    let n : part (drop at xs) 16 2 ≡ part xs (at + 16) 2 = part-drop xs at 16 2 in
     let z : at + 0 ≡ at = omega arith in
     cc
-
-places-requires : tie.Need-places-requires
-places-requires c κs = search needs
-
-request-at-requires : tie.Need-request-at-requires
-request-at-requires c κs = search needs
-
-returns : tie.Need-returns
-returns c = search needs
-
-slice-aggregate-copy : tie.Need-slice-aggregate-copy
-slice-aggregate-copy c = search needs
 
 from-requires : tie.Need-from-requires
 from-requires c κs = search needs
 
-copy-requires : tie.Need-copy-requires
-copy-requires c κs = search needs
+read-u16-requires : tie.Need-read-u16-requires
+read-u16-requires c κs = search needs
 
-slice-aggregate-request-at : tie.Need-slice-aggregate-request-at
-slice-aggregate-request-at c = search needs
+read-u64-requires : tie.Need-read-u64-requires
+read-u64-requires c κs = search needs
 
-request-at-requires-2 : tie.Need-request-at-requires-2
-request-at-requires-2 c κs = search needs
+read-u16-requires-2 : tie.Need-read-u16-requires-2
+read-u16-requires-2 c κs = search needs
 
-returns-2 : tie.Need-returns-2
-returns-2 c =
-    let a = c .before .before .before .before .before .before .before .before .before .args in
-    let rest = c .before .before .before .before .from in
-    c .request-at2 .ensures
-    ∙ ap (λ (l : List ℕ). requestAt l 0) (c .before .before .before .copy .ensures ∙ ap (put (replicate 24 0) 0) (rest .ensures))
-    ∙ padded (a .bytes .now) (a .at) (omega arith)
+returns : tie.Need-returns
+unfolding requestAt
+returns c =
+    let rest = c .before .before .before .from .ensures in
+    let first = c .before .before .read-u16 .ensures in
+    let second = c .before .read-u64 .ensures in
+    let third = c .read-u162 .ensures in
+    let a = c .before .before .before .before .before .args in
+    let whole = behind (a .bytes .now) (a .at) in
+    cc
 
 pub read-request-spec : {M : Type 1} → statement M
 read-request-spec =
     tie.close
-    (tie.spec
-    places-requires
-    request-at-requires
-    returns
-    slice-aggregate-copy
-    from-requires
-    copy-requires
-    slice-aggregate-request-at
-    request-at-requires-2
-    returns-2)
+    (tie.spec from-requires read-u16-requires read-u64-requires read-u16-requires-2 returns)

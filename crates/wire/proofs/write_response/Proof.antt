@@ -5,9 +5,9 @@ use mathlib.Core.List.{List, _++_}
 use native.Mathlib.Omega.{arith}
 use lib.ListN.{length}
 use Rattle.wire.specs.declared.VirtioMemResp.{VirtioMemResp}
-use Rattle.wire.specs.Bytes.{littleEndian, put}
+use Rattle.little_endian.specs.Bytes.{littleEndian, put}
 use Rattle.wire.specs.Layout.{responseBytes}
-use Rattle.wire.proofs.Laws.{length-littleEndian, put-append, put-past}
+use Rattle.little_endian.proofs.Laws.{length-littleEndian, put-append, put-past}
 use borrow.Author.Needs.{needs}
 use Rattle.wire.proofs.write_response.Statement.{statement}
 use Rattle.wire.proofs.write_response.Tie as tie

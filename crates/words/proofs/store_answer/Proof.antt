@@ -4,7 +4,7 @@ use mathlib.Core.Path.{_≡_, sym, _∙_}
 use mathlib.Core.List.{List}
 use native.Mathlib.Omega.{arith}
 use lib.ListN.{length, getD, set, length-set}
-use Rattle.wire.specs.Bytes.{put}
+use Rattle.little_endian.specs.Bytes.{put}
 use Rattle.words.proofs.Laws.{put-next, put-none}
 use borrow.Author.Needs.{needs}
 use mir.Syntax.{w64}

@@ -1,7 +1,7 @@
 -- `words::tell` meets its contract: both ways write the words of the answer. Assumes nothing.
 use mathlib.Core.Path.{_≡_, ap, _∙_}
 use mathlib.Core.Logic.{⊎-elim}
-use Rattle.wire.specs.Bytes.{put}
+use Rattle.little_endian.specs.Bytes.{put}
 use borrow.Author.Needs.{needs}
 use Rattle.words.proofs.tell.Statement.{statement}
 use Rattle.words.proofs.tell.Tie as tie

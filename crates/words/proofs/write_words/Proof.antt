@@ -5,8 +5,8 @@ use mathlib.Core.Path.{_≡_, refl, sym, _∙_}
 use native.Mathlib.Omega.{arith}
 use borrow.Author.Needs.{needs}
 use lib.ListN.{length, drop, length-set}
-use Rattle.wire.specs.Bytes.{put}
-use Rattle.wire.proofs.Laws.{put-past}
+use Rattle.little_endian.specs.Bytes.{put}
+use Rattle.little_endian.proofs.Laws.{put-past}
 use Rattle.words.proofs.Laws.{put-next, put-none}
 use Rattle.words.proofs.write_words.Statement.{statement}
 use Rattle.words.proofs.write_words.Tie as tie

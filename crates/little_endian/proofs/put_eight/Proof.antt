@@ -1,8 +1,8 @@
 -- `put_eight` meets its contract: a number is written by its halves. Assumes nothing.
-use Rattle.wire.proofs.Laws.{put-halves}
+use Rattle.little_endian.proofs.Laws.{put-halves}
 use borrow.Author.Needs.{needs}
-use Rattle.wire.proofs.put_eight.Statement.{statement}
-use Rattle.wire.proofs.put_eight.Tie as tie
+use Rattle.little_endian.proofs.put_eight.Statement.{statement}
+use Rattle.little_endian.proofs.put_eight.Tie as tie
 
 put-four-requires : tie.Need-put-four-requires
 put-four-requires c κs = search needs

@@ -2,10 +2,10 @@
 use native.Mathlib.Omega.{arith}
 use native.Mathlib.Numerals.{add-one}
 use lib.ListN.{length-set}
-use Rattle.wire.specs.Bytes.{littleEndian, put}
+use Rattle.little_endian.specs.Bytes.{littleEndian, put}
 use borrow.Author.Needs.{needs}
-use Rattle.wire.proofs.put_two.Statement.{statement}
-use Rattle.wire.proofs.put_two.Tie as tie
+use Rattle.little_endian.proofs.put_two.Statement.{statement}
+use Rattle.little_endian.proofs.put_two.Tie as tie
 
 cast-bytes : tie.Need-cast-bytes
 cast-bytes c = search needs

@@ -5,11 +5,11 @@ use mathlib.Core.List.{List}
 use native.Mathlib.Omega.{arith}
 use lib.ListN.{length, drop, replicate, length-drop}
 use lib.Seq.{take-all}
-use Rattle.wire.specs.Bytes.{value, part, put}
-use Rattle.wire.proofs.Laws.{value-below, value-padded}
+use Rattle.little_endian.specs.Bytes.{value, part, put}
+use Rattle.little_endian.proofs.Laws.{value-below, value-padded}
 use borrow.Author.Needs.{needs}
-use Rattle.wire.proofs.read_cut.Statement.{statement}
-use Rattle.wire.proofs.read_cut.Tie as tie
+use Rattle.little_endian.proofs.read_cut.Statement.{statement}
+use Rattle.little_endian.proofs.read_cut.Tie as tie
 
 -- eight places hold all the bytes that are there, and so do the places of the number
 padded : (xs : List ℕ) (at w : ℕ) → w ≤ 8 → length xs < at + w

@@ -2,6 +2,7 @@
 -- The measure is what is left of the count. Assumes nothing.
 use Prim.Native.Nat.{ℕ, _+_, _-_, _≤_, _<_, min}
 use mathlib.Core.Path.{_≡_, refl, sym, _∙_}
+use mathlib.Core.Bool.{Bool, true, false}
 use mathlib.Core.List.{List}
 use native.Mathlib.Omega.{arith}
 use native.Mathlib.Numerals.{add-one}
@@ -9,22 +10,23 @@ use lib.Dec.{leb}
 use lib.ListN.{length, drop, getD, set, length-set, drop-of-length-le}
 use lib.Seq.{drop-cons}
 use borrow.Author.Tests.{leb-true, leb-false}
-use Rattle.units.proofs.Tests.{by-test}
-use Rattle.wire.specs.Bytes.{put}
-use Rattle.wire.proofs.Laws.{put-past}
+use Rattle.little_endian.specs.Bytes.{put}
+use Rattle.little_endian.proofs.Laws.{put-past}
 use borrow.Author.Needs.{needs}
-use Rattle.wire.proofs.copy.Statement.{statement}
-use Rattle.wire.proofs.copy.Tie as tie
+use Rattle.little_endian.proofs.copy.Statement.{statement}
+use Rattle.little_endian.proofs.copy.Tie as tie
 
 -- past the end of either no byte is written
 none : (xs : List ℕ) (i : ℕ) (ys : List ℕ) → min (length xs) (length ys) ≤ i → put xs i (drop i ys) ≡ xs
 unfolding put
-none xs i ys h =
-    by-test (leb (length xs) i) (λ t. put-past xs i (drop i ys) (leb-true (length xs) i t))
-    (λ t.
-    let k : i < length xs = leb-false (length xs) i t in
-    let l : length ys ≤ i = omega arith in
-    rw (drop-of-length-le ys l))
+none xs i ys h = ends (leb (length xs) i) refl
+  where
+    ends : (b : Bool) → leb (length xs) i ≡ b → put xs i (drop i ys) ≡ xs
+    ends true t = put-past xs i (drop i ys) (leb-true (length xs) i t)
+    ends false t =
+        let k : i < length xs = leb-false (length xs) i t in
+        let l : length ys ≤ i = omega arith in
+        rw (drop-of-length-le ys l)
 
 -- a turn writes the first byte of what is left
 turn : (xs : List ℕ) (i : ℕ) (ys : List ℕ) → i < length ys → put xs i (drop i ys) ≡ put (set xs i (getD ys i 0)) (i + 1) (drop (i + 1) ys)

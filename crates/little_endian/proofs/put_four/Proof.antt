@@ -1,8 +1,8 @@
 -- `put_four` meets its contract: a number is written by its halves. Assumes nothing.
-use Rattle.wire.proofs.Laws.{put-halves}
+use Rattle.little_endian.proofs.Laws.{put-halves}
 use borrow.Author.Needs.{needs}
-use Rattle.wire.proofs.put_four.Statement.{statement}
-use Rattle.wire.proofs.put_four.Tie as tie
+use Rattle.little_endian.proofs.put_four.Statement.{statement}
+use Rattle.little_endian.proofs.put_four.Tie as tie
 
 put-two-requires : tie.Need-put-two-requires
 put-two-requires c κs = search needs

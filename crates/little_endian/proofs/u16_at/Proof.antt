@@ -5,11 +5,11 @@ use mathlib.Core.List.{List}
 use native.Mathlib.Omega.{arith}
 use lib.ListN.{length, getD}
 use lib.Seq.{drop-cons}
-use Rattle.wire.specs.Bytes.{value, part}
-use Rattle.wire.proofs.Laws.{value-halves}
+use Rattle.little_endian.specs.Bytes.{value, part}
+use Rattle.little_endian.proofs.Laws.{value-halves}
 use borrow.Author.Needs.{needs}
-use Rattle.wire.proofs.u16_at.Statement.{statement}
-use Rattle.wire.proofs.u16_at.Tie as tie
+use Rattle.little_endian.proofs.u16_at.Statement.{statement}
+use Rattle.little_endian.proofs.u16_at.Tie as tie
 
 byte : (xs : List ℕ) (at : ℕ) → at < length xs → getD xs at 0 ≡ value (part xs at 1)
 unfolding value part

@@ -5,8 +5,8 @@ use native.Mathlib.Omega.{arith}
 use lib.ListN.{length, drop, length-drop, drop-of-length-le}
 use lib.Seq.{take-all}
 use borrow.Author.Needs.{needs}
-use Rattle.wire.proofs.from.Statement.{statement}
-use Rattle.wire.proofs.from.Tie as tie
+use Rattle.little_endian.proofs.from.Statement.{statement}
+use Rattle.little_endian.proofs.from.Tie as tie
 
 sub-result : tie.Need-sub-result
 sub-result c = search needs

@@ -7,10 +7,10 @@ use native.Mathlib.Omega.{arith}
 use native.Mathlib.Numerals.{add-one}
 use native.Mathlib.Nat.{suc-sub-suc, sub-zero}
 use lib.ListN.{length, set, length-set}
-use Rattle.wire.specs.Bytes.{littleEndian, put}
-use Rattle.wire.proofs.Laws.{put-past}
-use Rattle.wire.proofs.write_number.Statement.{statement}
-use Rattle.wire.proofs.write_number.Tie as tie
+use Rattle.little_endian.specs.Bytes.{littleEndian, put}
+use Rattle.little_endian.proofs.Laws.{put-past}
+use Rattle.little_endian.proofs.write_number.Statement.{statement}
+use Rattle.little_endian.proofs.write_number.Tie as tie
 
 -- no byte is left
 none : (xs : List ℕ) (i left v : ℕ) → left ≡ 0 → put xs i (littleEndian left v) ≡ xs
