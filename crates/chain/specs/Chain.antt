@@ -1,40 +1,19 @@
 -- The chain (01, "The chain"), sentence by sentence and test by test, over the bytes of guest memory and its base address.
-use Prim.Native.Nat.{ℕ, _+_, _-_, _^_}
-use mathlib.Core.Bool.{Bool, cond, not, _&&_}
+use Prim.Native.Nat.{ℕ, _-_}
+use mathlib.Core.Bool.{Bool, cond, not}
 use mathlib.Core.List.{List}
-use lib.Dec.{leb, ltb, eqb}
+use lib.Dec.{ltb, eqb}
 use lib.ListN.{length}
+use Rattle.little_endian.specs.Bytes.{put}
 use Rattle.wire.specs.declared.VirtioMemReq.{VirtioMemReq}
 use Rattle.wire.specs.declared.VirtioMemResp.{VirtioMemResp}
-use Rattle.little_endian.specs.Bytes.{put}
 use Rattle.wire.specs.Layout.{requestAt, responseBytes}
-use Rattle.chain.specs.declared.Place.{Place}
-use Rattle.chain.specs.declared.Place.the-variants.{At, Outside}
-use Rattle.chain.specs.declared.Descriptor.{Descriptor}
-use Rattle.chain.specs.declared.Link.{Link}
-use Rattle.chain.specs.declared.Link.the-variants.{Is, Missing}
+use Rattle.descriptors.specs.declared.Link.{Link}
+use Rattle.descriptors.specs.declared.Link.the-variants.{Is, Missing}
+use Rattle.descriptors.specs.Standard.{isWriteOnly, isIndirect}
+use Rattle.descriptors.specs.Descriptors.{inside, linkAt, linkAfter}
 use Rattle.chain.specs.declared.Parsed.{Parsed}
 use Rattle.chain.specs.declared.Parsed.the-variants.{Request, Bad}
-use Rattle.chain.specs.Standard.{descriptorAt, descriptorAddr, hasNext, isWriteOnly, isIndirect}
-
--- "Memory is one lent slice with a base address. .. No byte past 2^64 - 1 is inside": n bytes at addr, of len bytes at base
-unfoldable pub inside : ℕ → ℕ → ℕ → ℕ → Bool
-inside len base addr n = leb base addr && (leb (addr + n) (base + len) && leb (addr + n) (2 ^ 64))
-
--- where they lie in the slice
-unfoldable pub placeOf : ℕ → ℕ → ℕ → ℕ → Place
-placeOf len base addr n = cond (inside len base addr n) (At (addr - base)) Outside
-
--- "Missing: .. index 128 or more, or its 16 bytes not inside"
-unfoldable pub linkAt : List ℕ → ℕ → ℕ → ℕ → Link
-linkAt mem base table index =
-    cond (ltb index 128 && inside (length mem) base (descriptorAddr table index) 16)
-    (Is (descriptorAt mem (descriptorAddr table index - base)))
-    Missing
-
--- "Missing: no next flag, ..": the descriptor after a descriptor
-unfoldable pub linkAfter : List ℕ → ℕ → ℕ → Descriptor → Link
-linkAfter mem base table d = cond (hasNext d) (linkAt mem base table (d .next)) Missing
 
 -- ---- the reasons
 abbrev pub missing : Parsed

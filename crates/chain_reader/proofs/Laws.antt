@@ -3,10 +3,10 @@ use Prim.Native.Nat.{ℕ}
 use mathlib.Core.Path.{_≡_, refl}
 use mathlib.Core.List.{List}
 use Rattle.units.proofs.Tests.{by-test}
-use Rattle.chain.specs.declared.Link.{Link}
-use Rattle.chain.specs.declared.Link.the-variants.{Is, Missing}
-use Rattle.chain.specs.Standard.{hasNext}
-use Rattle.chain.specs.Chain.{linkAt, linkAfter}
+use Rattle.descriptors.specs.declared.Link.{Link}
+use Rattle.descriptors.specs.declared.Link.the-variants.{Is, Missing}
+use Rattle.descriptors.specs.Standard.{hasNext}
+use Rattle.descriptors.specs.Descriptors.{linkAt, linkAfter}
 use Rattle.chain_reader.specs.Reader.{indexAfter, linkBehind}
 
 -- the descriptor at the index after a link is the descriptor behind it, and there is none at 128

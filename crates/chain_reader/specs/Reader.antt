@@ -2,10 +2,10 @@
 use Prim.Native.Nat.{ℕ}
 use mathlib.Core.Bool.{cond}
 use mathlib.Core.List.{List}
-use Rattle.chain.specs.declared.Link.{Link}
-use Rattle.chain.specs.declared.Link.the-variants.{Is, Missing}
-use Rattle.chain.specs.Standard.{hasNext}
-use Rattle.chain.specs.Chain.{linkAt, linkAfter}
+use Rattle.descriptors.specs.declared.Link.{Link}
+use Rattle.descriptors.specs.declared.Link.the-variants.{Is, Missing}
+use Rattle.descriptors.specs.Standard.{hasNext}
+use Rattle.descriptors.specs.Descriptors.{linkAt, linkAfter}
 
 -- "index 128 or more" is missing: past the end a reader stands at 128
 unfoldable pub indexAfter : Link → ℕ

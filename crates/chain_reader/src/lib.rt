@@ -1,12 +1,13 @@
 // A chain reader, which holds the guest memory that it walks. Each function is thin: it takes the reader apart and calls a function
 // of `chain` on plain values.
-use chain::Link;
 use chain::Parsed;
-use chain::link_at;
 use chain::parse;
+use descriptors::Link;
+use descriptors::link_at;
 use units::GuestAddr;
 ghost use mathlib.Core.Path.{_≡_};
-ghost use Rattle.chain.specs.Chain.{linkAt, parsed};
+ghost use Rattle.descriptors.specs.Descriptors.{linkAt};
+ghost use Rattle.chain.specs.Chain.{parsed};
 ghost use Rattle.chain_reader.specs.Reader.{indexAfter, secondLink};
 
 // An index at which no descriptor is.

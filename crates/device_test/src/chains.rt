@@ -7,11 +7,11 @@ use super::show::number;
 use super::show::print;
 use super::show::wide;
 use super::show::word;
-use chain::Link;
 use chain::Parsed;
-use chain::Place;
 use chain_reader::parse_chain;
 use chain_reader::second_link;
+use descriptors::Link;
+use descriptors::Place;
 use little_endian::write_u16;
 use little_endian::write_u32;
 use little_endian::write_u64;
@@ -64,7 +64,7 @@ fn parse(name: &[u8], mem: &[u8], base: u64, table: u64, head: u64) {
 // Where `size` bytes lie in the memory.
 fn place(name: &[u8], mem: &[u8], base: u64, addr: u64, size: u64) {
     word(name);
-    let Place::At(at) = chain::place_of(mem, GuestAddr(base), GuestAddr(addr), size) else {
+    let Place::At(at) = descriptors::place_of(mem, GuestAddr(base), GuestAddr(addr), size) else {
         word(b": outside\n");
         return;
     };

@@ -8,8 +8,9 @@ use Rattle.units.specs.Numbers.{mapRegions}
 use Rattle.bitmap.specs.Blocks.{every, fill, firstSet}
 use Rattle.little_endian.specs.Bytes.{value, littleEndian, part, put}
 use Rattle.wire.specs.Layout.{requestAt, responseBytes}
-use Rattle.chain.specs.Standard.{virtqDesc, descriptorAt, descriptorAddr}
-use Rattle.chain.specs.Chain.{inside, linkAt, linkAfter, withSecond, withFirst, parsed, reaches, delivered}
+use Rattle.descriptors.specs.Standard.{virtqDesc, descriptorAt, descriptorAddr}
+use Rattle.descriptors.specs.Descriptors.{inside, linkAt, linkAfter}
+use Rattle.chain.specs.Chain.{withSecond, withFirst, parsed, reaches, delivered}
 use Rattle.rows.specs.Rows.{mappingOf, fillRows, laid}
 use Rattle.record.specs.declared.Device.{Device}
 use Rattle.record.specs.declared.Pending.the-variants.{Nothing}

@@ -9,7 +9,8 @@ use Rattle.units.specs.Numbers.{twos, alignmentOf, roundUp, capacityOf, mapRegi
 use Rattle.bitmap.specs.Blocks.{every}
 use Rattle.rows.specs.declared.MapRow.{MapRow}
 use Rattle.rows.specs.Rows.{mappingOf, unmappedFrom}
-use Rattle.chain.specs.Chain.{inside, reaches}
+use Rattle.descriptors.specs.Descriptors.{inside}
+use Rattle.chain.specs.Chain.{reaches}
 use Rattle.record.specs.declared.Device.{Device}
 use Rattle.record.specs.declared.Pending.{Pending}
 use Rattle.record.specs.declared.Pending.the-variants.{Nothing, Create, Discard, DiscardOne}

@@ -17,12 +17,13 @@ use Rattle.wire.specs.Standard.{virtioMemReq}
 use Rattle.little_endian.proofs.Laws.{length-put, part-put, part-put-inside, part-put-before}
 use Rattle.wire.proofs.Laws.{request-part}
 use Rattle.wire.proofs.Standard.{request as request-laid}
-use Rattle.chain.specs.declared.Descriptor.{Descriptor}
-use Rattle.chain.specs.declared.Link.the-variants.{Is}
+use Rattle.descriptors.specs.declared.Descriptor.{Descriptor}
+use Rattle.descriptors.specs.declared.Link.the-variants.{Is}
 use Rattle.chain.specs.declared.Parsed.the-variants.{Request as Got}
-use Rattle.chain.specs.Standard.{virtqDesc, descriptorAddr}
-use Rattle.chain.specs.Chain.{inside, linkAt, linkAfter, withSecond, withFirst, parsed}
-use Rattle.chain.proofs.Standard.{descriptor-laid}
+use Rattle.descriptors.specs.Standard.{virtqDesc, descriptorAddr}
+use Rattle.descriptors.specs.Descriptors.{inside, linkAt, linkAfter}
+use Rattle.chain.specs.Chain.{withSecond, withFirst, parsed}
+use Rattle.descriptors.proofs.Standard.{descriptor-laid}
 use Rattle.record.specs.declared.Pending.{Pending}
 use Rattle.record.specs.declared.Pending.the-variants.{Nothing, Create, Discard, DiscardOne}
 use Rattle.resize.specs.declared.Growth.{Growth}

@@ -1,7 +1,7 @@
 -- `chain::deliver` meets its contract: the response is put where its 10 bytes are placed, and nothing is where they are not.
 use borrow.Author.Needs.{needs}
 use Rattle.chain.specs.Chain.{reaches, delivered}
-use Rattle.chain.proofs.Laws.{place-found, place-outside}
+use Rattle.descriptors.proofs.Laws.{place-found, place-outside}
 use Rattle.chain.proofs.deliver.Statement.{statement}
 use Rattle.chain.proofs.deliver.Tie as tie
 

@@ -1,6 +1,6 @@
 -- `chain::with_first` meets its contract: each return is the leaf of `withFirst` at the tests that led there.
 use Rattle.chain.specs.Chain.{withFirst}
-use Rattle.chain.proofs.Laws.{place-found, place-outside}
+use Rattle.descriptors.proofs.Laws.{place-found, place-outside}
 use borrow.Author.Needs.{needs}
 use Rattle.chain.proofs.with_first.Statement.{statement}
 use Rattle.chain.proofs.with_first.Tie as tie

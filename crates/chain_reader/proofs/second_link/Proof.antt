@@ -35,7 +35,7 @@ use denote.Triple.Table.{entered, cited}
 use denote.Triple.Walked.{says, Stays, stay-none, stay-none-slice, walkOf, goes-none, goes-none-slice, Walks, ends-at, walked, walk-meets}
 use denote.Exit.{yes}
 use denote.Triple.Clauses.{ensured, lasts}
-use Rattle.chain.specs.Chain.{linkAt}
+use Rattle.descriptors.specs.Descriptors.{linkAt}
 use Rattle.chain_reader.specs.Reader.{indexAfter, secondLink}
 use Rattle.chain_reader.proofs.Laws.{link-behind}
 use Rattle.units.specs.declared.GuestAddr.{GuestAddr}
@@ -43,11 +43,11 @@ use Rattle.units.proofs.GuestAddr as G
 use Rattle.units.proofs.GuestAddr.Laws as G′
 use Rattle.chain_reader.specs.declared.ChainReader.{ChainReader}
 use Rattle.chain_reader.proofs.Walk.{gval, gvals, sval, B, fields, fvals, lent, passes}
-use Rattle.chain.specs.declared.Link.{Link}
+use Rattle.descriptors.specs.declared.Link.{Link}
 use Rattle.chain_reader.proofs.ChainReader as T
 use Rattle.chain_reader.proofs.ChainReader.Laws as T′
-use Rattle.chain.proofs.Link as S
-use Rattle.chain.proofs.Link.Laws as S′
+use Rattle.descriptors.proofs.Link as S
+use Rattle.descriptors.proofs.Link.Laws as S′
 use Rattle.chain_reader.proofs.ChainReader.new as new
 use Rattle.chain_reader.proofs.ChainReader.new.Symbol as new-def
 use Rattle.chain_reader.proofs.ChainReader.new.Symbol.{name as #new}

@@ -37,7 +37,7 @@ use denote.Triple.Table.{entered, cited}
 use denote.Triple.Walked.{says, Stays, stay-none, walkOf, goes-none, Walks, ends-at, walked, walk-meets}
 use denote.Exit.{yes}
 use denote.Triple.Clauses.{ensured, lasts}
-use Rattle.chain.specs.Chain.{linkAt}
+use Rattle.descriptors.specs.Descriptors.{linkAt}
 use Rattle.chain_reader.specs.Reader.{indexAfter}
 use Rattle.chain_reader.specs.declared.ChainReader.{ChainReader}
 use Rattle.chain_reader.proofs.Walk.{B, D, L, Own, rval, parts, fvals, twice, apart}

@@ -34,18 +34,18 @@ use denote.Triple.Table.{entered, cited}
 use denote.Triple.Walked.{says, Stays, stay-none, walkOf, goes-none, Walks, ends-at, walked, walk-meets}
 use denote.Exit.{yes}
 use denote.Triple.Clauses.{ensured, lasts}
-use Rattle.chain.specs.Chain.{linkAt}
+use Rattle.descriptors.specs.Descriptors.{linkAt}
 use Rattle.chain_reader.specs.declared.ChainReader.{ChainReader}
-use Rattle.chain.specs.declared.Link.{Link}
+use Rattle.descriptors.specs.declared.Link.{Link}
 use Rattle.chain_reader.proofs.Walk.{B, Own, rval, parts, fvals, apart}
 use Rattle.chain_reader.proofs.ChainReader as T
 use Rattle.chain_reader.proofs.ChainReader.Laws as T′
-use Rattle.chain.proofs.Link as S
-use Rattle.chain.proofs.Link.Laws as S′
-use Rattle.chain.proofs.link_at as g
-use Rattle.chain.proofs.link_at.Symbol as g-def
-use Rattle.chain.proofs.link_at.Symbol.{name as #g}
-use Rattle.chain.proofs.link_at.Met as g-thm
+use Rattle.descriptors.proofs.Link as S
+use Rattle.descriptors.proofs.Link.Laws as S′
+use Rattle.descriptors.proofs.link_at as g
+use Rattle.descriptors.proofs.link_at.Symbol as g-def
+use Rattle.descriptors.proofs.link_at.Symbol.{name as #g}
+use Rattle.descriptors.proofs.link_at.Met as g-thm
 use Rattle.chain_reader.proofs.ChainReader.current.Key.{name as #f}
 use Rattle.chain_reader.proofs.ChainReader.current as f
 use Rattle.chain_reader.proofs.ChainReader.current.Statement as stated

@@ -1,4 +1,4 @@
--- `chain::place_of` meets its contract: at or past the base, the two flags of the second test are those of `inside`.
+-- `descriptors::place_of` meets its contract: at or past the base, the two flags of the second test are those of `inside`.
 use Prim.Native.Nat.{ℕ, _+_, _-_, _≤_}
 use mathlib.Core.Path.{_≡_}
 use mathlib.Core.Bool.{_&&_}
@@ -9,9 +9,9 @@ use lib.Dec.{leb}
 use lib.ListN.{length}
 use denote.Ref.{now}
 use Rattle.units.proofs.Tests.{leb-same}
-use Rattle.chain.specs.Chain.{inside, placeOf}
-use Rattle.chain.proofs.place_of.Statement.{statement}
-use Rattle.chain.proofs.place_of.Tie as tie
+use Rattle.descriptors.specs.Descriptors.{inside, placeOf}
+use Rattle.descriptors.proofs.place_of.Statement.{statement}
+use Rattle.descriptors.proofs.place_of.Tie as tie
 
 -- the end counted from the base, and counted from 0
 end-same : (len base addr n : ℕ) → base ≤ addr → leb (addr - base + n) len ≡ leb (addr + n) (base + len)

@@ -1,12 +1,12 @@
--- `chain::ends_below` meets its contract: no bytes end at the address, which is below 2^64; of more, the last one's address is tested.
+-- `descriptors::ends_below` meets its contract: no bytes end at the address, which is below 2^64; of more, the last one's address is tested.
 use Prim.Native.Nat.{_+_, _-_, _^_}
 use mathlib.Core.Path.{sym}
 use native.Mathlib.Omega.{arith}
 use borrow.Author.Needs.{needs}
 use borrow.Author.Tests.{le-leb}
 use Rattle.units.proofs.Tests.{leb-same}
-use Rattle.chain.proofs.ends_below.Statement.{statement}
-use Rattle.chain.proofs.ends_below.Tie as tie
+use Rattle.descriptors.proofs.ends_below.Statement.{statement}
+use Rattle.descriptors.proofs.ends_below.Tie as tie
 
 returns : tie.Need-returns
 returns c = let a = c .before .args in sym (omega (arith, le-leb))

@@ -1,8 +1,8 @@
--- `chain::link_after` meets its contract: with the next flag it is the descriptor at `next`, and without it there is none.
+-- `descriptors::link_after` meets its contract: with the next flag it is the descriptor at `next`, and without it there is none.
 use borrow.Author.Needs.{needs}
-use Rattle.chain.specs.Chain.{linkAfter}
-use Rattle.chain.proofs.link_after.Statement.{statement}
-use Rattle.chain.proofs.link_after.Tie as tie
+use Rattle.descriptors.specs.Descriptors.{linkAfter}
+use Rattle.descriptors.proofs.link_after.Statement.{statement}
+use Rattle.descriptors.proofs.link_after.Tie as tie
 
 has-next-requires : tie.Need-has-next-requires
 has-next-requires c κs = search needs

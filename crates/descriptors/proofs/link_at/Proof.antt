@@ -1,4 +1,4 @@
--- `chain::link_at` meets its contract: an index below 128 whose 16 bytes would pass 2^64 - 1, or are not placed, is missing.
+-- `descriptors::link_at` meets its contract: an index below 128 whose 16 bytes would pass 2^64 - 1, or are not placed, is missing.
 use Prim.Native.Nat.{_+_, _*_}
 use native.Mathlib.Omega.{arith}
 use borrow.Author.Needs.{needs}
@@ -6,11 +6,11 @@ use borrow.Author.Tests.{le-ltb, lt-ltb, leb-true, leb-false}
 use denote.Ref.{now}
 use lib.ListN.{length}
 use Rattle.units.proofs.Tests.{refused, passed}
-use Rattle.chain.specs.Standard.{descriptorAddr}
-use Rattle.chain.specs.Chain.{linkAt}
-use Rattle.chain.proofs.Laws.{past-last, Found, place-found, place-outside}
-use Rattle.chain.proofs.link_at.Statement.{statement}
-use Rattle.chain.proofs.link_at.Tie as tie
+use Rattle.descriptors.specs.Standard.{descriptorAddr}
+use Rattle.descriptors.specs.Descriptors.{linkAt}
+use Rattle.descriptors.proofs.Laws.{past-last, Found, place-found, place-outside}
+use Rattle.descriptors.proofs.link_at.Statement.{statement}
+use Rattle.descriptors.proofs.link_at.Tie as tie
 
 returns : tie.Need-returns
 unfolding linkAt

@@ -1,8 +1,8 @@
--- `chain::descriptor_at` meets its contract: each field is what is read at its offset.
+-- `descriptors::descriptor_at` meets its contract: each field is what is read at its offset.
 use borrow.Author.Needs.{needs}
-use Rattle.chain.specs.Standard.{descriptorAt}
-use Rattle.chain.proofs.descriptor_at.Statement.{statement}
-use Rattle.chain.proofs.descriptor_at.Tie as tie
+use Rattle.descriptors.specs.Standard.{descriptorAt}
+use Rattle.descriptors.proofs.descriptor_at.Statement.{statement}
+use Rattle.descriptors.proofs.descriptor_at.Tie as tie
 
 read-u64-requires : tie.Need-read-u64-requires
 read-u64-requires c κs = search needs

@@ -4,9 +4,9 @@ use mathlib.Core.Path.{_≡_, ap, _∙_}
 use mathlib.Core.List.{List}
 use Rattle.little_endian.specs.Bytes.{littleEndian, part}
 use Rattle.little_endian.proofs.Laws.{value-fits}
-use Rattle.chain.specs.declared.Descriptor.{Descriptor}
-use Rattle.chain.specs.Standard.{virtqDesc, descriptorAt}
-use Rattle.chain.proofs.Laws.{descriptor-part}
+use Rattle.descriptors.specs.declared.Descriptor.{Descriptor}
+use Rattle.descriptors.specs.Standard.{virtqDesc, descriptorAt}
+use Rattle.descriptors.proofs.Laws.{descriptor-part}
 
 -- le64, le32, le16 and le16 hold it
 pub record Fits (d : Descriptor) : Type 0 where

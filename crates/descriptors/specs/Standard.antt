@@ -4,7 +4,7 @@ use mathlib.Core.Bool.{Bool}
 use mathlib.Core.List.{List, _++_}
 use lib.Dec.{eqb}
 use Rattle.little_endian.specs.Bytes.{value, littleEndian, part}
-use Rattle.chain.specs.declared.Descriptor.{Descriptor}
+use Rattle.descriptors.specs.declared.Descriptor.{Descriptor}
 
 -- struct virtq_desc { le64 addr; le32 len; le16 flags; le16 next; }
 unfoldable pub virtqDesc : ℕ → ℕ → ℕ → ℕ → List ℕ
