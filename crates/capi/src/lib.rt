@@ -1,5 +1,7 @@
 // SPDX-License-Identifier: Apache-2.0 AND BSD-3-Clause
 // The static library: each call of the device for C and Rust, the record as words. Words that are no record are refused with 12.
+use answer_words::number_of;
+use answer_words::tell;
 use device::host_answer;
 use device::read_config;
 use device::write_config;
@@ -16,8 +18,6 @@ use words::Decoded;
 use words::RECORD_WORDS;
 use words::decode;
 use words::encode;
-use words::number_of;
-use words::tell;
 ghost use mathlib.Core.Path.{_≡_};
 ghost use mathlib.Core.List.{[]};
 ghost use Rattle.bitmap.specs.Blocks.{blocks};

@@ -24,7 +24,8 @@ use Rattle.trace_text.specs.declared.FirstLine.{FirstLine}
 use Rattle.trace_text.specs.declared.Op.{Op}
 use Rattle.trace_text.specs.declared.Line.{Line}
 use Rattle.trace_text.specs.declared.Line.the-variants.{First, Later, Bad}
-use Rattle.trace_text.specs.Lines.{Reads, refusalText}
+use Rattle.answer_text.specs.Texts.{refusalText}
+use Rattle.trace_text.specs.Lines.{Reads}
 use Rattle.trace_step.specs.Trace.{callOf, bytesAfter, textOf}
 use Rattle.trace_run.specs.declared.Run.{Run}
 use Rattle.trace_run.specs.declared.Run.the-variants.{Before, On, Ended}

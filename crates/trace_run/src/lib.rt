@@ -1,4 +1,5 @@
 // A run of a trace, a line at a time: the first makes the device and places it, and each later one is an op on it.
+use answer_text::put_refusal;
 use making::Made;
 use making::Mem;
 use making::Node;
@@ -12,7 +13,6 @@ use trace_step::put_answer;
 use trace_text::FirstLine;
 use trace_text::Line;
 use trace_text::Op;
-use trace_text::put_refusal;
 use trace_text::read_line;
 use units::map_regions;
 ghost use mathlib.Core.Path.{_≡_};
@@ -21,7 +21,7 @@ ghost use Prim.Native.Nat.{_+_, _≤_};
 ghost use lib.ListN.{length, take};
 ghost use Rattle.record.specs.Shape.{shapedOf};
 ghost use Rattle.making.specs.declared.Made.the-variants as made;
-ghost use Rattle.trace_text.specs.Lines.{refusalText};
+ghost use Rattle.answer_text.specs.Texts.{refusalText};
 ghost use Rattle.trace_step.specs.Trace.{textOf};
 ghost use Rattle.trace_run.specs.Run.{lentOf, nodeOf, countedFrom, placedAs, begunOn, begun, goneOn, turn, Prints, Comes, Serves, SlotFits};
 

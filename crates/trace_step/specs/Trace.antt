@@ -14,7 +14,7 @@ use Rattle.step.specs.World.{World, Call, SetRequestedSize, Request, HostAnswer
 use Rattle.step.specs.Step.{step}
 use Rattle.trace_text.specs.declared.Op.{Op}
 use Rattle.trace_text.specs.declared.Op.the-variants.{Host, Plug, Unplug, State, UnplugAll, Size}
-use Rattle.trace_text.specs.Lines.{createText, discardText, sizedText, responseText, refusalText}
+use Rattle.answer_text.specs.Texts.{createText, discardText, sizedText, responseText, refusalText}
 
 -- the guest's chain, in memory that starts at guest address 0: descriptor 0 names the request, 24 bytes at 64, and goes on with descriptor 1, which names 10 writable bytes at 96
 unfoldable pub chained : List ℕ → List ℕ

@@ -1,4 +1,9 @@
 // One line of a trace on the device: ops go through real chains in a guest memory, and answers come back as house lines.
+use answer_text::put_create;
+use answer_text::put_discard;
+use answer_text::put_refusal;
+use answer_text::put_response;
+use answer_text::put_sized;
 use device::host_answer;
 use little_endian::read_u16;
 use little_endian::write_u16;
@@ -11,11 +16,6 @@ use serving::request;
 use step::Answer;
 use step::Answered;
 use trace_text::Op;
-use trace_text::put_create;
-use trace_text::put_discard;
-use trace_text::put_refusal;
-use trace_text::put_response;
-use trace_text::put_sized;
 use units::GuestAddr;
 ghost use mathlib.Core.Path.{_≡_};
 ghost use Rattle.text.specs.Putting.{Put};

@@ -1,4 +1,4 @@
--- Lines of 01's whole example, by computation.
+-- A line of 01's whole example, by computation.
 use mathlib.Core.Path.{_≡_}
 use lib.Dec.{lit<}
 use Rattle.text.specs.Words.{bytes}
@@ -7,12 +7,8 @@ use Rattle.text.proofs.Laws.{decimal-20}
 use Rattle.forms.specs.Forms.{filledFrom}
 use Rattle.trace_text.specs.declared.Op.the-variants.{Plug}
 use Rattle.trace_text.specs.declared.Line.the-variants.{Later}
-use Rattle.trace_text.specs.Lines.{textOf, sizedText}
+use Rattle.trace_text.specs.Lines.{textOf}
 
 plug : textOf (Later (Plug (record { 0 = 4294967296 }) 2)) ≡ bytes "op=plug addr=4294967296 blocks=2"
 unfolding spell filledFrom
 plug = rw (decimal-20 4294967296 (lit< tt), decimal-20 2 (lit< tt))
-
-sized : sizedText 16777216 268435456 ≡ bytes "sized=0 requested=16777216 usable=268435456"
-unfolding spell filledFrom
-sized = rw (decimal-20 16777216 (lit< tt), decimal-20 268435456 (lit< tt))

@@ -5,9 +5,6 @@ use mathlib.Core.Bool.{Bool, true, false}
 use mathlib.Core.List.{List, [], _∷_}
 use mathlib.Core.Logic.{_⊎_}
 use lib.ListN.{length}
-use Rattle.units.specs.declared.GuestAddr.{GuestAddr}
-use Rattle.units.specs.declared.HostAddr.{HostAddr}
-use Rattle.units.specs.declared.RegionOffset.{RegionOffset}
 use Rattle.text.specs.Words.{bytes}
 use Rattle.text.specs.Decimal.{largest}
 use Rattle.forms.specs.Forms.{filled}
@@ -85,25 +82,3 @@ pub record Text (line : Line) (s : List ℕ) : Type 0 where
 pub record Reads (s : List ℕ) (r : Line) : Type 0 where
   pub whole : (line : Line) → Text line s → r ≡ line
   pub only : (r ≡ Bad) ⊎ Text r s
-
--- ---- output
-
--- the question for a creation: `want=create guest=4294967296 size=268435456 slot=1`
-abbrev pub createText : GuestAddr → ℕ → ℕ → List ℕ
-createText guest size slot = filled (bytes "want=create guest=# size=# slot=#") (guest .0 ∷ size ∷ slot ∷ [])
-
--- the question for a discard: `want=discard offset=0 size=4194304 host=140737488355328`
-abbrev pub discardText : RegionOffset → ℕ → HostAddr → List ℕ
-discardText offset size host = filled (bytes "want=discard offset=# size=# host=#") (offset .0 ∷ size ∷ host .0 ∷ [])
-
--- a size change that is done, 0: `sized=0 requested=16777216 usable=268435456`
-abbrev pub sizedText : ℕ → ℕ → List ℕ
-sizedText requested usable = filled (bytes "sized=0 requested=# usable=#") (requested ∷ usable ∷ [])
-
--- a response: `resp=0 state=2 plugged=8388608 usable=268435456`
-abbrev pub responseText : ℕ → ℕ → ℕ → ℕ → List ℕ
-responseText resp state plugged usable = filled (bytes "resp=# state=# plugged=# usable=#") (resp ∷ state ∷ plugged ∷ usable ∷ [])
-
--- "A refusal, 10 too, prints `refuse=N`"
-abbrev pub refusalText : ℕ → List ℕ
-refusalText number = filled (bytes "refuse=#") (number ∷ [])

@@ -1,10 +1,8 @@
-// Trace lines: house lines to values, and answers to house lines. Each line is defined by its text, in specs/Lines.antt.
+// Trace lines: house lines to values. Each line is defined by its text, in specs/Lines.antt.
 use units::GuestAddr;
 use units::HostAddr;
-use units::RegionOffset;
 ghost use mathlib.Core.Path.{_≡_};
-ghost use Rattle.text.specs.Putting.{Put};
-ghost use Rattle.trace_text.specs.Lines.{Reads, createText, discardText, sizedText, responseText, refusalText};
+ghost use Rattle.trace_text.specs.Lines.{Reads};
 ghost use Rattle.trace_text.specs.Reading.{firstLineOf, onRange, madeOf, kindOf, earlier};
 
 // The node of the first line.
@@ -188,49 +186,4 @@ pub fn read_line(s: &[u8]) -> Line
     let size = of_kind(s, b"op=size mib=#", Kind::Size);
     let requests = first(plug, first(unplug, first(state, first(unplug_all, size))));
     first(numbered, first(none, first(host, requests)))
-}
-
-// Each function below puts the text of an answer at the start of a buffer. It answers the length of the text, and one more
-// than the buffer's where there is no room for it; 200 bytes are room enough.
-
-pub fn put_create(out: &mut [u8], guest: GuestAddr, size: u64, slot: u64) -> usize
-    ensures { λ r. ⌜ Put (now (out .entry)) 0 (createText guest size slot) (now (out .exit)) r ⌝ }
-{
-    forms::put_form(
-        out,
-        b"want=create guest=# size=# slot=#",
-        &[guest.0, size, slot],
-    )
-}
-
-pub fn put_discard(out: &mut [u8], offset: RegionOffset, size: u64, host: HostAddr) -> usize
-    ensures { λ r. ⌜ Put (now (out .entry)) 0 (discardText offset size host) (now (out .exit)) r ⌝ }
-{
-    forms::put_form(
-        out,
-        b"want=discard offset=# size=# host=#",
-        &[offset.0, size, host.0],
-    )
-}
-
-pub fn put_sized(out: &mut [u8], requested: u64, usable: u64) -> usize
-    ensures { λ r. ⌜ Put (now (out .entry)) 0 (sizedText requested usable) (now (out .exit)) r ⌝ }
-{
-    forms::put_form(out, b"sized=0 requested=# usable=#", &[requested, usable])
-}
-
-pub fn put_response(out: &mut [u8], resp: u16, state: u16, plugged: u64, usable: u64) -> usize
-    ensures { λ r. ⌜ Put (now (out .entry)) 0 (responseText resp state plugged usable) (now (out .exit)) r ⌝ }
-{
-    forms::put_form(
-        out,
-        b"resp=# state=# plugged=# usable=#",
-        &[resp as u64, state as u64, plugged, usable],
-    )
-}
-
-pub fn put_refusal(out: &mut [u8], number: u64) -> usize
-    ensures { λ r. ⌜ Put (now (out .entry)) 0 (refusalText number) (now (out .exit)) r ⌝ }
-{
-    forms::put_form(out, b"refuse=#", &[number])
 }

@@ -87,19 +87,19 @@ fn print(out: &[u8], n: usize) {
 // Each answer's length, and its text in a buffer of dots.
 fn answers() {
     let mut out = [46u8; 96];
-    let n = trace_text::put_create(&mut out, GuestAddr(4294967296), 268435456, 1);
+    let n = answer_text::put_create(&mut out, GuestAddr(4294967296), 268435456, 1);
     print(&out, n);
     let mut out = [46u8; 96];
-    let n = trace_text::put_sized(&mut out, 16777216, 268435456);
+    let n = answer_text::put_sized(&mut out, 16777216, 268435456);
     print(&out, n);
     let mut out = [46u8; 96];
-    let n = trace_text::put_response(&mut out, 0, 0, 8388608, 268435456);
+    let n = answer_text::put_response(&mut out, 0, 0, 8388608, 268435456);
     print(&out, n);
     let mut out = [46u8; 96];
-    let n = trace_text::put_response(&mut out, 3, 2, 0, 0);
+    let n = answer_text::put_response(&mut out, 3, 2, 0, 0);
     print(&out, n);
     let mut out = [46u8; 96];
-    let n = trace_text::put_discard(
+    let n = answer_text::put_discard(
         &mut out,
         RegionOffset(4194304),
         4194304,
@@ -107,10 +107,10 @@ fn answers() {
     );
     print(&out, n);
     let mut out = [46u8; 96];
-    let n = trace_text::put_refusal(&mut out, 13);
+    let n = answer_text::put_refusal(&mut out, 13);
     print(&out, n);
     let mut out = [46u8; 96];
-    let n = trace_text::put_create(
+    let n = answer_text::put_create(
         &mut out,
         GuestAddr(18446744073709551615),
         18446744073709551615,
@@ -122,13 +122,13 @@ fn answers() {
 // Buffers of the length of `refuse=13`, one more and one less: what has no room is left out, and the length says so.
 fn rooms() {
     let mut same = [46u8; 9];
-    let n = trace_text::put_refusal(&mut same, 13);
+    let n = answer_text::put_refusal(&mut same, 13);
     print(&same, n);
     let mut more = [46u8; 10];
-    let m = trace_text::put_refusal(&mut more, 13);
+    let m = answer_text::put_refusal(&mut more, 13);
     print(&more, m);
     let mut less = [46u8; 8];
-    let k = trace_text::put_refusal(&mut less, 13);
+    let k = answer_text::put_refusal(&mut less, 13);
     print(&less, k);
 }
 

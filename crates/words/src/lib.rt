@@ -1,9 +1,7 @@
 // SPDX-License-Identifier: Apache-2.0 AND BSD-3-Clause
-// The record and the answers as words, for callers that have no enums: what is no encoding of a record is told apart from one.
+// The record as words, for callers that have no enums: what is no encoding of a record is told apart from one.
 use record::Device;
-use record::HostCall;
 use record::Pending;
-use step::Answer;
 use units::GuestAddr;
 use wire::VirtioMemConfig;
 ghost use mathlib.Core.Path.{_≡_};
@@ -12,13 +10,9 @@ ghost use lib.ListN.{length};
 ghost use Rattle.little_endian.specs.Bytes.{put};
 ghost use Rattle.words.specs.declared.Decoded.the-variants.{Is};
 ghost use Rattle.words.specs.Record.{bit, callOf, decodedOf, wordsOf, pendingWords};
-ghost use Rattle.words.specs.Answers.{answerWords, questionWords, numberOf};
 
 // A record's length in words.
 pub const RECORD_WORDS: usize = 15;
-
-// An answer's length in words.
-pub const ANSWER_WORDS: usize = 9;
 
 // What words mean.
 pub enum Decoded {
@@ -120,7 +114,7 @@ pub fn decode(words: &[u64]) -> Decoded
 }
 
 // `what` from the first word on; none past the end.
-fn write_words(words: &mut [u64], what: &[u64])
+pub fn write_words(words: &mut [u64], what: &[u64])
     ensures { λ _. ⌜ now (words .exit) ≡ put (now (words .entry)) 0 (now (what .entry)) ⌝ }
 {
     let mut i = 0;
@@ -174,78 +168,4 @@ pub fn encode(d: Device, words: &mut [u64])
         pending[3],
     ];
     write_words(words, &all);
-}
-
-// What the host is asked, as the words of an answer.
-fn question_words(call: HostCall) -> [u64; ANSWER_WORDS]
-    ensures { λ r. ⌜ r ≡ questionWords call ⌝ }
-{
-    match call {
-        HostCall::Create { guest, size, slot } => [1, 0, guest.0, size, slot, 0, 0, 0, 0],
-        HostCall::Discard { offset, size, host } => [2, 0, offset.0, size, host.0, 0, 0, 0, 0],
-    }
-}
-
-// An answer as words.
-fn answer_words(answer: Answer) -> [u64; ANSWER_WORDS]
-    ensures { λ r. ⌜ r ≡ answerWords answer ⌝ }
-{
-    match answer {
-        Answer::Refused(number) => [0, number, 0, 0, 0, 0, 0, 0, 0],
-        Answer::Wants(call) => question_words(call),
-        Answer::Sized => [3, 0, 0, 0, 0, 0, 0, 0, 0],
-        Answer::Unserved(reason) => [4, 0, 0, 0, 0, 0, 0, 0, reason],
-        Answer::Served(resp, length) => {
-            [
-                5,
-                0,
-                0,
-                0,
-                0,
-                resp.resp_type as u64,
-                resp.state as u64,
-                length as u64,
-                0,
-            ]
-        }
-        Answer::Done => [6, 0, 0, 0, 0, 0, 0, 0, 0],
-    }
-}
-
-// 01's number of an answer: 0 unless it is refused.
-pub fn number_of(answer: Answer) -> u64
-    ensures { λ r. ⌜ r ≡ numberOf answer ⌝ }
-{
-    let all = answer_words(answer);
-    all[1]
-}
-
-// The words of an answer, each stored at once, where there is room for all.
-fn store_answer(words: &mut [u64], all: [u64; ANSWER_WORDS])
-    requires { ⌜ 9 ≤ length (now words) ⌝ }
-    ensures { λ _. ⌜ now (words .exit) ≡ put (now (words .entry)) 0 all ⌝ }
-{
-    words[0] = all[0];
-    words[1] = all[1];
-    words[2] = all[2];
-    words[3] = all[3];
-    words[4] = all[4];
-    words[5] = all[5];
-    words[6] = all[6];
-    words[7] = all[7];
-    words[8] = all[8];
-}
-
-// Writes an answer as words, none past the end, and tells its number.
-pub fn tell(answer: Answer, words: &mut [u64]) -> u64
-    ensures { λ r. ⌜ r ≡ numberOf answer ⌝ }
-    ensures { λ _. ⌜ now (words .exit) ≡ put (now (words .entry)) 0 (answerWords answer) ⌝ }
-{
-    let all = answer_words(answer);
-    if ANSWER_WORDS <= words.len() {
-        store_answer(words, all);
-    } else {
-        write_words(words, &all);
-    }
-    all[1]
 }

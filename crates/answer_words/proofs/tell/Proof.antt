@@ -1,10 +1,10 @@
--- `words::tell` meets its contract: both ways write the words of the answer. Assumes nothing.
+-- `answer_words::tell` meets its contract: both ways write the words of the answer. Assumes nothing.
 use mathlib.Core.Path.{_≡_, ap, _∙_}
 use mathlib.Core.Logic.{⊎-elim}
 use Rattle.little_endian.specs.Bytes.{put}
 use borrow.Author.Needs.{needs}
-use Rattle.words.proofs.tell.Statement.{statement}
-use Rattle.words.proofs.tell.Tie as tie
+use Rattle.answer_words.proofs.tell.Statement.{statement}
+use Rattle.answer_words.proofs.tell.Tie as tie
 
 answer-words-requires : tie.Need-answer-words-requires
 answer-words-requires c κs = search needs

@@ -9,7 +9,7 @@ use Rattle.units.specs.declared.RegionOffset.{RegionOffset}
 use Rattle.text.specs.Decimal.{largest}
 use Rattle.forms.specs.Forms.{holes, filled}
 use Rattle.forms.proofs.Laws.{Words, taken, filled-length}
-use Rattle.trace_text.specs.Lines.{createText, discardText, sizedText, responseText, refusalText}
+use Rattle.answer_text.specs.Texts.{createText, discardText, sizedText, responseText, refusalText}
 
 -- a form whose holes leave room enough
 short : (form vs : List ℕ) → length form + 19 * holes form ≤ 200 → Words (taken 0 (holes form) vs) → length (filled form vs) ≤ 200

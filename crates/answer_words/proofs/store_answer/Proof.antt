@@ -1,16 +1,16 @@
--- `words::store_answer` meets its contract: nine stores write the nine words. Assumes nothing.
+-- `answer_words::store_answer` meets its contract: nine stores write the nine words. Assumes nothing.
 use Prim.Native.Nat.{ℕ}
 use mathlib.Core.Path.{_≡_, sym, _∙_}
 use mathlib.Core.List.{List}
 use native.Mathlib.Omega.{arith}
 use lib.ListN.{length, getD, set, length-set}
 use Rattle.little_endian.specs.Bytes.{put}
 use Rattle.words.proofs.Laws.{put-next, put-none}
 use borrow.Author.Needs.{needs}
 use mir.Syntax.{w64}
 use borrow.Kind.Array.{eInt, good-length}
-use Rattle.words.proofs.store_answer.Statement.{statement}
-use Rattle.words.proofs.store_answer.Tie as tie
+use Rattle.answer_words.proofs.store_answer.Statement.{statement}
+use Rattle.answer_words.proofs.store_answer.Tie as tie
 
 -- nine stores, one after the other
 nine : (xs ys : List ℕ) → length ys ≡ 9

@@ -1,7 +1,7 @@
--- `words::answer_words` meets its contract, case by case. Assumes nothing.
+-- `answer_words::answer_words` meets its contract, case by case. Assumes nothing.
 use borrow.Author.Needs.{needs}
-use Rattle.words.proofs.answer_words.Statement.{statement}
-use Rattle.words.proofs.answer_words.Tie as tie
+use Rattle.answer_words.proofs.answer_words.Statement.{statement}
+use Rattle.answer_words.proofs.answer_words.Tie as tie
 
 enum-known-answer : tie.Need-enum-known-answer
 enum-known-answer c = search needs

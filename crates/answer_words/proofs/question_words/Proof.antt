@@ -1,7 +1,7 @@
--- `words::question_words` meets its contract, case by case. Assumes nothing.
+-- `answer_words::question_words` meets its contract, case by case. Assumes nothing.
 use borrow.Author.Needs.{needs}
-use Rattle.words.proofs.question_words.Statement.{statement}
-use Rattle.words.proofs.question_words.Tie as tie
+use Rattle.answer_words.proofs.question_words.Statement.{statement}
+use Rattle.answer_words.proofs.question_words.Tie as tie
 
 enum-known-call : tie.Need-enum-known-call
 enum-known-call c = search needs

@@ -1,7 +1,7 @@
--- `words::number_of` meets its contract. Assumes nothing.
+-- `answer_words::number_of` meets its contract. Assumes nothing.
 use borrow.Author.Needs.{needs}
-use Rattle.words.proofs.number_of.Statement.{statement}
-use Rattle.words.proofs.number_of.Tie as tie
+use Rattle.answer_words.proofs.number_of.Statement.{statement}
+use Rattle.answer_words.proofs.number_of.Tie as tie
 
 answer-words-requires : tie.Need-answer-words-requires
 answer-words-requires c κs = search needs

@@ -1,0 +1,2 @@
+pub mod Lengths
+mod Examples
