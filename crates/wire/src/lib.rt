@@ -5,12 +5,13 @@ use little_endian::from;
 use little_endian::places;
 use little_endian::read_u16;
 use little_endian::read_u64;
-use little_endian::write_number;
+use little_endian::write_two;
 use little_endian::write_u16;
 use little_endian::write_u64;
 use units::GuestAddr;
 ghost use mathlib.Core.Path.{_≡_};
-ghost use lib.ListN.{drop};
+ghost use Prim.Native.Nat.{_+_, _%_, _≤_, _<_};
+ghost use lib.ListN.{length, drop};
 ghost use Rattle.little_endian.specs.Bytes.{littleEndian, put};
 ghost use Rattle.wire.specs.Layout.{requestAt, responseBytes, configFields, configBytes, newConfig};
 
@@ -102,15 +103,26 @@ pub fn write_response(bytes: &mut [u8], at: usize, resp: VirtioMemResp)
     }
 }
 
-// The bytes of v in a field.
+// The bytes of v's field, two by two, as every field has an even number of them. Without a loop, so that the one over the table is unrolled.
 fn write_field(bytes: &mut [u8], field: Field, v: u64)
+    requires { ⌜ (field .0 + field .1 ≤ length (now bytes)) × (field .1 % 2 ≡ 0) × (0 < field .1) × (field .1 ≤ 8) ⌝ }
     ensures { λ _. ⌜ now (bytes .exit) ≡ put (now (bytes .entry)) (field .0) (littleEndian (field .1) v) ⌝ }
 {
-    if field.1 == 8 {
-        write_u64(bytes, field.0, v);
+    let at = field.0;
+    let width = field.1;
+    write_two(bytes, at, v);
+    if width < 4 {
         return;
     }
-    write_number(bytes, field.0, field.1, v);
+    write_two(bytes, at + 2, v / 65536);
+    if width < 6 {
+        return;
+    }
+    write_two(bytes, at + 4, v / 4294967296);
+    if width < 8 {
+        return;
+    }
+    write_two(bytes, at + 6, v / 281474976710656);
 }
 
 // From `offset` on, up to the config's end or the buffer's; the rest of the buffer stays.

@@ -1,6 +1,6 @@
 -- `read_config` meets its contract. The loop's invariant: laying the fields that are left gives what laying all eight gives.
--- The measure is how many are left. Assumes nothing.
-use Prim.Native.Nat.{ℕ, _+_, _-_, _≤_, _<_}
+-- The measure is how many are left.
+use Prim.Native.Nat.{ℕ, _+_, _-_, _%_, _≤_, _<_}
 use mathlib.Core.Path.{_≡_, refl, sym, ap, _∙_}
 use mathlib.Core.List.{List}
 use native.Mathlib.Omega.{arith}
@@ -11,13 +11,20 @@ use Rattle.wire.specs.declared.Field.{Field}
 use Rattle.little_endian.specs.Bytes.{littleEndian, put}
 use Rattle.wire.specs.Layout.{configFields, configValues, laid, configBytes}
 use Rattle.little_endian.proofs.Laws.{length-put}
-use Rattle.wire.proofs.Laws.{length-config}
+use Rattle.wire.proofs.Laws.{length-config, eight}
 use borrow.Author.Needs.{needs}
 use Rattle.wire.proofs.read_config.Statement.{statement}
 use Rattle.wire.proofs.read_config.Tie as tie
 
 abbrev field : ℕ → Field
 field k = getD configFields k (record { 0 = 0; 1 = 0 })
+
+-- every field ends inside, and has two, four, six or eight bytes
+table : (k : ℕ) → k < 8 → (field k .0 + field k .1 ≤ 56) × (field k .1 % 2 ≡ 0) × (0 < field k .1) × (field k .1 ≤ 8)
+unfolding configFields
+table =
+    let P : ℕ → Type 0 = λ k. (field k .0 + field k .1 ≤ 56) × (field k .1 % 2 ≡ 0) × (0 < field k .1) × (field k .1 ≤ 8) in
+    eight P (omega arith) (omega arith) (omega arith) (omega arith) (omega arith) (omega arith) (omega arith) (omega arith)
 
 -- a turn lays the first field that is left
 turn : (xs vs : List ℕ) (k : ℕ) → k < 8 → k < length vs
@@ -66,7 +73,10 @@ array-read-write-field : tie.Need-array-read-write-field Inv-loop μ-loop
 array-read-write-field c = search needs
 
 write-field-requires : tie.Need-write-field-requires Inv-loop μ-loop
-write-field-requires c κs = search needs
+unfolding configFields
+write-field-requires c κs =
+    let o = c .before .before .before .loop in
+    rw (o .inv .0) (table (o .k) (omega arith))
 
 add-k : tie.Need-add-k Inv-loop μ-loop
 add-k c = search needs

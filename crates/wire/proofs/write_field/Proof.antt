@@ -1,27 +1,96 @@
--- `write_field` meets its contract: eight bytes at once, and any other width byte by byte.
+-- `write_field` meets its contract: each store of two bytes makes the number two bytes longer.
+use mathlib.Core.Path.{_≡_}
+use native.Mathlib.Omega.{arith}
+use Rattle.little_endian.proofs.Laws.{put-halves}
 use borrow.Author.Needs.{needs}
 use Rattle.wire.proofs.write_field.Statement.{statement}
 use Rattle.wire.proofs.write_field.Tie as tie
 
-write-u64-requires : tie.Need-write-u64-requires
-write-u64-requires c κs = search needs
+write-two-requires : tie.Need-write-two-requires
+write-two-requires c κs = search needs
 
 same-length : tie.Need-same-length
 same-length c = search needs
 
 returns : tie.Need-returns
-returns c = rw (c .before .before .before .before .if1 .taken) (c .before .before .write-u64 .ensures)
+returns c =
+    let a = c .before .before .before .before .before .before .args in
+    let w : a .field .1 ≡ 2 = omega arith in
+    rw w (c .before .before .before .write-two .ensures)
 
-write-number-requires : tie.Need-write-number-requires
-write-number-requires c κs = search needs
+add-write-two : tie.Need-add-write-two
+add-write-two c = search needs
+
+write-two-requires-2 : tie.Need-write-two-requires-2
+write-two-requires-2 c κs = search needs
 
 same-length-2 : tie.Need-same-length-2
 same-length-2 c = search needs
 
 returns-2 : tie.Need-returns-2
-returns-2 c = search needs
+returns-2 c =
+    let second = c .before .before .before in
+    let first = second .before .before .before .before .before in
+    let a = first .before .before .before .args in
+    let w : a .field .1 ≡ 4 = omega arith in
+    rw w (put-halves (a .bytes .now) (a .field .0) 2 2 (a .v) (first .write-two .ensures) (second .write-two2 .ensures))
+
+add-write-two-2 : tie.Need-add-write-two-2
+add-write-two-2 c = search needs
+
+write-two-requires-3 : tie.Need-write-two-requires-3
+write-two-requires-3 c κs = search needs
+
+same-length-3 : tie.Need-same-length-3
+same-length-3 c = search needs
+
+returns-3 : tie.Need-returns-3
+returns-3 c =
+    let third = c .before .before .before in
+    let second = third .before .before .before .before .before in
+    let first = second .before .before .before .before .before in
+    let a = first .before .before .before .args in
+    let w : a .field .1 ≡ 6 = omega arith in
+    let four = put-halves (a .bytes .now) (a .field .0) 2 2 (a .v) (first .write-two .ensures) (second .write-two2 .ensures) in
+    rw w (put-halves (a .bytes .now) (a .field .0) 4 2 (a .v) four (third .write-two3 .ensures))
+
+add-write-two-3 : tie.Need-add-write-two-3
+add-write-two-3 c = search needs
+
+write-two-requires-4 : tie.Need-write-two-requires-4
+write-two-requires-4 c κs = search needs
+
+same-length-4 : tie.Need-same-length-4
+same-length-4 c = search needs
+
+returns-4 : tie.Need-returns-4
+returns-4 c =
+    let fourth = c .before .before in
+    let third = fourth .before .before .before .before .before in
+    let second = third .before .before .before .before .before in
+    let first = second .before .before .before .before .before in
+    let a = first .before .before .before .args in
+    let w : a .field .1 ≡ 8 = omega arith in
+    let four = put-halves (a .bytes .now) (a .field .0) 2 2 (a .v) (first .write-two .ensures) (second .write-two2 .ensures) in
+    let six = put-halves (a .bytes .now) (a .field .0) 4 2 (a .v) four (third .write-two3 .ensures) in
+    rw w (put-halves (a .bytes .now) (a .field .0) 6 2 (a .v) six (fourth .write-two4 .ensures))
 
 pub write-field-spec : {M : Type 1} → statement M
 write-field-spec =
     tie.close
-    (tie.spec write-u64-requires same-length returns write-number-requires same-length-2 returns-2)
+    (tie.spec
+    write-two-requires
+    same-length
+    returns
+    add-write-two
+    write-two-requires-2
+    same-length-2
+    returns-2
+    add-write-two-2
+    write-two-requires-3
+    same-length-3
+    returns-3
+    add-write-two-3
+    write-two-requires-4
+    same-length-4
+    returns-4)
