@@ -150,21 +150,14 @@ fn write_number(bytes: &mut [u8], at: usize, width: usize, v: u64)
     }
 }
 
-// The two lowest bytes of v.
-pub fn write_two(bytes: &mut [u8], at: usize, v: u64)
-    ensures { λ _. ⌜ now (bytes .exit) ≡ put (now (bytes .entry)) at (littleEndian 2 v) ⌝ }
-{
-    if at < places(bytes, 2) {
-        put_two(bytes, at, v);
-        return;
-    }
-    write_number(bytes, at, 2, v);
-}
-
 pub fn write_u16(bytes: &mut [u8], at: usize, v: u16)
     ensures { λ _. ⌜ now (bytes .exit) ≡ put (now (bytes .entry)) at (littleEndian 2 v) ⌝ }
 {
-    write_two(bytes, at, v as u64);
+    if at < places(bytes, 2) {
+        put_two(bytes, at, v as u64);
+        return;
+    }
+    write_number(bytes, at, 2, v as u64);
 }
 
 pub fn write_u32(bytes: &mut [u8], at: usize, v: u32)

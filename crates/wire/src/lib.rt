@@ -5,7 +5,6 @@ use little_endian::from;
 use little_endian::places;
 use little_endian::read_u16;
 use little_endian::read_u64;
-use little_endian::write_two;
 use little_endian::write_u16;
 use little_endian::write_u64;
 use units::GuestAddr;
@@ -103,6 +102,15 @@ pub fn write_response(bytes: &mut [u8], at: usize, resp: VirtioMemResp)
     }
 }
 
+// Two bytes of v where both have a place, with no test and no loop, as little_endian has them for itself.
+fn put_two(bytes: &mut [u8], at: usize, v: u64)
+    requires { ⌜ at + 2 ≤ length (now bytes) ⌝ }
+    ensures { λ _. ⌜ now (bytes .exit) ≡ put (now (bytes .entry)) at (littleEndian 2 v) ⌝ }
+{
+    bytes[at] = (v % 256) as u8;
+    bytes[at + 1] = (v / 256 % 256) as u8;
+}
+
 // The bytes of v's field, two by two, as every field has an even number of them. Without a loop, so that the one over the table is unrolled.
 fn write_field(bytes: &mut [u8], field: Field, v: u64)
     requires { ⌜ (field .0 + field .1 ≤ length (now bytes)) × (field .1 % 2 ≡ 0) × (0 < field .1) × (field .1 ≤ 8) ⌝ }
@@ -110,19 +118,19 @@ fn write_field(bytes: &mut [u8], field: Field, v: u64)
 {
     let at = field.0;
     let width = field.1;
-    write_two(bytes, at, v);
+    put_two(bytes, at, v);
     if width < 4 {
         return;
     }
-    write_two(bytes, at + 2, v / 65536);
+    put_two(bytes, at + 2, v / 65536);
     if width < 6 {
         return;
     }
-    write_two(bytes, at + 4, v / 4294967296);
+    put_two(bytes, at + 4, v / 4294967296);
     if width < 8 {
         return;
     }
-    write_two(bytes, at + 6, v / 281474976710656);
+    put_two(bytes, at + 6, v / 281474976710656);
 }
 
 // From `offset` on, up to the config's end or the buffer's; the rest of the buffer stays.

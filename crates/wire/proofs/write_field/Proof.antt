@@ -6,8 +6,8 @@ use borrow.Author.Needs.{needs}
 use Rattle.wire.proofs.write_field.Statement.{statement}
 use Rattle.wire.proofs.write_field.Tie as tie
 
-write-two-requires : tie.Need-write-two-requires
-write-two-requires c κs = search needs
+put-two-requires : tie.Need-put-two-requires
+put-two-requires c κs = search needs
 
 same-length : tie.Need-same-length
 same-length c = search needs
@@ -16,13 +16,13 @@ returns : tie.Need-returns
 returns c =
     let a = c .before .before .before .before .before .before .args in
     let w : a .field .1 ≡ 2 = omega arith in
-    rw w (c .before .before .before .write-two .ensures)
+    rw w (c .before .before .before .put-two .ensures)
 
-add-write-two : tie.Need-add-write-two
-add-write-two c = search needs
+add-put-two : tie.Need-add-put-two
+add-put-two c = search needs
 
-write-two-requires-2 : tie.Need-write-two-requires-2
-write-two-requires-2 c κs = search needs
+put-two-requires-2 : tie.Need-put-two-requires-2
+put-two-requires-2 c κs = search needs
 
 same-length-2 : tie.Need-same-length-2
 same-length-2 c = search needs
@@ -33,13 +33,13 @@ returns-2 c =
     let first = second .before .before .before .before .before in
     let a = first .before .before .before .args in
     let w : a .field .1 ≡ 4 = omega arith in
-    rw w (put-halves (a .bytes .now) (a .field .0) 2 2 (a .v) (first .write-two .ensures) (second .write-two2 .ensures))
+    rw w (put-halves (a .bytes .now) (a .field .0) 2 2 (a .v) (first .put-two .ensures) (second .put-two2 .ensures))
 
-add-write-two-2 : tie.Need-add-write-two-2
-add-write-two-2 c = search needs
+add-put-two-2 : tie.Need-add-put-two-2
+add-put-two-2 c = search needs
 
-write-two-requires-3 : tie.Need-write-two-requires-3
-write-two-requires-3 c κs = search needs
+put-two-requires-3 : tie.Need-put-two-requires-3
+put-two-requires-3 c κs = search needs
 
 same-length-3 : tie.Need-same-length-3
 same-length-3 c = search needs
@@ -51,14 +51,14 @@ returns-3 c =
     let first = second .before .before .before .before .before in
     let a = first .before .before .before .args in
     let w : a .field .1 ≡ 6 = omega arith in
-    let four = put-halves (a .bytes .now) (a .field .0) 2 2 (a .v) (first .write-two .ensures) (second .write-two2 .ensures) in
-    rw w (put-halves (a .bytes .now) (a .field .0) 4 2 (a .v) four (third .write-two3 .ensures))
+    let four = put-halves (a .bytes .now) (a .field .0) 2 2 (a .v) (first .put-two .ensures) (second .put-two2 .ensures) in
+    rw w (put-halves (a .bytes .now) (a .field .0) 4 2 (a .v) four (third .put-two3 .ensures))
 
-add-write-two-3 : tie.Need-add-write-two-3
-add-write-two-3 c = search needs
+add-put-two-3 : tie.Need-add-put-two-3
+add-put-two-3 c = search needs
 
-write-two-requires-4 : tie.Need-write-two-requires-4
-write-two-requires-4 c κs = search needs
+put-two-requires-4 : tie.Need-put-two-requires-4
+put-two-requires-4 c κs = search needs
 
 same-length-4 : tie.Need-same-length-4
 same-length-4 c = search needs
@@ -71,26 +71,26 @@ returns-4 c =
     let first = second .before .before .before .before .before in
     let a = first .before .before .before .args in
     let w : a .field .1 ≡ 8 = omega arith in
-    let four = put-halves (a .bytes .now) (a .field .0) 2 2 (a .v) (first .write-two .ensures) (second .write-two2 .ensures) in
-    let six = put-halves (a .bytes .now) (a .field .0) 4 2 (a .v) four (third .write-two3 .ensures) in
-    rw w (put-halves (a .bytes .now) (a .field .0) 6 2 (a .v) six (fourth .write-two4 .ensures))
+    let four = put-halves (a .bytes .now) (a .field .0) 2 2 (a .v) (first .put-two .ensures) (second .put-two2 .ensures) in
+    let six = put-halves (a .bytes .now) (a .field .0) 4 2 (a .v) four (third .put-two3 .ensures) in
+    rw w (put-halves (a .bytes .now) (a .field .0) 6 2 (a .v) six (fourth .put-two4 .ensures))
 
 pub write-field-spec : {M : Type 1} → statement M
 write-field-spec =
     tie.close
     (tie.spec
-    write-two-requires
+    put-two-requires
     same-length
     returns
-    add-write-two
-    write-two-requires-2
+    add-put-two
+    put-two-requires-2
     same-length-2
     returns-2
-    add-write-two-2
-    write-two-requires-3
+    add-put-two-2
+    put-two-requires-3
     same-length-3
     returns-3
-    add-write-two-3
-    write-two-requires-4
+    add-put-two-3
+    put-two-requires-4
     same-length-4
     returns-4)
