@@ -1,5 +1,5 @@
 // A chain reader, which holds the guest memory that it walks. Each function is thin: it takes the reader apart and calls a function
-// of `chain` on plain values.
+// of `chain` or `descriptors` on plain values.
 use chain::Parsed;
 use chain::parse;
 use descriptors::Link;
