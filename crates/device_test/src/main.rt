@@ -5,11 +5,13 @@
 // its words are for the reader. A command with a capital says what the calls stand on, and prints nothing. A line without a command
 // is printed by its name. A wrong letter shows as a line that stdout has not.
 //
-// chains.txt asks the chain; changes.txt the range test, the plug and unplug decision and the state; placings.txt making, placing
-// and size changes; servings.txt requests and discards; values.txt the numbers, the record's shape and the usable size.
+// bitmaps.txt asks the bitmap; chains.txt the chain; changes.txt the range test, the plug and unplug decision and the state;
+// placings.txt making, placing and size changes; servings.txt requests and discards; values.txt the numbers, the record's shape and
+// the usable size.
 use lines::Numbers;
 use scene::Scene;
 
+mod bitmaps; // bitmaps.txt
 mod chains; // chains.txt
 mod changes; // changes.txt
 mod lines; // parts of a text
@@ -38,6 +40,9 @@ fn call_lent(
         let d = scene.device;
         let known = values::command(d, kind, v, name, &table[..]);
         return scene::after(scene, known);
+    }
+    if file == 5 {
+        return scene::after(scene, bitmaps::command(kind, v, name, bitmap));
     }
     if file == 2 {
         return placings::command(scene, kind, v, bitmap, table, slots);
@@ -171,6 +176,7 @@ fn run_file(path: &[u8], file: u64) {
 }
 
 fn main() {
+    run_file(b"bitmaps.txt", 5);
     run_file(b"chains.txt", 0);
     run_file(b"changes.txt", 1);
     run_file(b"placings.txt", 2);
