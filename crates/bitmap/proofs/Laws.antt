@@ -1,8 +1,9 @@
 -- The laws of `specs/Blocks.antt` that a caller cites. Assumes nothing. By the first word of a law's name:
 --     blocks-     of bytes: how many blocks they have, and those of a part of them
 --     range-      a range: one block at a time, past the end, in two parts, one of its blocks, its length, in the first n blocks
+--     every-      a list all in one state, in two parts
 --     all-        a range all in one state: in two parts, one of its blocks, after a fill
---     fill-       a fill: the length, nothing to do, past the end, in two parts, inside, before and after its range, where nothing changes, of all blocks
+--     fill-       a fill: the length, nothing to do, past the end, in two parts, over a fill, inside, before and after its range, where nothing changes, of all blocks
 --     at-         one block after a fill: inside, before and after its range
 --     ones-       counting: in two parts, after a fill, none, all, of a plug and an unplug
 --     take-       the first n blocks, after a fill
@@ -69,7 +70,7 @@ range-at bs f c i p q =
 pub range-length : (bs : List Bool) (f c : ℕ) → length (range bs f c) ≡ min c (length bs - f)
 range-length bs f c = simp (length-take, length-drop)
 
-every-append : (v : Bool) (a b : List Bool) → every v (a ++ b) ≡ (every v a && every v b)
+pub every-append : (v : Bool) (a b : List Bool) → every v (a ++ b) ≡ (every v a && every v b)
 unfolding every
 every-append v [] b = refl
 every-append v (x ∷ a) b = rw (every-append v a b) (sym (and-assoc (Bool·beq x v) (every v a) (every v b)))
@@ -133,6 +134,14 @@ fill-split [] f k m v = refl
 fill-split (b ∷ bs) (suc f) k m v = rw (suc-add f k, fill-split bs f k m v)
 fill-split (b ∷ bs) zero zero m v = rw (zero-add m)
 fill-split (b ∷ bs) zero (suc k) m v = rw (suc-add k m, zero-add (suc k), fill-split bs zero k m v, zero-add k)
+
+-- a fill over a fill
+pub fill-over : (bs : List Bool) (f c : ℕ) (u v : Bool) → fill (fill bs f c u) f c v ≡ fill bs f c v
+unfolding fill
+fill-over [] f c u v = refl
+fill-over (b ∷ bs) (suc f) c u v = rw (fill-over bs f c u v)
+fill-over (b ∷ bs) zero zero u v = refl
+fill-over (b ∷ bs) zero (suc c) u v = rw (fill-over bs zero c u v)
 
 -- filling in the first of two lists, and past it
 pub fill-left : (a b : List Bool) (k n : ℕ) (v : Bool) → k + n ≤ length a → fill (a ++ b) k n v ≡ fill a k n v ++ b

@@ -1,4 +1,5 @@
 pub mod Laws
 pub mod Bytes
 mod Bits
+mod Words
 mod Turns

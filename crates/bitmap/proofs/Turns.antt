@@ -1,14 +1,14 @@
--- What one turn of a loop over the blocks does: the loop stands at bit k of byte j, with `left` blocks to go. Assumes nothing.
+-- What one turn of a loop over the blocks does, where the loop stands at bit k of byte j, with `left` blocks to go; and a range by its parts. Assumes nothing.
 use Prim.Native.Nat.{ℕ, zero, suc, _+_, _-_, _*_, _/_, _%_, _≤_, _<_}
 use mathlib.Core.Path.{_≡_, refl, ap, _∙_, sym}
-use mathlib.Core.Bool.{Bool, false}
+use mathlib.Core.Bool.{Bool, false, _&&_}
 use mathlib.Core.List.{List, [], _∷_}
 use native.Mathlib.Omega.{arith}
 use lib.ListN.{length, getD, set, length-set, List·getD-eq-default}
-use lib.Seq.{take-set-le, drop-set-lt}
-use Rattle.bitmap.specs.Blocks.{lowBits, blocks, blockAt, range, fill, firstSet, Outside, Filled}
-use Rattle.bitmap.proofs.Laws.{blocks-length, range-step, range-end, fill-none, fill-end, fill-split}
-use Rattle.bitmap.proofs.Bytes.{blocks-at, blocks-put}
+use lib.Seq.{take-set-le, drop-set-lt, set-getD}
+use Rattle.bitmap.specs.Blocks.{lowBits, blocks, blockAt, range, allAre, fill, firstSet, Filled}
+use Rattle.bitmap.proofs.Laws.{blocks-length, range-step, range-end, all-split, fill-none, fill-end, fill-split}
+use Rattle.bitmap.proofs.Bytes.{blocks-at, blocks-range, blocks-put, same-number}
 
 -- the block at bit k of byte j
 abbrev pub place : ℕ → ℕ → ℕ
@@ -40,6 +40,16 @@ module _ (xs : List ℕ) (j k left : ℕ) where
       ap (range (blocks xs) (place j k)) e
       ∙ rw (range-step (blocks xs) (place j k) (left - 1) (omega (arith, blocks-length xs)), blocks-at xs j k l u, ← q, n)
 
+-- ---- reading a range by its parts; b is what the code found of one
+module _ (xs : List ℕ) (v : Bool) where
+  -- n blocks of one byte
+  pub all-here : (j k n : ℕ) (b : Bool) → j < length xs → k + n ≤ 8 → b ≡ allAre (lowBits 8 (getD xs j 0)) k n v → b ≡ allAre (blocks xs) (place j k) n v
+  all-here j k n b l u e = rw (blocks-range xs j k n l u) e
+
+  -- n blocks, and the rest
+  pub all-then : (f n c : ℕ) → n ≤ c → allAre (blocks xs) f c v ≡ (allAre (blocks xs) f n v && allAre (blocks xs) (f + n) (c - n) v)
+  all-then f n c h = let e : c ≡ n + (c - n) = omega arith in ap (λ (t : ℕ). allAre (blocks xs) f t v) e ∙ all-split (blocks xs) f n (c - n) v
+
 -- a byte of zeros has no bit
 no-bit : (n i : ℕ) → blockAt (lowBits n 0) i ≡ false
 unfolding lowBits
@@ -64,44 +74,51 @@ module _ (xs : List ℕ) (j left at : ℕ) (l : j < length xs) (e : getD xs j 0 
   pub zeros-passed : firstSet at (range (blocks xs) (place j 0) left) ≡ firstSet (at + 8) (range (blocks xs) (place (j + 1) 0) (left - 8))
   zeros-passed = let n : place j 8 ≡ place (j + 1) 0 = omega arith in rw n at (zeros-to 8 (omega arith))
 
--- ---- writing: the bytes are xs, and filling `left` blocks from `at` on is what is left to do
-pub record Filling (entry : List ℕ) (first count : ℕ) (v : Bool) (xs : List ℕ) (at left : ℕ) : Type 0 where
-  pub to-go : fill (blocks xs) at left v ≡ fill (blocks entry) first count v
-  pub same-end : at + left ≡ first + count
-  pub begun : first ≤ at
-  pub outside : Outside entry xs first (first + count)
-
-pub filling-start : (entry : List ℕ) (first count : ℕ) (v : Bool) → Filling entry first count v entry first count
-filling-start entry first count v =
+-- ---- writing a range by its parts: none, past the end, one after another, in one byte
+pub filled-none : (xs : List ℕ) (f : ℕ) (v : Bool) → Filled xs xs f 0 v
+filled-none xs f v =
     record {
-      to-go = refl;
-      same-end = refl;
-      begun = omega arith;
+      as-blocks = sym (fill-none (blocks xs) f v);
       outside = record { same-length = refl; same-before = λ n h. refl; same-past = λ n h. refl };
     }
 
-module _ {entry : List ℕ} {first count : ℕ} {v : Bool} {xs : List ℕ} {left : ℕ} where
-  pub filling-done : {at : ℕ} → Filling entry first count v xs at left → left ≡ 0 → Filled entry xs first count v
-  filling-done {at} f z =
-      record { as-blocks = sym (fill-none (blocks xs) at v) ∙ rw z at (f .to-go); outside = f .outside }
+pub filled-out : (xs : List ℕ) (f n : ℕ) (v : Bool) → 8 * length xs ≤ f → Filled xs xs f n v
+filled-out xs f n v h =
+    record {
+      as-blocks = sym (fill-end (blocks xs) f n v (omega (arith, blocks-length xs)));
+      outside = record { same-length = refl; same-before = λ m g. refl; same-past = λ m g. refl };
+    }
 
-  pub filling-out : (j k : ℕ) → Filling entry first count v xs (place j k) left → length xs ≤ j → Filled entry xs first count v
-  filling-out j k f h =
-      record { as-blocks = sym (fill-end (blocks xs) (place j k) left v (omega (arith, blocks-length xs))) ∙ f .to-go; outside = f .outside }
+pub filled-then : {xs ys zs : List ℕ} {f m n : ℕ} {v : Bool} → Filled xs ys f m v → Filled ys zs (f + m) n v → Filled xs zs f (m + n) v
+filled-then {xs} {ys} {zs} {f} {m} {n} {v} p q =
+    record {
+      as-blocks = rw (fill-split (blocks xs) f m n v, ← p .as-blocks) (q .as-blocks);
+      outside = record {
+        same-length = q .outside .same-length ∙ p .outside .same-length;
+        same-before = λ i h. q .outside .same-before i (omega arith) ∙ p .outside .same-before i h;
+        same-past = λ i h. q .outside .same-past i (omega arith) ∙ p .outside .same-past i (omega arith);
+      };
+    }
 
-  -- y is byte j with n bits, from bit k on, filled
-  pub filling-turn : (j k n y : ℕ) → Filling entry first count v xs (place j k) left
-      → lowBits 8 y ≡ fill (lowBits 8 (getD xs j 0)) k n v → j < length xs → k + n ≤ 8 → 0 < n → n ≤ left
-      → Filling entry first count v (set xs j y) (place j k + n) (left - n)
-  filling-turn j k n y f e l u p q =
-      let w : left ≡ n + (left - n) = omega arith in
-      record {
-        to-go = rw (blocks-put xs j k n y v l u e, ← fill-split (blocks xs) (place j k) n (left - n) v, ← w) (f .to-go);
-        same-end = omega arith;
-        begun = omega arith;
-        outside = record {
-          same-length = length-set xs j y ∙ f .outside .same-length;
-          same-before = λ m h. take-set-le m xs j y (omega arith) ∙ f .outside .same-before m h;
-          same-past = λ m h. drop-set-lt m xs j y (omega arith) ∙ f .outside .same-past m h;
-        };
-      }
+-- y is byte j with n bits, from bit k on, filled
+pub filled-some : (xs : List ℕ) (j k n y : ℕ) (v : Bool)
+    → lowBits 8 y ≡ fill (lowBits 8 (getD xs j 0)) k n v → j < length xs → k + n ≤ 8 → 0 < n
+    → Filled xs (set xs j y) (place j k) n v
+filled-some xs j k n y v e l u p =
+    record {
+      as-blocks = blocks-put xs j k n y v l u e;
+      outside = record {
+        same-length = length-set xs j y;
+        same-before = λ m h. take-set-le m xs j y (omega arith);
+        same-past = λ m h. drop-set-lt m xs j y (omega arith);
+      };
+    }
+
+-- .. or with none, and then it is the byte
+pub filled-put : (xs : List ℕ) (j k n y : ℕ) (v : Bool)
+    → lowBits 8 y ≡ fill (lowBits 8 (getD xs j 0)) k n v → j < length xs → k + n ≤ 8 → getD xs j 0 < 256 → y < 256
+    → Filled xs (set xs j y) (place j k) n v
+filled-put xs j k zero y v e l u p q =
+    let s : set xs j y ≡ xs = rw (same-number 8 y (getD xs j 0) q p (e ∙ fill-none (lowBits 8 (getD xs j 0)) k v)) (set-getD xs j 0) in
+    rw s (filled-none xs (place j k) v)
+filled-put xs j k (suc n) y v e l u p q = filled-some xs j k (suc n) y v e l u (omega arith)

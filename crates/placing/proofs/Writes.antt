@@ -1,5 +1,5 @@
 -- Placing past its first tests: 3, 4, and what it writes and asks. Assumes nothing.
-use Prim.Native.Nat.{ℕ, _*_, _/_, _%_}
+use Prim.Native.Nat.{ℕ}
 use mathlib.Core.Path.{_≡_, refl, ap, _∙_}
 use mathlib.Core.Bool.{true, false, _&&_}
 use mathlib.Core.List.{List, []}
@@ -7,35 +7,20 @@ use native.Mathlib.Omega.{arith}
 use lib.Dec.{eqb}
 use lib.ListN.{length}
 use Rattle.units.specs.Numbers.{blocksIn, mapRegions}
-use Rattle.units.proofs.Tests.{by-test, and-left}
-use Rattle.bitmap.specs.Blocks.{blocks, fill, Filled}
+use Rattle.units.proofs.Tests.{by-test}
+use Rattle.bitmap.specs.Blocks.{blocks, Filled}
 use Rattle.rows.specs.Rows.{rowsOf, written, laid}
 use Rattle.rows.proofs.Laws.{laid-length}
 use Rattle.rows.proofs.Words.{read-back}
 use Rattle.record.specs.declared.Device.{Device}
 use Rattle.record.specs.Changes.{startTo}
-use Rattle.record.specs.Shape.{alignmentOk, regionOk, shapedOf, startOk}
-use Rattle.record.proofs.Laws.{by-alignment, parts, shaped-is}
+use Rattle.record.specs.Shape.{shapedOf, startOk}
+use Rattle.record.proofs.Laws.{shaped-is}
 use Rattle.step.specs.declared.Answered.{Answered}
 use Rattle.step.specs.World.{World, Meets, worldOf}
 use Rattle.step.specs.Step.{unless, place, placed, placing}
 use Rattle.placing.specs.Placing.{answeredBy, rangeRefusal}
 use Rattle.placing.proofs.Laws.{resizes-meets, placing-several, placing-single}
-
--- the blocks of a region fill whole bytes
-eighths : (a : ℕ) → alignmentOk a ≡ true → (n : ℕ) → n % (2 * a) ≡ 0 → 8 * (n / 4194304 / 8) ≡ n / 4194304
-eighths =
-    by-alignment (λ a. (n : ℕ) → n % (2 * a) ≡ 0 → 8 * (n / 4194304 / 8) ≡ n / 4194304)
-    (λ n h. omega arith) (λ n h. omega arith) (λ n h. omega arith) (λ n h. omega arith) (λ n h. omega arith)
-
-alignment-ok : (d : Device) → shapedOf d ≡ true → alignmentOk (d .alignment) ≡ true
-unfolding regionOk
-alignment-ok d e = and-left (alignmentOk (d .alignment)) _ (parts d e .region)
-
-pub whole-bytes : (d : Device) → shapedOf d ≡ true → 8 * (blocksIn 4194304 (d .config .«region_size») / 8) ≡ blocksIn (d .config .«block_size») (d .config .«region_size»)
-whole-bytes d e =
-    let s = shaped-is d e in
-    rw (s .block-size) (eighths (d .alignment) (alignment-ok d e) (d .config .«region_size») (s .region-twice))
 
 pub start-good : (d : Device) (start size n : ℕ) → rangeRefusal d start size n ≡ 0 → startOk start (d .config .«region_size») (d .«multi_region») (d .alignment) ≡ true
 unfolding rangeRefusal
@@ -56,14 +41,14 @@ module _ (d : Device) (bm tb : List ℕ) (start size : ℕ) (slots : List ℕ) w
       (λ t. rw t)
 
 module _ (d : Device) (bm tb : List ℕ) (start : ℕ) (slots : List ℕ) where
-  pub placed-meets : shapedOf d ≡ true → (s : Answered) (bm′ tb′ : List ℕ) → Filled bm bm′ 0 (8 * (blocksIn 4194304 (d .config .«region_size») / 8)) false → tb′ ≡ written tb (laid (rowsOf tb) slots) → s ≡ answeredBy (placing (worldOf (startTo start d) [] tb′)) → Meets (placing (placed (worldOf d bm tb) start slots (blocks bm) (rowsOf tb))) s bm′ tb tb′ []
+  pub placed-meets : shapedOf d ≡ true → (s : Answered) (bm′ tb′ : List ℕ) → Filled bm bm′ 0 (blocksIn 4194304 (d .config .«region_size»)) false → tb′ ≡ written tb (laid (rowsOf tb) slots) → s ≡ answeredBy (placing (worldOf (startTo start d) [] tb′)) → Meets (placing (placed (worldOf d bm tb) start slots (blocks bm) (rowsOf tb))) s bm′ tb tb′ []
   placed-meets e s bm′ tb′ f m a =
       let w = placed (worldOf d bm tb) start slots (blocks bm) (rowsOf tb) in
       let rows = laid (rowsOf tb) slots in
       let w0 : World = record { device = startTo start d; blocks = blocks []; rows = rows } in
       let back : rowsOf tb′ ≡ rows = rw m (read-back tb rows (laid-length (rowsOf tb) slots)) in
       let told : s ≡ answeredBy (placing w0) = rw back at a in
-      let marked : blocks bm′ ≡ w .blocks = rw (whole-bytes d e) at (f .as-blocks) in
+      let marked : blocks bm′ ≡ w .blocks = rw (← shaped-is d e .block-size) at (f .as-blocks) in
       by-test (d .«multi_region»)
       (λ t. rw (placing-several w t) (resizes-meets _ w s bm′ tb tb′ (told ∙ ap answeredBy (placing-several w0 t)) marked m))
       (λ t.

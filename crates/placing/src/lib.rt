@@ -1,6 +1,6 @@
 // SPDX-License-Identifier: Apache-2.0 AND BSD-3-Clause
 // Placing and resizing a device, and the host's answer to a creation.
-use bitmap::clear;
+use bitmap::set_range;
 use making::requested_refused;
 use record::Device;
 use record::HostCall;
@@ -180,7 +180,7 @@ pub fn place(
         };
     }
     let blocks = MemTool::blocks_in(d.config.region_size);
-    clear(bitmap, blocks as usize / 8);
+    set_range(bitmap, 0, blocks as usize, false);
     lay(table, slots);
     let mut config = d.config;
     config.addr = start;

@@ -1,94 +1,137 @@
--- `bitmap::all_in_state` meets its contract. The loop's invariant: the answer for what is left, from bit k of byte j on, is the answer.
--- The measure is what is left. Assumes nothing.
-use Prim.Native.Nat.{_-_, _<_}
+-- `bitmap::all_in_state` meets its contract: the answers for the three parts are the answer. No loop. Assumes nothing.
+use Prim.Native.Nat.{_+_, _-_, _*_, _/_, _%_, min}
 use mathlib.Core.Path.{_≡_}
-use mathlib.Core.Bool.{Bool·beq}
-use mathlib.Core.List.{_∷_}
+use mathlib.Core.Bool.{_&&_}
 use native.Mathlib.Omega.{arith}
+use lib.ListN.{length, drop}
+use borrow.Author.Needs.{needs}
 use borrow.Author.Tests.{not-true, not-false}
-use Rattle.bitmap.specs.Blocks.{blocks, range, every, allAre}
-use Rattle.bitmap.proofs.Turns.{place, next, start, range-out, range-turn}
+use Rattle.bitmap.specs.Blocks.{blocks, every, allAre}
+use Rattle.bitmap.proofs.Laws.{blocks-length, blocks-take, blocks-drop, range-end}
+use Rattle.bitmap.proofs.Turns.{place, start, all-here, all-then}
 use Rattle.bitmap.proofs.all_in_state.Statement.{statement}
 use Rattle.bitmap.proofs.all_in_state.Tie as tie
 
-abbrev Inv-loop : tie.InvT-loop
-Inv-loop bitmap first count plugged j₀ k₀ left₀ j k left =
-    (k < 8) × (allAre (blocks bitmap) (place j k) left plugged ≡ allAre (blocks bitmap) first count plugged)
-
-abbrev μ-loop : tie.MeasureT-loop
-μ-loop bitmap first count plugged j₀ k₀ left₀ j k left = left
-
-loop-holds : tie.Need-loop-holds Inv-loop μ-loop
-loop-holds c = (omega arith, rw (start (c .before .args .first)))
-
-returns : tie.Need-returns Inv-loop μ-loop
+returns : tie.Need-returns
 unfolding every
-returns c = rw (c .if1 .taken) at (c .before .before .loop .inv .1)
+returns c =
+    let a = c .before .before .args in
+    rw (range-end (blocks (a .bitmap .now)) (a .first) (a .count) (omega (arith, blocks-length (a .bitmap .now))))
 
-shared-slice-read-bit : tie.Need-shared-slice-read-bit Inv-loop μ-loop
-shared-slice-read-bit c = omega arith
+sub-if2 : tie.Need-sub-if2
+sub-if2 c = search needs
 
-bit-requires : tie.Need-bit-requires Inv-loop μ-loop
-bit-requires c κs = omega arith
+shared-slice-read-are : tie.Need-shared-slice-read-are
+shared-slice-read-are c = search needs
 
--- past the read of a bit, what is left begins with it
-turned : (c : tie.After-bit Inv-loop μ-loop) →
-    let a = c .before .before .before .before .before .before .args in
-    let o = c .before .before .before .before .loop in
-    every (a .plugged) (c .bit .result ∷ range (blocks (a .bitmap .now)) (next (o .j) (o .k)) (o .left - 1)) ≡ allAre (blocks (a .bitmap .now)) (a .first) (a .count) (a .plugged)
-turned c =
-    let a = c .before .before .before .before .before .before .args in
-    let o = c .before .before .before .before .loop in
-    rw (range-turn (a .bitmap .now) (o .j) (o .k) (o .left) (c .bit .result) (c .before .before .before .loop-test .taken) (o .inv .0) (c .before .before .if1 .left) (c .bit .ensures)) at (o .inv .1)
+are-requires : tie.Need-are-requires
+are-requires c κs = search needs
 
-returns-2 : tie.Need-returns-2 Inv-loop μ-loop
-unfolding every
+returns-2 : tie.Need-returns-2
 returns-2 c =
-    let a = c .before .before .before .before .before .before .before .args in
-    rw (not-true (Bool·beq (c .before .bit .result) (a .plugged)) (c .if2 .taken)) at (turned (c .before))
+    let a = c .before .before .before .before .before .args in
+    rw (start (a .first)) at (all-here (a .bitmap .now) (a .plugged) (a .first / 8) (a .first % 8) (a .count) (c .are .result) (omega arith) (omega arith) (c .are .ensures))
 
-add-j : tie.Need-add-j Inv-loop μ-loop
-add-j c = omega arith
+parts-of-requires : tie.Need-parts-of-requires
+parts-of-requires c κs = search needs
 
-add-j-2 : tie.Need-add-j-2 Inv-loop μ-loop
-add-j-2 c = omega arith
+shared-slice-read-are-2 : tie.Need-shared-slice-read-are-2
+shared-slice-read-are-2 c = search needs
 
-add-k : tie.Need-add-k Inv-loop μ-loop
-add-k c = omega arith
+are-requires-2 : tie.Need-are-requires-2
+are-requires-2 c κs = search needs
 
-sub-left : tie.Need-sub-left Inv-loop μ-loop
-sub-left c = omega arith
+-- past the blocks up to the first whole byte, the answer is that for them and that for the rest
+headed : (c : tie.After-are2) →
+    let a = c .before .before .before .before .before .before .args in
+    let p = c .before .before .parts-of .result in
+    allAre (blocks (a .bitmap .now)) (a .first) (a .count) (a .plugged) ≡ (c .are2 .result && allAre (blocks (a .bitmap .now)) (8 * p .from) (a .count - p .head) (a .plugged))
+headed c =
+    let a = c .before .before .before .before .before .before .args in
+    let p = c .before .before .parts-of in
+    let h = rw (start (a .first)) at (all-here (a .bitmap .now) (a .plugged) (a .first / 8) (a .first % 8) (p .result .head) (c .are2 .result) (omega arith) (omega (arith, p .ensures)) (c .are2 .ensures)) in
+    rw (h, ← p .ensures .0 .0) (all-then (a .bitmap .now) (a .plugged) (a .first) (p .result .head) (a .count) (omega (arith, p .ensures)))
 
-loop-less : tie.Need-loop-less Inv-loop μ-loop
-loop-less c = omega arith
+returns-3 : tie.Need-returns-3
+returns-3 c = rw (headed (c .before), not-true (c .before .are2 .result) (c .if3 .taken))
 
-loop-again : tie.Need-loop-again Inv-loop μ-loop
+smaller-requires : tie.Need-smaller-requires
+smaller-requires c κs = search needs
+
+sub-bytes-are : tie.Need-sub-bytes-are
+sub-bytes-are c = search needs
+
+part-bytes-are-start : tie.Need-part-bytes-are-start
+part-bytes-are-start c = search needs
+
+part-bytes-are-end : tie.Need-part-bytes-are-end
+part-bytes-are-end c = search needs
+
+bytes-are-requires : tie.Need-bytes-are-requires
+bytes-are-requires c κs = search needs
+
+-- past the whole bytes, the answer is that for them and that for the rest
+passed : (c : tie.After-bytes-are) →
+    let a = c .before .before .before .before .before .before .before .before .before .before .args in
+    let p = c .before .before .before .before .before .before .parts-of .result in
+    let n = min (p .to) (length (a .bitmap .now)) - p .from in
+    allAre (blocks (a .bitmap .now)) (a .first) (a .count) (a .plugged) ≡ (c .bytes-are .result && allAre (blocks (a .bitmap .now)) (8 * (p .from + n)) (a .count - p .head - 8 * n) (a .plugged))
+passed c =
+    let a = c .before .before .before .before .before .before .before .before .before .before .args in
+    let p = c .before .before .before .before .before .before .parts-of in
+    let n = min (p .result .to) (length (a .bitmap .now)) - p .result .from in
+    let b = rw (c .before .before .smaller .ensures, blocks-take n (drop (p .result .from) (a .bitmap .now)), blocks-drop (p .result .from) (a .bitmap .now)) at (c .bytes-are .ensures) in
+    let e : 8 * p .result .from + 8 * n ≡ 8 * (p .result .from + n) = omega arith in
+    rw (headed (c .before .before .before .before), not-false (c .before .before .before .before .are2 .result) (c .before .before .before .if3 .left), b, ← e)
+    (all-then (a .bitmap .now) (a .plugged) (8 * p .result .from) (8 * n) (a .count - p .result .head) (omega (arith, p .ensures)))
+
+returns-4 : tie.Need-returns-4
+returns-4 c = rw (passed (c .before), not-true (c .before .bytes-are .result) (c .if4 .taken))
+
+returns-5 : tie.Need-returns-5
 unfolding every
-loop-again c =
-    let a = c .before .before .before .before .before .before .before .args in
-    (omega arith, rw (not-false (Bool·beq (c .before .bit .result) (a .plugged)) (c .if2 .left)) at (turned (c .before)))
+returns-5 c =
+    let a = c .before .before .before .before .before .before .before .before .before .before .before .before .args in
+    let p = c .before .before .before .before .before .before .before .before .parts-of in
+    let n = min (p .result .to) (length (a .bitmap .now)) - p .result .from in
+    rw (passed (c .before .before), not-false (c .before .before .bytes-are .result) (c .before .if4 .left), range-end (blocks (a .bitmap .now)) (8 * (p .result .from + n)) (a .count - p .result .head - 8 * n) (omega (arith, p .ensures, blocks-length (a .bitmap .now))))
 
-returns-3 : tie.Need-returns-3 Inv-loop μ-loop
-unfolding every
-returns-3 c =
-    let o = c .before .loop in
-    rw (range-out (c .before .before .before .args .bitmap .now) (o .j) (o .k) (o .left) (c .loop-test .left)) at (o .inv .1)
+shared-slice-read-are-3 : tie.Need-shared-slice-read-are-3
+shared-slice-read-are-3 c = search needs
+
+are-requires-3 : tie.Need-are-requires-3
+are-requires-3 c κs = search needs
+
+returns-6 : tie.Need-returns-6
+returns-6 c =
+    let a = c .before .before .before .before .before .before .before .before .before .before .before .before .before .before .args in
+    let p = c .before .before .before .before .before .before .before .before .before .before .parts-of in
+    let n = min (p .result .to) (length (a .bitmap .now)) - p .result .from in
+    let q : 8 * (p .result .from + n) ≡ place (p .result .to) 0 = omega (arith, p .ensures) in
+    let r : a .count - p .result .head - 8 * n ≡ p .result .tail = omega (arith, p .ensures) in
+    rw (passed (c .before .before .before .before), not-false (c .before .before .before .before .bytes-are .result) (c .before .before .before .if4 .left), q, r)
+    (all-here (a .bitmap .now) (a .plugged) (p .result .to) 0 (p .result .tail) (c .are3 .result) (omega arith) (omega (arith, p .ensures)) (c .are3 .ensures))
 
 pub all-in-state-spec : {M : Type 1} → statement M
 all-in-state-spec =
     tie.close
     (tie.spec
-    Inv-loop
-    μ-loop
-    loop-holds
     returns
-    shared-slice-read-bit
-    bit-requires
+    sub-if2
+    shared-slice-read-are
+    are-requires
     returns-2
-    add-j
-    add-j-2
-    add-k
-    sub-left
-    loop-less
-    loop-again
-    returns-3)
+    parts-of-requires
+    shared-slice-read-are-2
+    are-requires-2
+    returns-3
+    smaller-requires
+    sub-bytes-are
+    part-bytes-are-start
+    part-bytes-are-end
+    bytes-are-requires
+    returns-4
+    returns-5
+    shared-slice-read-are-3
+    are-requires-3
+    returns-6)

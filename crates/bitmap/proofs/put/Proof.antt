@@ -1,27 +1,19 @@
 -- `bitmap::put` meets its contract. No loop. Assumes nothing.
 use borrow.Author.Needs.{needs}
-use Rattle.bitmap.proofs.Bits.{one-shl, or-one, and-not}
+use Rattle.bitmap.proofs.Bits.{run-is, put-run}
 use Rattle.bitmap.proofs.put.Statement.{statement}
 use Rattle.bitmap.proofs.put.Tie as tie
 
-cast-result : tie.Need-cast-result
-cast-result c = search needs
+mask-requires : tie.Need-mask-requires
+mask-requires c κs = search needs
 
-shl-result : tie.Need-shl-result
-shl-result c = search needs
-
-cast-result-2 : tie.Need-cast-result-2
-cast-result-2 c = search needs
-
-shl-result-2 : tie.Need-shl-result-2
-shl-result-2 c = search needs
+whole-byte-requires : tie.Need-whole-byte-requires
+whole-byte-requires c κs = search needs
 
 returns : tie.Need-returns
-returns c = let a = c .before .args in rw (one-shl (a .k) (c .before .pre), c .if1 .taken) (or-one 8 (a .k) (a .b))
-
-returns-2 : tie.Need-returns-2
-returns-2 c = let a = c .before .args in rw (one-shl (a .k) (c .before .pre), c .if1 .left) (and-not 8 (a .k) (a .b) (c .before .pre))
+returns c =
+    let a = c .before .before .args in
+    rw (c .before .mask .ensures, run-is (a .k) (a .n), c .whole-byte .ensures) (put-run (a .k) (a .n) (a .b) (c .before .before .pre) (a .v))
 
 pub put-spec : {M : Type 1} → statement M
-put-spec =
-    tie.close (tie.spec cast-result shl-result cast-result-2 shl-result-2 returns returns-2)
+put-spec = tie.close (tie.spec mask-requires whole-byte-requires returns)

@@ -37,8 +37,8 @@ returns-2 c =
 blocks-in-requires : tie.Need-blocks-in-requires
 blocks-in-requires c κs = search needs
 
-clear-requires : tie.Need-clear-requires
-clear-requires c κs = search needs
+set-range-requires : tie.Need-set-range-requires
+set-range-requires c κs = search needs
 
 lay-requires : tie.Need-lay-requires
 lay-requires c κs = search needs
@@ -64,7 +64,7 @@ returns-3 c =
     (goes-on _ _ _ _ _ _ _ (k .before .before .if1 .left)
     (simp (ranged, ← k .before .range-refusal .ensures)
     (goes-on _ _ _ _ _ _ _ (k .if2 .left)
-    (placed-meets _ _ _ _ _ (shape (k .before .before)) _ _ _ (rw (c .before .before .before .before .before .before .before .before .before .before .before .blocks-in .ensures) at (c .before .before .before .before .before .before .before .before .before .clear .ensures)) (c .before .before .before .before .before .lay .ensures) (c .ask-placing .ensures)))))
+    (placed-meets _ _ _ _ _ (shape (k .before .before)) _ _ _ (rw (c .before .before .before .before .before .before .before .before .before .before .before .blocks-in .ensures) at (c .before .before .before .before .before .before .before .before .before .set-range .ensures)) (c .before .before .before .before .before .lay .ensures) (c .ask-placing .ensures)))))
 
 pub place-spec : {M : Type 1} → statement M
 place-spec =
@@ -75,7 +75,7 @@ place-spec =
     range-refusal-requires
     returns-2
     blocks-in-requires
-    clear-requires
+    set-range-requires
     lay-requires
     ask-placing-requires
     same-length
