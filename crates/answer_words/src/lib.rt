@@ -77,11 +77,13 @@ pub fn tell(answer: Answer, words: &mut [u64]) -> u64
     ensures { λ r. ⌜ r ≡ numberOf answer ⌝ }
     ensures { λ _. ⌜ now (words .exit) ≡ put (now (words .entry)) 0 (answerWords answer) ⌝ }
 {
-    let all = answer_words(answer);
-    if ANSWER_WORDS <= words.len() {
-        store_answer(words, all);
-    } else {
+    if words.len() < ANSWER_WORDS {
+        let all = answer_words(answer);
         write_words(words, &all);
+        return all[1];
     }
+    // Words of their own, which are not lent, so that the compiler lays none down before they are stored.
+    let all = answer_words(answer);
+    store_answer(words, all);
     all[1]
 }

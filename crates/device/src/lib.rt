@@ -28,16 +28,8 @@ pub fn host_answer(
     let pending = d.pending;
     match pending {
         Pending::Create { first: _, last: _ } => creation_answered(d, &bitmap[..], table, ok, host),
-        Pending::Nothing => discard_answered(d, bitmap, &table[..], mem, base, ok),
-        Pending::Discard {
-            first: _,
-            count: _,
-            status: _,
-        } => discard_answered(d, bitmap, &table[..], mem, base, ok),
-        Pending::DiscardOne {
-            block: _,
-            status: _,
-        } => discard_answered(d, bitmap, &table[..], mem, base, ok),
+        // One call for all others: the compiler then puts it in place, with no copy of the record.
+        _ => discard_answered(d, bitmap, &table[..], mem, base, ok),
     }
 }
 

@@ -9,6 +9,7 @@ use units::GuestAddr;
 use units::map_regions;
 use wire::VirtioMemResp;
 ghost use mathlib.Core.Path.{_≡_};
+ghost use mathlib.Core.Bool.{cond};
 ghost use Prim.Native.Nat.{_+_, _*_, _/_};
 ghost use Rattle.units.specs.Numbers.{blocksIn};
 ghost use Rattle.step.specs.Step.{tablesFit, readyRefusal, unplacedRefusal, pendingRefusal};
@@ -118,6 +119,13 @@ pub fn pending_refusal(d: Device, bytes: usize, words: usize) -> u64
     0
 }
 
+// The used length of a response that was delivered, or was not.
+fn used_length(delivered: bool) -> u32
+    ensures { λ r. ⌜ r ≡ cond delivered 10 0 ⌝ }
+{
+    if delivered { 10 } else { 0 }
+}
+
 // Ends a request: the response goes to the status address, wholly or not at all.
 pub fn respond(
     d: Device,
@@ -128,14 +136,9 @@ pub fn respond(
 ) -> Answered
     ensures { λ r. ⌜ Responded (guestOf (now (mem .entry)) base) (status .0) resp d r (now (mem .exit)) ⌝ }
 {
-    if deliver(mem, base, status, resp) {
-        return Answered {
-            device: d,
-            answer: Answer::Served(resp, 10),
-        };
-    }
+    let length = used_length(deliver(mem, base, status, resp));
     Answered {
         device: d,
-        answer: Answer::Served(resp, 0),
+        answer: Answer::Served(resp, length),
     }
 }
