@@ -196,6 +196,14 @@ impl Pair {
             "state, response",
         ];
         self.saw(names[usize::from(kind)], told.words[5]);
+        if blocks >= 512 {
+            let name = match kind {
+                PLUG => "plug of 512 blocks and more, response",
+                UNPLUG => "unplug of 512 blocks and more, response",
+                _ => "state of 512 blocks and more, response",
+            };
+            self.saw(name, told.words[5]);
+        }
         let (kind, state) = (told.words[5] as u16, told.words[6] as u16);
         let at = req as usize + 32 - BASE as usize;
         let word = |at: usize| u16::from_le_bytes([memory[at], memory[at + 1]]);

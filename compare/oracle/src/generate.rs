@@ -393,12 +393,15 @@ fn free(random: &mut Random, config: &Config, blocks: &[bool]) -> (u64, u16, Str
     let rest = &blocks[first.min(usable)..usable];
     let gap = rest.iter().take_while(|&&plugged| !plugged).count() as u64;
     let room = config.requested.saturating_sub(config.plugged) / BLOCK;
-    let most = gap.min(room).min(512 - first as u64 % 512);
-    let (count, kind) = match random.below(4) {
+    // All that can be plugged from here on, and what of it lies before the next border, which one plug of several regions must not cross.
+    let all = gap.min(room).min(65_535);
+    let most = all.min(512 - first as u64 % 512);
+    let (count, kind) = match random.below(5) {
         0 => (1, "one"),
         1 => (2.min(most), "two"),
         2 => (1 + random.below(1 + most.min(6)), "some"),
-        _ => (most, "most"),
+        3 => (most, "most"),
+        _ => (all, "all"),
     };
     let addr = config.start.wrapping_add(first as u64 * BLOCK);
     (addr, count as u16, format!("{place} {kind}"))
