@@ -1,7 +1,7 @@
 -- How the outcomes of placing, of a size change and of a creation's answer come about, test by test. Assumes nothing.
 use Prim.Native.Nat.{ℕ, _+_, _*_, _≤_}
 use mathlib.Core.Path.{_≡_, refl, ap, sym}
-use mathlib.Core.Bool.{Bool, true, false, cond}
+use mathlib.Core.Bool.{true, false}
 use mathlib.Core.List.{List, []}
 use native.Mathlib.Omega.{arith}
 use borrow.Author.Tests.{eq-eqb, ne-eqb}
@@ -20,7 +20,7 @@ use Rattle.resize.proofs.Laws.{asking}
 use Rattle.step.specs.declared.Answer.the-variants.{Refused}
 use Rattle.step.specs.declared.Answered.{Answered}
 use Rattle.step.specs.World.{World, Outcome, Meets, worldOf}
-use Rattle.step.specs.Step.{refused, unless, readyRefusal, unplacedRefusal, pendingRefusal, several, region, resizes, resized, asksCreate, placing}
+use Rattle.step.specs.Step.{refused, unless, several, region, resizes, resized, asksCreate, placing}
 use Rattle.placing.specs.Placing.{answeredBy}
 
 -- ---- the refusals
@@ -39,24 +39,6 @@ module _ (d : Device) (bm tb : List ℕ) where
 pub goes-on : (n : ℕ) (w : World) (o : Outcome) (s : Answered) (bm tb tb′ : List ℕ) → n ≡ 0 → Meets o s bm tb tb′ [] → Meets (unless n w [] o) s bm tb tb′ []
 unfolding unless
 goes-on n w o s bm tb tb′ h m = rw (eq-eqb n 0 h) m
-
--- a call that goes on has a record of the stated shape: 12 is the first test of each
-past-12 : (t : Bool) (n : ℕ) → cond t n 12 ≡ 0 → t ≡ true
-past-12 true n e = refl
-past-12 false n e = absurd (omega arith)
-
-module _ (d : Device) (bs rs : ℕ) where
-  pub ready-shaped : readyRefusal d bs rs ≡ 0 → shapedOf d ≡ true
-  unfolding readyRefusal
-  ready-shaped e = past-12 (shapedOf d) _ e
-
-  pub unplaced-shaped : unplacedRefusal d bs rs ≡ 0 → shapedOf d ≡ true
-  unfolding unplacedRefusal
-  unplaced-shaped e = past-12 (shapedOf d) _ e
-
-  pub pending-shaped : pendingRefusal d bs rs ≡ 0 → shapedOf d ≡ true
-  unfolding pendingRefusal
-  pending-shaped e = past-12 (shapedOf d) _ e
 
 -- ---- the usable size
 -- where it is worked out, and where a creation is asked for, no table is touched

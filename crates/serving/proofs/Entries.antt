@@ -1,14 +1,12 @@
 -- What the calls come to: the refusals before them, a request by its chain, and the host's answer to a discard. Assumes nothing.
 use Prim.Native.Nat.{ℕ, _+_, _-_, _*_, _/_}
-use mathlib.Core.Path.{_≡_, refl, sym, _∙_}
+use mathlib.Core.Path.{_≡_, refl, _∙_}
 use mathlib.Core.Bool.{Bool, true, false, not}
 use mathlib.Core.List.{List, [], _∷_}
-use native.Mathlib.Omega.{arith}
 use lib.ListN.{length}
 use borrow.Author.Tests.{eq-eqb, ne-eqb, not-true, not-false}
 use types.Run.{OneOf, miss}
 use denote.Enum.Declared.{tagOf}
-use Rattle.units.proofs.Tests.{by-test}
 use Rattle.units.specs.Numbers.{bytesOf}
 use Rattle.bitmap.specs.Blocks.{blocks, Filled}
 use Rattle.bitmap.proofs.Laws.{blocks-length}
@@ -38,19 +36,6 @@ bad-is : (p : Parsed) → OneOf (1 ∷ []) (tagOf parsed-type p) → (reason : �
 unfolding request
 bad-is (Got req status) k reason e w g = absurd (miss (1 ∷ []) 0 tt k)
 bad-is (Bad n) k reason e w g = rw e
-
--- past 12 the record is shaped
-pub ready-shaped : (d : Device) (n m : ℕ) {number : ℕ} → number ≡ readyRefusal d n m → number ≡ 0 → shapedOf d ≡ true
-unfolding readyRefusal
-ready-shaped d n m e h =
-    let r = sym e ∙ h in
-    by-test (shapedOf d) (λ t. t) (λ t. let z = rw t at r in absurd (omega arith))
-
-pub pending-shaped : (d : Device) (n m : ℕ) {number : ℕ} → number ≡ pendingRefusal d n m → number ≡ 0 → shapedOf d ≡ true
-unfolding pendingRefusal
-pending-shaped d n m e h =
-    let r = sym e ∙ h in
-    by-test (shapedOf d) (λ t. t) (λ t. let z = rw t at r in absurd (omega arith))
 
 module _ (d : Device) (bitmap table : List ℕ) (number : ℕ) where
   module _ (number-is : number ≡ readyRefusal d (8 * length bitmap) (length table / 3)) where

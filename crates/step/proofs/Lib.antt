@@ -1,3 +1,4 @@
 pub mod Laws
 pub mod Mapped
+pub mod Entry
 pub mod Edges

@@ -6,8 +6,9 @@ use Rattle.bitmap.proofs.Laws.{blocks-length}
 use Rattle.rows.proofs.Words.{count}
 use Rattle.record.specs.Shape.{shapedOf}
 use Rattle.record.proofs.Laws.{shaped-is, create-is}
+use Rattle.step.proofs.Entry.{waits-is}
 use Rattle.placing.specs.Placing.{creationAnswered}
-use Rattle.placing.proofs.Laws.{stops, goes-on, pending-shaped}
+use Rattle.placing.proofs.Laws.{stops, goes-on}
 use Rattle.placing.proofs.Creation.{none-meets, failed-meets, past-meets, created-meets}
 use borrow.Author.Needs.{needs}
 use Rattle.placing.proofs.creation_answered.Statement.{statement}
@@ -15,7 +16,7 @@ use Rattle.placing.proofs.creation_answered.Tie as tie
 
 -- past 12, 8 and 11
 shape : (c : tie.Else1) → shapedOf (c .before .before .before .before .args .d) ≡ true
-shape c = pending-shaped _ _ _ (sym (c .before .pending-refusal .ensures) ∙ c .if1 .left)
+shape c = waits-is _ _ _ (sym (c .before .pending-refusal .ensures) ∙ c .if1 .left) .shaped
 
 pending-refusal-requires : tie.Need-pending-refusal-requires
 pending-refusal-requires c κs = search needs

@@ -6,7 +6,8 @@ use Rattle.rows.proofs.Words.{count}
 use Rattle.record.specs.Shape.{shapedOf}
 use Rattle.record.proofs.Laws.{start-keeps}
 use Rattle.step.specs.Step.{step}
-use Rattle.placing.proofs.Laws.{stops, goes-on, unplaced-shaped}
+use Rattle.step.proofs.Entry.{unplaced-shaped}
+use Rattle.placing.proofs.Laws.{stops, goes-on}
 use Rattle.placing.proofs.Writes.{ranged, start-good, placed-meets}
 use borrow.Author.Needs.{needs}
 use Rattle.placing.proofs.place.Statement.{statement}

@@ -12,15 +12,16 @@ use Rattle.record.specs.Changes.{requestedTo}
 use denote.Ref.{now}
 use Rattle.step.specs.World.{worldOf}
 use Rattle.step.specs.Step.{step, deviceOf, setRequestedSize}
+use Rattle.step.proofs.Entry.{ready-is}
 use Rattle.making.proofs.Asked.{Asked, asked-is}
-use Rattle.placing.proofs.Laws.{refused-meets, stops, goes-on, ready-shaped, resizes-meets}
+use Rattle.placing.proofs.Laws.{refused-meets, stops, goes-on, resizes-meets}
 use borrow.Author.Needs.{needs}
 use Rattle.placing.proofs.set_requested_size.Statement.{statement}
 use Rattle.placing.proofs.set_requested_size.Tie as tie
 
 -- past 12, 7, 5 and 11
 shape : (c : tie.Else1) → shapedOf (c .before .before .before .before .args .d) ≡ true
-shape c = ready-shaped _ _ _ (sym (c .before .ready-refusal .ensures) ∙ c .if1 .left)
+shape c = ready-is _ _ _ (sym (c .before .ready-refusal .ensures) ∙ c .if1 .left) .shaped
 
 -- past 1
 size : (c : tie.Else2) → (let a = c .before .before .before .before .before .before .args in Asked (a .requested-mib * 1048576) (a .d .config .«region_size»))

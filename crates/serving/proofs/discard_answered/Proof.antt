@@ -1,7 +1,8 @@
 -- `serving::discard_answered` meets its contract: 12, 8 and 11 first, and 8 too where the pending call is no discard. Assumes nothing.
-use mathlib.Core.Path.{refl}
+use mathlib.Core.Path.{refl, sym, _∙_}
+use Rattle.step.proofs.Entry.{waits-is}
 use Rattle.serving.proofs.Ends.{as-met, answers}
-use Rattle.serving.proofs.Entries.{pending-shaped, discard-refused, discard-one, discard-range, discard-none}
+use Rattle.serving.proofs.Entries.{discard-refused, discard-one, discard-range, discard-none}
 use borrow.Author.Needs.{needs}
 use Rattle.serving.proofs.discard_answered.Statement.{statement}
 use Rattle.serving.proofs.discard_answered.Tie as tie
@@ -16,13 +17,13 @@ enum-known-pending : tie.Need-enum-known-pending
 enum-known-pending c = search needs
 
 unplug-answered-requires : tie.Need-unplug-answered-requires
-unplug-answered-requires c κs = (pending-shaped _ _ _ (c .before .before .before .before .before .before .pending-refusal .ensures) (c .before .before .before .before .before .if1 .left), c .before .before .before .pending .given .1)
+unplug-answered-requires c κs = (waits-is _ _ _ (sym (c .before .before .before .before .before .before .pending-refusal .ensures) ∙ c .before .before .before .before .before .if1 .left) .shaped, c .before .before .before .pending .given .1)
 
 enum-known-pending-2 : tie.Need-enum-known-pending-2
 enum-known-pending-2 c = search needs
 
 one-answered-requires : tie.Need-one-answered-requires
-one-answered-requires c κs = (pending-shaped _ _ _ (c .before .before .before .before .before .before .pending-refusal .ensures) (c .before .before .before .before .before .if1 .left), c .before .before .before .pending2 .given .1)
+one-answered-requires c κs = (waits-is _ _ _ (sym (c .before .before .before .before .before .before .pending-refusal .ensures) ∙ c .before .before .before .before .before .if1 .left) .shaped, c .before .before .before .pending2 .given .1)
 
 same-length : tie.Need-same-length
 same-length c = search needs

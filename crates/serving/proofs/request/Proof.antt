@@ -1,7 +1,8 @@
 -- `serving::request` meets its contract: 12, 7, 5 and 11, then the chain's reason, then the request. Assumes nothing.
-use mathlib.Core.Path.{refl}
+use mathlib.Core.Path.{refl, sym, _∙_}
+use Rattle.step.proofs.Entry.{ready-is}
 use Rattle.serving.proofs.Ends.{as-met, answers}
-use Rattle.serving.proofs.Entries.{ready-shaped, request-refused, request-bad, request-got}
+use Rattle.serving.proofs.Entries.{request-refused, request-bad, request-got}
 use borrow.Author.Needs.{needs}
 use Rattle.serving.proofs.request.Statement.{statement}
 use Rattle.serving.proofs.request.Tie as tie
@@ -31,7 +32,7 @@ returns-2 : tie.Need-returns-2
 returns-2 c = as-met (request-bad _ _ _ _ (c .before .before .before .before .before .before .ready-refusal .ensures) _ _ _ (c .before .before .before .before .before .if1 .left) _ (c .before .before .before .parse .ensures) (c .before .before .match .keys2) _ (c .reason .ensures)) (answers _ _ _ _ _ refl refl refl)
 
 serve-requires : tie.Need-serve-requires
-serve-requires c κs = ready-shaped _ _ _ (c .before .before .before .before .before .before .before .before .ready-refusal .ensures) (c .before .before .before .before .before .before .before .if1 .left)
+serve-requires c κs = ready-is _ _ _ (sym (c .before .before .before .before .before .before .before .before .ready-refusal .ensures) ∙ c .before .before .before .before .before .before .before .if1 .left) .shaped
 
 same-length-2 : tie.Need-same-length-2
 same-length-2 c = search needs
