@@ -43,13 +43,17 @@ hostIn (MappedAt host) offset size = hostSum (host .0) offset size
 hostIn NotMapped offset size = Unmapped
 hostIn PastTable offset size = Unmapped
 
+-- the row that (d) looks at: several regions have one for each 2 GiB of offsets, a single region has row 0
+abbrev pub rowOf : (several : Bool) (offset : ℕ) → ℕ
+rowOf several offset = cond several (offset / mapRegion) 0
+
 -- "(d) several regions: ERROR if the range crosses a 2 GiB border of offsets, the row is past the table, or unmapped; single: ERROR if row 0 is unmapped"
 unfoldable pub hostOf : (several : Bool) → List MapRow → (offset size : ℕ) → HostRange
 hostOf several rows offset size =
     cond several
     (cond (ltb mapRegion (offset % mapRegion + size)) CrossesBorder
-    (hostIn (mappingOf rows (offset / mapRegion)) (offset % mapRegion) size))
-    (hostIn (mappingOf rows 0) offset size)
+    (hostIn (mappingOf rows (rowOf several offset)) (offset % mapRegion) size))
+    (hostIn (mappingOf rows (rowOf several offset)) offset size)
 
 -- (d) of a range that passed (b) and (c): the first block, the offset and the host address
 unfoldable pub legalAt : (b offset : ℕ) → HostRange → Change

@@ -1,0 +1,67 @@
+-- Request 2/12: the row that test (d) looks at is in the table, so that a read past the table's end, which would find nothing mapped (`rowAt`), is never made. Assumes nothing.
+use Prim.Native.Nat.{ℕ, _+_, _*_, _<_}
+use mathlib.Core.Path.{_≡_, refl}
+use mathlib.Core.Bool.{Bool, true, false}
+use native.Mathlib.Omega.{arith}
+use lib.Dec.{leb}
+use lib.ListN.{length}
+use borrow.Author.Tests.{leb-true}
+use Rattle.units.specs.Numbers.{bytesOf, mapRegions}
+use Rattle.units.specs.declared.RegionOffset.{RegionOffset}
+use Rattle.units.proofs.Tests.{and-right}
+use Rattle.bitmap.proofs.Laws.{fill-length}
+use Rattle.wire.specs.declared.VirtioMemReq.{VirtioMemReq}
+use Rattle.record.specs.declared.Pending.the-variants.{Nothing}
+use Rattle.record.specs.Shape.{shapedOf, pendingOk}
+use Rattle.record.proofs.Laws.{shaped-is, pending-keeps}
+use Rattle.change.specs.declared.Range.the-variants.{Inside}
+use Rattle.change.specs.Change.{rangeOf, rowOf}
+use Rattle.change.proofs.Laws.{inside-is}
+use Rattle.step.specs.World.{World}
+use Rattle.step.specs.Step.{blockSize, region, usable, start, several, cleared, tablesFit, readyRefusal, pendingRefusal}
+use Rattle.step.proofs.Entry.{ready-is, waits-is}
+
+-- ---- a range that passed (b) has its row in the table
+abbrev pub RowInTable : World → (addr count : ℕ) → Type 0
+RowInTable w addr count = (o : RegionOffset) → rangeOf (blockSize w) (start w) (usable w) addr count ≡ Inside o → rowOf (several w) (o .0) < length (w .rows)
+
+-- of offsets below the region, each lies in one of its map regions
+row-counted : (region offset : ℕ) (several : Bool) → offset < region → rowOf several offset < mapRegions region several
+unfolding mapRegions
+row-counted region offset true h = omega arith
+row-counted region offset false h = omega arith
+
+-- in every world whose record has the shape and whose tables have the length
+pub row-in-table : (w : World) → shapedOf (w .device) ≡ true → tablesFit (w .device) (length (w .blocks)) (length (w .rows)) ≡ true → (addr count : ℕ) → RowInTable w addr count
+unfolding tablesFit
+row-in-table w shape fit addr count o e =
+    let s = shaped-is (w .device) shape in
+    let r = inside-is (blockSize w) (start w) (usable w) addr count o e in
+    let b = s .block-size in
+    let size : bytesOf (blockSize w) count ≡ count * 4194304 = rw b in
+    let below : o .0 < region w = omega (arith, r .in-usable, r .some, s .usable-in) in
+    let rows = leb-true _ (length (w .rows)) (and-right (leb _ (length (w .blocks))) _ fit) in
+    omega (arith, row-counted (region w) (o .0) (several w) below, rows)
+
+-- ---- at the entries
+module _ (w : World) (ready : readyRefusal (w .device) (length (w .blocks)) (length (w .rows)) ≡ 0) where
+  in-table : (addr count : ℕ) → RowInTable w addr count
+  in-table = let r = ready-is _ _ _ ready in row-in-table w (r .shaped) (r .fits)
+
+  -- a plug, and an unplug
+  pub request-row : (req : VirtioMemReq) → RowInTable w (req .addr .0) (req .«nb_blocks»)
+  request-row req = in-table (req .addr .0) (req .«nb_blocks»)
+
+  -- the first block of an unplug-all
+  pub first-row : (block : ℕ) → RowInTable w (start w + bytesOf (blockSize w) block) 1
+  first-row block = in-table (start w + bytesOf (blockSize w) block) 1
+
+-- each block of it that follows on one that was discarded
+pub next-row : (w : World) → pendingRefusal (w .device) (length (w .blocks)) (length (w .rows)) ≡ 0 → (done block : ℕ) → RowInTable (cleared w done) (start w + bytesOf (blockSize w) block) 1
+unfolding pendingOk tablesFit
+next-row w pending done block =
+    let p = waits-is _ _ _ pending in
+    row-in-table (cleared w done) (pending-keeps (w .device) (p .shaped) Nothing refl)
+    (rw (fill-length (w .blocks) done 1 false) (p .fits))
+    (start w + bytesOf (blockSize w) block)
+    1
