@@ -9,9 +9,6 @@ use Rattle.units.proofs.Tests.{passed, refused}
 use types.Run.{OneOf, miss}
 use denote.Enum.Declared.{tagOf}
 use Rattle.rows.specs.declared.MapRow.{MapRow}
-use Rattle.rows.specs.declared.Mapping.{Mapping}
-use Rattle.rows.specs.declared.Mapping.the-variants.{At as MappedAt, Unmapped as NotMapped, PastTable}
-use Rattle.rows.proofs.Mapping.{the-type as mapping-type}
 use Rattle.change.proofs.Range.{the-type as range-type}
 use Rattle.change.proofs.HostRange.{the-type as host-type}
 use Rattle.change.specs.declared.Range.{Range}
@@ -19,7 +16,7 @@ use Rattle.change.specs.declared.Range.the-variants.{Inside, Misaligned,
 use Rattle.change.specs.declared.HostRange.{HostRange}
 use Rattle.change.specs.declared.HostRange.the-variants.{At, CrossesBorder, Unmapped, SumPasses}
 use Rattle.change.specs.declared.Change.the-variants.{Outside, NoHost}
-use Rattle.change.specs.Change.{hostIn, legalAt, changeIn}
+use Rattle.change.specs.Change.{legalAt, changeIn}
 
 -- past `if !sum_within(..) { return .. }`, and on the way out
 pub sum-within : (n limit : ℕ) (r : Bool) → r ≡ leb n limit → not r ≡ false → n ≤ limit
@@ -46,9 +43,3 @@ not-at (At host) k b offset = absurd (miss (1 ∷ 2 ∷ 3 ∷ []) 0 tt k)
 not-at CrossesBorder k b offset = refl
 not-at Unmapped k b offset = refl
 not-at SumPasses k b offset = refl
-
-pub not-mapped : (m : Mapping) → OneOf (1 ∷ 2 ∷ []) (tagOf mapping-type m) → (offset size : ℕ) → Unmapped ≡ hostIn m offset size
-unfolding hostIn
-not-mapped (MappedAt host) k offset size = absurd (miss (1 ∷ 2 ∷ []) 0 tt k)
-not-mapped NotMapped k offset size = refl
-not-mapped PastTable k offset size = refl

@@ -16,7 +16,7 @@ use Rattle.bitmap.specs.Blocks.{range, every, allAre}
 use Rattle.bitmap.proofs.Laws.{range-end}
 use Rattle.rows.specs.declared.MapRow.{MapRow}
 use Rattle.rows.specs.declared.Mapping.{Mapping}
-use Rattle.rows.specs.declared.Mapping.the-variants.{At as MappedAt, Unmapped as NotMapped, PastTable}
+use Rattle.rows.specs.declared.Mapping.the-variants.{At as MappedAt, Unmapped as NotMapped}
 use Rattle.rows.specs.Rows.{mappingOf}
 use Rattle.change.specs.declared.Range.{Range}
 use Rattle.change.specs.declared.Range.the-variants.{Inside, Misaligned, NoBlocks, Overflows, BelowStart, PastUsable, EndPastUsable}
@@ -98,7 +98,6 @@ mapping-fits : (m : Mapping) (offset size : ℕ) (host : HostAddr) → hostIn m 
 unfolding hostIn
 mapping-fits (MappedAt base) offset size host e = sum-fits (base .0) offset size host e
 mapping-fits NotMapped offset size host e = let z : _≡_ {A = ℕ} 0 1 = cc in absurd (omega arith)
-mapping-fits PastTable offset size host e = let z : _≡_ {A = ℕ} 0 1 = cc in absurd (omega arith)
 
 pub host-is : (several : Bool) (rows : List MapRow) (offset size : ℕ) (host : HostAddr) → hostOf several rows offset size ≡ At host → Hosted several offset size (host .0)
 unfolding hostOf

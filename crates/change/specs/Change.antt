@@ -7,7 +7,7 @@ use lib.ListN.{take}
 use Rattle.bitmap.specs.Blocks.{every, range, allAre}
 use Rattle.rows.specs.declared.MapRow.{MapRow}
 use Rattle.rows.specs.declared.Mapping.{Mapping}
-use Rattle.rows.specs.declared.Mapping.the-variants.{At as MappedAt, Unmapped as NotMapped, PastTable}
+use Rattle.rows.specs.declared.Mapping.the-variants.{At as MappedAt, Unmapped as NotMapped}
 use Rattle.rows.specs.Rows.{mappingOf}
 use Rattle.units.specs.Numbers.{top, bytesOf, blocksIn, mapRegion}
 use Rattle.change.specs.declared.Range.{Range}
@@ -37,17 +37,16 @@ rangeOf b start usable addr count =
 unfoldable pub hostSum : (host offset size : ℕ) → HostRange
 hostSum host offset size = cond (ltb top (host + offset + size)) SumPasses (At (record { 0 = host + offset }))
 
--- "ERROR if .. the row is past the table, or unmapped", then the host sum
+-- "ERROR if .. unmapped", then the host sum
 unfoldable pub hostIn : Mapping → (offset size : ℕ) → HostRange
 hostIn (MappedAt host) offset size = hostSum (host .0) offset size
 hostIn NotMapped offset size = Unmapped
-hostIn PastTable offset size = Unmapped
 
 -- the row that (d) looks at: several regions have one for each 2 GiB of offsets, a single region has row 0
 abbrev pub rowOf : (several : Bool) (offset : ℕ) → ℕ
 rowOf several offset = cond several (offset / mapRegion) 0
 
--- "(d) several regions: ERROR if the range crosses a 2 GiB border of offsets, the row is past the table, or unmapped; single: ERROR if row 0 is unmapped"
+-- "(d) several regions: ERROR if the range crosses a 2 GiB border of offsets, .. or unmapped; single: ERROR if row 0 is unmapped", as 02's 2/12 leaves it: the row is in the table (`row-in-table` of `step`)
 unfoldable pub hostOf : (several : Bool) → List MapRow → (offset size : ℕ) → HostRange
 hostOf several rows offset size =
     cond several

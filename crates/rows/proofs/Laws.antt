@@ -7,32 +7,28 @@ use native.Mathlib.Omega.{arith}
 use lib.Dec.{eqb}
 use lib.ListN.{length, getD, take, drop, length-take, length-drop}
 use lib.Seq.{take-nil, drop-nil, getD-take, getD-drop}
-use borrow.Author.Tests.{lt-ltb, le-ltb, eq-eqb, ne-eqb, eqb-true, eqb-false}
+use borrow.Author.Tests.{eq-eqb, ne-eqb, eqb-true, eqb-false}
 use Rattle.units.specs.Numbers.{top, held, mapRegion}
 use Rattle.units.proofs.Tests.{by-test}
 use Rattle.rows.specs.declared.FirstUnmapped.the-variants.{Row, NoneLeft}
-use Rattle.rows.specs.declared.Mapping.the-variants.{At, Unmapped, PastTable}
+use Rattle.rows.specs.declared.Mapping.the-variants.{At, Unmapped}
 use Rattle.rows.specs.declared.MapRow.{MapRow}
 use Rattle.rows.specs.Rows.{rowAt, mappingOf, unmappedFrom, firstUnmapped, mappedAt, fillRows, filled, laid}
 
--- ---- where a row is mapped: its three cases
+-- ---- where a row is mapped: its two cases
 module _ (rs : List MapRow) (i : ℕ) where
-  pub mapping-past : length rs ≤ i → mappingOf rs i ≡ PastTable
+  pub mapping-unmapped : rowAt rs i .mapped ≡ 0 → mappingOf rs i ≡ Unmapped
   unfolding mappingOf
-  mapping-past l = rw (le-ltb i (length rs) l)
+  mapping-unmapped m = rw (eq-eqb (rowAt rs i .mapped) 0 m)
 
-  pub mapping-unmapped : i < length rs → rowAt rs i .mapped ≡ 0 → mappingOf rs i ≡ Unmapped
+  pub mapping-at : (rowAt rs i .mapped ≡ 0 → ⊥) → mappingOf rs i ≡ At (rowAt rs i .host)
   unfolding mappingOf
-  mapping-unmapped l m = rw (lt-ltb i (length rs) l, eq-eqb (rowAt rs i .mapped) 0 m)
-
-  pub mapping-at : i < length rs → (rowAt rs i .mapped ≡ 0 → ⊥) → mappingOf rs i ≡ At (rowAt rs i .host)
-  unfolding mappingOf
-  mapping-at l m = rw (lt-ltb i (length rs) l, ne-eqb (rowAt rs i .mapped) 0 m)
+  mapping-at m = rw (ne-eqb (rowAt rs i .mapped) 0 m)
 
 -- it depends on nothing but that row
-pub mapping-same : (rs ss : List MapRow) (i : ℕ) → length rs ≡ length ss → rowAt rs i ≡ rowAt ss i → mappingOf rs i ≡ mappingOf ss i
+pub mapping-same : (rs ss : List MapRow) (i : ℕ) → rowAt rs i ≡ rowAt ss i → mappingOf rs i ≡ mappingOf ss i
 unfolding mappingOf
-mapping-same rs ss i l e = rw (l, e)
+mapping-same rs ss i e = rw e
 
 -- ---- the search
 -- row j is the first from `first` to `last` that is not mapped
@@ -149,7 +145,7 @@ pub fill-mapping : (rs : List MapRow) (i last h j : ℕ) → i ≤ j → j ≤ l
 fill-mapping rs i last h j p q l t =
     let e = fill-inside rs i (last + 1 - i) h j p (omega arith) l in
     let m : held (h + (j - i) * mapRegion) ≡ h + (j - i) * mapRegion = omega arith in
-    mapping-at (filled rs i last h) j (omega (arith, fill-length rs i (last + 1 - i) h)) (λ z. omega (arith, ap (λ r. r .mapped) e)) ∙ rw (e, m)
+    mapping-at (filled rs i last h) j (λ z. omega (arith, ap (λ r. r .mapped) e)) ∙ rw (e, m)
 
 -- nothing is left unmapped where rows were filled
 pub fill-maps-all : (rs : List MapRow) (i n h k : ℕ) → unmappedFrom k (take n (drop i (fillRows rs i n h))) ≡ NoneLeft

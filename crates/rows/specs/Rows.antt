@@ -3,14 +3,14 @@
 use Prim.Native.Nat.{ℕ, zero, suc, _+_, _-_, _*_}
 use mathlib.Core.Bool.{Bool, not, cond}
 use mathlib.Core.List.{List, [], _∷_, _++_}
-use lib.Dec.{eqb, ltb}
+use lib.Dec.{eqb}
 use lib.ListN.{length, getD, take, drop}
 use Rattle.units.specs.Numbers.{held, mapRegion}
 use Rattle.rows.specs.declared.FirstUnmapped.{FirstUnmapped}
 use Rattle.rows.specs.declared.FirstUnmapped.the-variants.{Row, NoneLeft}
 use Rattle.rows.specs.declared.MapRow.{MapRow}
 use Rattle.rows.specs.declared.Mapping.{Mapping}
-use Rattle.rows.specs.declared.Mapping.the-variants.{At, Unmapped, PastTable}
+use Rattle.rows.specs.declared.Mapping.the-variants.{At, Unmapped}
 
 -- the rows of a table of words
 unfoldable pub rowsOf : List ℕ → List MapRow
@@ -35,12 +35,9 @@ rowAt rows i = getD rows i (record { slot = 0; mapped = 0; host = record { 0 = 0
 abbrev pub isMapped : MapRow → Bool
 isMapped row = not (eqb (row .mapped) 0)
 
--- "the row is past the table, or unmapped", or where it is mapped
+-- "unmapped", or where row i is mapped
 unfoldable pub mappingOf : List MapRow → ℕ → Mapping
-mappingOf rows i =
-    cond (ltb i (length rows))
-    (cond (isMapped (rowAt rows i)) (At (rowAt rows i .host)) Unmapped)
-    PastTable
+mappingOf rows i = cond (isMapped (rowAt rows i)) (At (rowAt rows i .host)) Unmapped
 
 -- the first row that is not mapped, where the first of the list is row i
 unfoldable pub unmappedFrom : ℕ → List MapRow → FirstUnmapped

@@ -18,7 +18,6 @@ pub struct MapRow {
 pub enum Mapping {
     At(HostAddr),
     Unmapped,
-    PastTable,
 }
 
 // What the search for a map region without a mapping found.
@@ -34,7 +33,7 @@ pub fn row_count(table: &[u64]) -> u64
     table.len() as u64 / 3
 }
 
-// A row; past the table slot 0, not mapped.
+// A row; past the table, where no request looks (`row-in-table` of `step`), slot 0 and not mapped.
 fn row_at(table: &[u64], row: u64) -> MapRow
     ensures { λ r. ⌜ r ≡ rowAt (rowsOf (now (table .entry))) row ⌝ }
 {
@@ -85,9 +84,6 @@ pub fn slot_of(table: &[u64], row: u64) -> u64
 pub fn mapping_of(table: &[u64], row: u64) -> Mapping
     ensures { λ r. ⌜ r ≡ mappingOf (rowsOf (now (table .entry))) row ⌝ }
 {
-    if row_count(table) <= row {
-        return Mapping::PastTable;
-    }
     let found = row_at(table, row);
     if found.mapped == 0 {
         return Mapping::Unmapped;

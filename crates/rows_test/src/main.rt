@@ -22,7 +22,6 @@ fn show_mapping(name: &[u8], mapping: Mapping) {
     match mapping {
         Mapping::At(host) => show(name, host.0),
         Mapping::Unmapped => say(b"unmapped"),
-        Mapping::PastTable => say(b"past the table"),
     }
 }
 

@@ -1,6 +1,5 @@
 -- `change::host_in` meets its contract. Assumes nothing.
 use Rattle.change.specs.Change.{hostIn}
-use Rattle.change.proofs.Ends.{not-mapped}
 use borrow.Author.Needs.{needs}
 use Rattle.change.proofs.host_in.Statement.{statement}
 use Rattle.change.proofs.host_in.Tie as tie
@@ -8,8 +7,12 @@ use Rattle.change.proofs.host_in.Tie as tie
 enum-known-mapping : tie.Need-enum-known-mapping
 enum-known-mapping c = search needs
 
+enum-told : tie.Need-enum-told
+enum-told c = search needs
+
 returns : tie.Need-returns
-returns c = not-mapped _ (c .match .keys2) _ _
+unfolding hostIn
+returns c = simp (c .enum-told .given .1)
 
 host-sum-requires : tie.Need-host-sum-requires
 host-sum-requires c κs = search needs
@@ -19,4 +22,5 @@ unfolding hostIn
 returns-2 c = simp (c .before .before .mapping .given .1) (c .host-sum .ensures)
 
 pub host-in-spec : {M : Type 1} → statement M
-host-in-spec = tie.close (tie.spec enum-known-mapping returns host-sum-requires returns-2)
+host-in-spec =
+    tie.close (tie.spec enum-known-mapping enum-told returns host-sum-requires returns-2)
