@@ -17,13 +17,14 @@ use Rattle.bitmap.proofs.Laws.{range-end}
 use Rattle.rows.specs.declared.MapRow.{MapRow}
 use Rattle.rows.specs.declared.Mapping.{Mapping}
 use Rattle.rows.specs.declared.Mapping.the-variants.{At as MappedAt, Unmapped as NotMapped}
-use Rattle.rows.specs.Rows.{mappingOf}
+use Rattle.rows.specs.Rows.{rowAt, mappingOf}
+use Rattle.rows.proofs.Laws.{mapping-same}
 use Rattle.change.specs.declared.Range.{Range}
 use Rattle.change.specs.declared.Range.the-variants.{Inside, Misaligned, NoBlocks, Overflows, BelowStart, PastUsable, EndPastUsable}
 use Rattle.change.specs.declared.HostRange.{HostRange}
 use Rattle.change.specs.declared.HostRange.the-variants.{At, CrossesBorder, Unmapped, SumPasses}
 use Rattle.change.specs.declared.Change.the-variants.{Legal}
-use Rattle.change.specs.Change.{insideOf, rangeOf, hostSum, hostIn, hostOf, legalAt, changeIn, changeOf, stateIn, stateOf}
+use Rattle.change.specs.Change.{insideOf, rangeOf, hostSum, hostIn, rowOf, hostOf, legalAt, changeIn, changeOf, stateIn, stateOf}
 
 -- ---- the blocks of a range that exist, where they end at block n
 pub range-cut : (n : ℕ) (bs : List Bool) (f c : ℕ) → range (take n bs) f c ≡ range bs f (min c (n - f))
@@ -196,23 +197,17 @@ block-inside b start usable block h s t k =
       in-usable = end;
     }
 
--- ---- what a decision depends on: the mapping of one row, and the blocks of the range
-pub host-single : (rs ss : List MapRow) (offset size : ℕ) → mappingOf rs 0 ≡ mappingOf ss 0 → hostOf false rs offset size ≡ hostOf false ss offset size
+-- ---- what a decision depends on: of a range that passed (b), its one row and its blocks
+pub host-same : (several : Bool) (rs ss : List MapRow) (offset size : ℕ) → rowAt rs (rowOf several offset) ≡ rowAt ss (rowOf several offset) → hostOf several rs offset size ≡ hostOf several ss offset size
 unfolding hostOf
-host-single rs ss offset size e = rw e
-
-pub host-several : (rs ss : List MapRow) (offset size : ℕ) → mappingOf rs (offset / mapRegion) ≡ mappingOf ss (offset / mapRegion) → hostOf true rs offset size ≡ hostOf true ss offset size
-unfolding hostOf
-host-several rs ss offset size e = rw e
+host-same several rs ss offset size e = rw (mapping-same rs ss (rowOf several offset) e)
 
 module _ (b start usable : ℕ) (several : Bool) (addr count : ℕ) (wanted : Bool) (bs cs : List Bool) (rs ss : List MapRow)
-    (same-blocks : range bs (blocksIn b (addr - start)) count ≡ range cs (blocksIn b (addr - start)) count)
-    (same-host : hostOf several rs (addr - start) (bytesOf b count) ≡ hostOf several ss (addr - start) (bytesOf b count)) where
+    (same-blocks : (o : RegionOffset) → rangeOf b start usable addr count ≡ Inside o → range bs (blocksIn b (o .0)) count ≡ range cs (blocksIn b (o .0)) count)
+    (same-row : (o : RegionOffset) → rangeOf b start usable addr count ≡ Inside o → rowAt rs (rowOf several (o .0)) ≡ rowAt ss (rowOf several (o .0))) where
   same-in : (r : Range) → rangeOf b start usable addr count ≡ r → changeIn r b several count wanted bs rs ≡ changeIn r b several count wanted cs ss
   unfolding changeIn
-  same-in (Inside o) q =
-      let e = inside-is b start usable addr count o q .offset-is in
-      rw (e, same-blocks, same-host)
+  same-in (Inside o) q = rw (same-blocks o q, host-same several rs ss (o .0) (bytesOf b count) (same-row o q))
   same-in Misaligned q = refl
   same-in NoBlocks q = refl
   same-in Overflows q = refl

@@ -2,4 +2,5 @@ pub mod Laws
 pub mod Mapped
 pub mod Entry
 pub mod InTable
+pub mod Behind
 pub mod Edges
