@@ -11,7 +11,6 @@ use Rattle.units.proofs.Tests.{by-test}
 use Rattle.bitmap.specs.Blocks.{nextSet}
 use Rattle.bitmap.specs.declared.Found.{Found}
 use Rattle.bitmap.specs.declared.Found.the-variants.{At, Nothing as NoneSet}
-use Rattle.bitmap.proofs.Laws.{fill-length}
 use Rattle.wire.specs.declared.VirtioMemReq.{VirtioMemReq}
 use Rattle.chain.specs.declared.Parsed.{Parsed}
 use Rattle.chain.specs.declared.Parsed.the-variants.{Request as Got, Bad}
@@ -19,16 +18,15 @@ use Rattle.chain.specs.Chain.{parsed}
 use Rattle.rows.specs.declared.MapRow.{MapRow}
 use Rattle.record.specs.declared.Pending.{Pending}
 use Rattle.record.specs.declared.Pending.the-variants.{Nothing, Create, Discard, DiscardOne}
-use Rattle.record.specs.Shape.{shapedOf, pendingOk}
-use Rattle.record.proofs.Laws.{pending-keeps}
+use Rattle.record.specs.Shape.{shapedOf}
 use Rattle.change.specs.declared.Change.{Change}
 use Rattle.change.specs.declared.Change.the-variants.{Legal, Outside, WrongState, NoHost}
 use Rattle.change.specs.Change.{rowOf}
 use Rattle.change.proofs.Laws.{change-same}
 use Rattle.step.specs.World.{World, Guest, Outcome, Request, HostAnswer}
 use Rattle.step.specs.Step.{blockSize, usable, plugged, requested, start, several, regionBlocks, tablesFit, readyRefusal, pendingRefusal, unless, changing, plugAs, plug, unplugAs, oneAs, nextAs, cleared, unplugAll, serve, request, hostAnswer, step}
-use Rattle.step.proofs.Entry.{Ready, Waits, ready-is, ready-when, waits-is, waits-when, fits-longer}
-use Rattle.step.proofs.InTable.{row-in-table}
+use Rattle.step.proofs.Entry.{Ready, ready-is, ready-when, waits-is, waits-when, fits-longer}
+use Rattle.step.proofs.InTable.{row-in-table, cleared-shaped, cleared-fits}
 
 -- an unplug, or a block of an unplug-all
 pub isDiscard : Pending → Bool
@@ -116,17 +114,17 @@ module _ (w : World) (more : List MapRow) (g : Guest) where
 
   -- the host's answer to a discard that is not refused: the end of an unplug, and each block of an unplug-all that follows
   pub answer-behind : pendingRefusal (w .device) blocks (length (w .rows)) ≡ 0 → isDiscard (w .device .pending) ≡ true → (ok : Bool) (host : ℕ) → step (longer more w) (HostAnswer g ok host) ≡ longerAfter more (step w (HostAnswer g ok host))
-  unfolding step unless hostAnswer isDiscard pendingOk tablesFit
+  unfolding step unless hostAnswer isDiscard
   answer-behind pending discard ok host =
       let p = waits-is (w .device) blocks (length (w .rows)) pending in
       let p′ = waits-when (w .device) blocks (length (w .rows ++ more)) (record { shaped = p .shaped; not-idle = p .not-idle; fits = more-fit (p .fits) }) in
-      rw (pending, p′) (go p (w .device .pending) discard)
+      rw (pending, p′) (go (w .device .pending) discard)
     where
-      go : Waits (w .device) blocks (length (w .rows)) → (q : Pending) → isDiscard q ≡ true → hostAnswer q (longer more w) g ok host ≡ longerAfter more (hostAnswer q w g ok host)
-      go p Nothing e = let z : _≡_ {A = ℕ} 0 1 = cc in absurd (omega arith)
-      go p (Create first last) e = let z : _≡_ {A = ℕ} 0 1 = cc in absurd (omega arith)
-      go p (Discard first count status) e = by-test ok (λ t. rw t) (λ t. rw t)
-      go p (DiscardOne block status) e =
+      go : (q : Pending) → isDiscard q ≡ true → hostAnswer q (longer more w) g ok host ≡ longerAfter more (hostAnswer q w g ok host)
+      go Nothing e = let z : _≡_ {A = ℕ} 0 1 = cc in absurd (omega arith)
+      go (Create first last) e = let z : _≡_ {A = ℕ} 0 1 = cc in absurd (omega arith)
+      go (Discard first count status) e = by-test ok (λ t. rw t) (λ t. rw t)
+      go (DiscardOne block status) e =
           by-test ok
-          (λ t. rw t (unplug-all-behind (cleared w block) (pending-keeps (w .device) (p .shaped) Nothing refl) (rw (fill-length (w .blocks) block 1 false) (p .fits)) more (status .0) g (block + 1)))
+          (λ t. rw t (unplug-all-behind (cleared w block) (cleared-shaped w pending block) (cleared-fits w pending block) more (status .0) g (block + 1)))
           (λ t. rw t)

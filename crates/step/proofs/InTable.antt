@@ -1,4 +1,4 @@
--- Request 2/12: the row that test (d) looks at is in the table, so that a read past the table's end, which would find nothing mapped (`rowAt`), is never made. Assumes nothing.
+-- Request 2/12: the row that test (d) looks at is in the table, so that (d) never looks past the table's end, where nothing is mapped (`rowAt`). Assumes nothing.
 use Prim.Native.Nat.{ℕ, _+_, _*_, _<_}
 use mathlib.Core.Path.{_≡_, refl}
 use mathlib.Core.Bool.{Bool, true, false}
@@ -56,12 +56,16 @@ module _ (w : World) (ready : readyRefusal (w .device) (length (w .blocks)) (len
   pub first-row : (block : ℕ) → RowInTable w (start w + bytesOf (blockSize w) block) 1
   first-row block = in-table (start w + bytesOf (blockSize w) block) 1
 
--- each block of it that follows on one that was discarded
-pub next-row : (w : World) → pendingRefusal (w .device) (length (w .blocks)) (length (w .rows)) ≡ 0 → (done block : ℕ) → RowInTable (cleared w done) (start w + bytesOf (blockSize w) block) 1
-unfolding pendingOk tablesFit
-next-row w pending done block =
-    let p = waits-is _ _ _ pending in
-    row-in-table (cleared w done) (pending-keeps (w .device) (p .shaped) Nothing refl)
-    (rw (fill-length (w .blocks) done 1 false) (p .fits))
-    (start w + bytesOf (blockSize w) block)
-    1
+-- a block of it that was discarded leaves the shape and the lengths
+module _ (w : World) (pending : pendingRefusal (w .device) (length (w .blocks)) (length (w .rows)) ≡ 0) (done : ℕ) where
+  pub cleared-shaped : shapedOf (cleared w done .device) ≡ true
+  unfolding pendingOk
+  cleared-shaped = pending-keeps (w .device) (waits-is _ _ _ pending .shaped) Nothing refl
+
+  pub cleared-fits : tablesFit (cleared w done .device) (length (cleared w done .blocks)) (length (cleared w done .rows)) ≡ true
+  unfolding tablesFit
+  cleared-fits = rw (fill-length (w .blocks) done 1 false) (waits-is _ _ _ pending .fits)
+
+  -- each block that follows on it
+  pub next-row : (block : ℕ) → RowInTable (cleared w done) (start w + bytesOf (blockSize w) block) 1
+  next-row block = row-in-table (cleared w done) cleared-shaped cleared-fits (start w + bytesOf (blockSize w) block) 1
