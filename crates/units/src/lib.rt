@@ -53,10 +53,7 @@ impl GuestAddr {
     pub fn offset_from(self, start: GuestAddr) -> RegionOffset
         ensures { λ r. ⌜ r .0 ≡ self .0 - start .0 ⌝ }
     {
-        if self.0 < start.0 {
-            return RegionOffset(0);
-        }
-        RegionOffset(self.0 - start.0)
+        RegionOffset(saturating_sub(self.0, start.0))
     }
 }
 
@@ -109,6 +106,16 @@ pub fn smaller(a: u64, b: u64) -> u64
     ensures { λ r. ⌜ r ≡ min a b ⌝ }
 {
     if a < b { a } else { b }
+}
+
+// a - b, and 0 where b is the larger.
+pub fn saturating_sub(a: u64, b: u64) -> u64
+    ensures { λ r. ⌜ r ≡ a - b ⌝ }
+{
+    if a < b {
+        return 0;
+    }
+    a - b
 }
 
 // Whether a + b is at most `limit`, as numbers without end: no sum is made.
