@@ -12,9 +12,9 @@ use Rattle.record.specs.Changes.{requestedTo}
 use Rattle.resize.specs.Resize.{newSize}
 use Rattle.resize.proofs.Laws.{asking}
 use Rattle.step.specs.World.{World, SetRequestedSize, Outcome}
-use Rattle.step.specs.Step.{step, blockSize, region, usable, requested, several, newUsable, deviceOf, refused, resized}
+use Rattle.step.specs.Step.{step, blockSize, region, usable, requested, several, newUsable, deviceOf, refused, resized, Untouched}
 use Rattle.history.specs.History.{next, after, begun}
-use Rattle.history.specs.Rules.{InEveryRun, Untouched, SizeChangeTouchesNothing, LoweringAsksNothing}
+use Rattle.history.specs.Rules.{InEveryRun, SizeChangeTouchesNothing, LoweringAsksNothing}
 use Rattle.history.proofs.Shaped.{block-is}
 use Rattle.history.proofs.KeepsShape.{is-shaped}
 use Rattle.history.proofs.Cases.{on-ready, size-cases, resized-cases}

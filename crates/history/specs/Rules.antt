@@ -15,7 +15,7 @@ use Rattle.record.specs.Shape.{shapedOf}
 use Rattle.step.specs.declared.Answer.{Answer}
 use Rattle.step.specs.declared.Answer.the-variants.{Refused, Wants, Sized, Unserved, Served, Done}
 use Rattle.step.specs.World.{World, Call, Place, SetRequestedSize, Request, HostAnswer, ReadConfig, WriteConfig}
-use Rattle.step.specs.Step.{step, blockSize, usable, plugged, requested, newUsable, regionBlocks}
+use Rattle.step.specs.Step.{step, blockSize, usable, plugged, requested, newUsable, regionBlocks, Untouched}
 use Rattle.history.specs.History.{Event, PlugAck, UnplugAck, Discarded, UnplugAllAck, eventsOf, since, inPlugs, inUnplugs, Story, next, after, Fresh, begun}
 
 -- of any list of calls from any newly made device, and of any call after them
@@ -42,13 +42,7 @@ UsableNeverShrinks s c = usable (s .world) ≤ usable (next s c .world)
 abbrev pub PlugWithinRequested : Story → Call → Type 0
 PlugWithinRequested s c = plugged (s .world) < plugged (next s c .world) → plugged (next s c .world) ≤ requested (next s c .world)
 
--- ---- lowering the requested size changes no block and no row
-pub record Untouched (w w′ : World) : Type 0 where
-  pub same-blocks : w′ .blocks ≡ w .blocks
-  pub same-rows : w′ .rows ≡ w .rows
-  pub same-plugged : plugged w′ ≡ plugged w
-
--- nor does raising it: rows change when the host has answered
+-- ---- lowering the requested size changes no block and no row, nor does raising it: rows change when the host has answered
 abbrev pub SizeChangeTouchesNothing : Story → Call → Type 0
 SizeChangeTouchesNothing s c = (mib : ℕ) → c ≡ SetRequestedSize mib → Untouched (s .world) (next s c .world)
 

@@ -1,10 +1,11 @@
 -- The laws of `specs/Shape.antt` and `specs/Changes.antt` that a caller cites: what the shape says in numbers, and which changes keep it. Assumes nothing.
 use Prim.Native.Nat.{ℕ, _+_, _-_, _*_, _%_, _≤_, _<_}
-use mathlib.Core.Path.{_≡_, refl, sym}
+use mathlib.Core.Path.{_≡_, refl, ap, _∙_, sym}
 use mathlib.Core.Bool.{Bool, true, false, not, _&&_, _||_}
+use native.Mathlib.Nat.{add-mul-mod-self-right, zero-mod}
 use native.Mathlib.Omega.{arith}
 use lib.Dec.{leb, ltb, eqb}
-use borrow.Author.Tests.{eqb-true, leb-true, ltb-true, eq-eqb, le-leb}
+use borrow.Author.Tests.{eqb-true, leb-true, leb-false, ltb-true, eq-eqb, le-leb}
 use Rattle.units.specs.Numbers.{top, bytesOf, blocksIn, mapRegion, mapRegions}
 use Rattle.units.specs.declared.GuestAddr.{GuestAddr}
 use Rattle.units.proofs.Tests.{by-test, and-left, and-right}
@@ -137,6 +138,23 @@ size-is b n region e h = (rw e at (eqb-true (n % b) 0 (and-left (eqb (n % b) 0) 
 pub size-ok : (b n region : ℕ) → b ≡ 4194304 → n % 4194304 ≡ 0 → n ≤ region → sizeOk b n region ≡ true
 unfolding sizeOk
 size-ok b n region e h l = rw (e, eq-eqb (n % 4194304) 0 h) (le-leb n region l)
+
+-- whole blocks less some of them, and 0 where there are not so many, are whole blocks
+whole-less : (b n c : ℕ) → n % b ≡ 0 → (n - c * b) % b ≡ 0
+whole-less b n c whole =
+    by-test (leb (c * b) n)
+    (λ t.
+    let enough = leb-true (c * b) n t in
+    let back : n - c * b + c * b ≡ n = omega arith in
+    sym (add-mul-mod-self-right (n - c * b) c b) ∙ ap (λ k. k % b) back ∙ whole)
+    (λ t. let few = leb-false (c * b) n t in let none : n - c * b ≡ 0 = omega arith in rw none (zero-mod b))
+
+pub less-ok : (b n region c : ℕ) → sizeOk b n region ≡ true → sizeOk b (n - c * b) region ≡ true
+unfolding sizeOk
+less-ok b n region c e =
+    let whole = eqb-true (n % b) 0 (and-left (eqb (n % b) 0) _ e) in
+    let within = leb-true n region (and-right (eqb (n % b) 0) _ e) in
+    rw (eq-eqb ((n - c * b) % b) 0 (whole-less b n c whole)) (le-leb (n - c * b) region (omega arith))
 
 region-is : (region a : ℕ) → regionOk region a ≡ true → (alignmentOk a ≡ true) × (0 < region) × (region % (2 * a) ≡ 0) × (region ≤ 1099511627776)
 unfolding regionOk
@@ -290,12 +308,6 @@ module _ (d : Device) (e : shapedOf d ≡ true) where
       whole (deviceWith d (configWith (d .config) start usable plugged requested) placed p)
       (record { block = o .block; region = o .region; requested = q; usable = u; plugged = g; start = s; several = o .several; pending = t })
 
-  pub pending-keeps : (p : Pending) → pendingOk p (d .config .«block_size») (d .config .«region_size») (d .«multi_region») (d .config .«plugged_size») ≡ true → shapedOf (pendingTo p d) ≡ true
-  pending-keeps p t =
-      let c = d .config in
-      let o = parts d e in
-      changed-keeps (c .addr .0) (c .«usable_region_size») (c .«plugged_size») (c .«requested_size») (d .placed) p (o .start) (o .usable) (o .plugged) (o .requested) t
-
   pub placed-keeps : (b : Bool) → shapedOf (placedTo b d) ≡ true
   placed-keeps b =
       let c = d .config in
@@ -330,3 +342,14 @@ module _ (d : Device) (e : shapedOf d ≡ true) where
         let c = d .config in
         let o = parts d e in
         changed-keeps (c .addr .0) (c .«usable_region_size») n (c .«requested_size») (d .placed) (d .pending) (o .start) (o .usable) fits-region (o .requested) t
+
+  -- one block less, and nothing pending
+  pub block-less-keeps : shapedOf (pendingTo Nothing (pluggedTo (d .config .«plugged_size» - d .config .«block_size») d)) ≡ true
+  unfolding pendingOk
+  block-less-keeps =
+      let c = d .config in
+      let o = parts d e in
+      let one : 1 * c .«block_size» ≡ c .«block_size» = omega arith in
+      changed-keeps (c .addr .0) (c .«usable_region_size») (c .«plugged_size» - c .«block_size») (c .«requested_size») (d .placed) Nothing (o .start) (o .usable)
+      (rw one at (less-ok (c .«block_size») (c .«plugged_size») (c .«region_size») 1 (o .plugged)))
+      (o .requested) refl

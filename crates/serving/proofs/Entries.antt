@@ -22,9 +22,9 @@ use Rattle.record.specs.declared.Device.{Device}
 use Rattle.record.specs.declared.Pending.{Pending}
 use Rattle.record.specs.declared.Pending.the-variants.{Nothing, Create, Discard, DiscardOne}
 use Rattle.record.proofs.Pending.{the-type as pending-type}
-use Rattle.record.specs.Shape.{shapedOf, pendingOk}
+use Rattle.record.specs.Shape.{shapedOf}
 use Rattle.record.specs.Changes.{pluggedTo, pendingTo}
-use Rattle.record.proofs.Laws.{shaped-is, pending-keeps}
+use Rattle.record.proofs.Laws.{shaped-is, block-less-keeps}
 use Rattle.step.specs.declared.Answered.{Answered}
 use Rattle.step.specs.World.{World, Guest, Request, worldOf, Responded, Meets}
 use Rattle.serving.specs.Discards.{discardAnswer, discardAnswered}
@@ -91,9 +91,9 @@ module _ (d : Device) (bitmap table : List ℕ) (number : ℕ) where
       discard-none h k = discard-ready h ∙ none-pending (d .pending) k
 
 -- ---- the host's answer to a discard, by its pending case
-pub idle-shaped : (d idle : Device) → shapedOf d ≡ true → idle ≡ pendingTo Nothing d → shapedOf idle ≡ true
-unfolding pendingOk
-idle-shaped d idle shape same = rw same (pending-keeps d shape Nothing refl)
+-- one block less, and nothing pending
+pub less-shaped : (d d′ d″ : Device) (n : ℕ) → shapedOf d ≡ true → n ≡ d .config .«plugged_size» - d .config .«block_size» → d′ ≡ pluggedTo n d → d″ ≡ pendingTo Nothing d′ → shapedOf d″ ≡ true
+less-shaped d d′ d″ n shape less same same′ = rw (same′, same, less) (block-less-keeps d shape)
 
 module _ (d : Device) (bitmap table : List ℕ) (shape : shapedOf d ≡ true) (g : Guest) (s : Answered) {bytes : List ℕ} (ok : Bool) (status : GuestAddr) where
   pub unplug-fails : (first count : ℕ) → not ok ≡ true → (d′ : Device) → d′ ≡ pendingTo Nothing d → Responded g (status .0) error d′ s bytes → Meets (hostAnswer (Discard first count status) (worldOf d bitmap table) g ok 0) s bitmap table table bytes
@@ -110,6 +110,6 @@ module _ (d : Device) (bitmap table : List ℕ) (shape : shapedOf d ≡ true) (g
   unfolding hostAnswer
   one-fails block t d′ same p = rw (not-true ok t) (serves _ bitmap table (rw same at p) refl refl)
 
-  pub one-done : (block : ℕ) → not ok ≡ false → (bitmap′ : List ℕ) → Filled bitmap bitmap′ block 1 false → (d′ : Device) → d′ ≡ pendingTo Nothing d → Meets (unplugAll (worldOf d′ bitmap′ table) (block + 1) (status .0) g) s bitmap′ table table bytes → Meets (hostAnswer (DiscardOne block status) (worldOf d bitmap table) g ok 0) s bitmap′ table table bytes
+  pub one-done : (block : ℕ) → not ok ≡ false → (bitmap′ : List ℕ) → Filled bitmap bitmap′ block 1 false → (n : ℕ) → n ≡ d .config .«plugged_size» - d .config .«block_size» → (d′ d″ : Device) → d′ ≡ pluggedTo n d → d″ ≡ pendingTo Nothing d′ → Meets (unplugAll (worldOf d″ bitmap′ table) (block + 1) (status .0) g) s bitmap′ table table bytes → Meets (hostAnswer (DiscardOne block status) (worldOf d bitmap table) g ok 0) s bitmap′ table table bytes
   unfolding hostAnswer
-  one-done block t bitmap′ filled d′ same m = rw (not-false ok t) (rw (same, filled .as-blocks) at m)
+  one-done block t bitmap′ filled n less d′ d″ same same′ m = rw (not-false ok t) (rw (same′, same, less, filled .as-blocks) at m)

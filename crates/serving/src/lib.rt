@@ -22,6 +22,7 @@ use units::GuestAddr;
 use units::HostAddr;
 use units::MemTool;
 use units::RegionOffset;
+use units::saturating_sub;
 use units::sum_within;
 use wire::VirtioMemConfig;
 use wire::VirtioMemReq;
@@ -182,7 +183,7 @@ fn unplug(
     asked(d, pending, offset, size, host)
 }
 
-// One block of an unplug-all, which neither tests nor changes the plugged size.
+// One block of an unplug-all, which asks without a look at the plugged size.
 fn unplug_one(
     d: Device,
     bitmap: &[u8],
@@ -344,7 +345,8 @@ fn unplug_answered(
     ended(unplugged, mem, base, status, ACK)
 }
 
-// The host's answer to the discard of one block of an unplug-all, which goes on behind that block.
+// The host's answer to the discard of one block of an unplug-all: the block is cleared and its size taken off at once, and the
+// unplug-all goes on behind it. The plugged size never goes below 0, which only a spoiled bitmap could bring.
 fn one_answered(
     d: Device,
     bitmap: &mut [u8],
@@ -358,12 +360,13 @@ fn one_answered(
     requires { ⌜ (shapedOf d ≡ true) × (d .pending ≡ DiscardOne block status) ⌝ }
     ensures { λ r. ⌜ Meets (hostAnswer (DiscardOne block status) (worldOf d (now (bitmap .entry)) (now (table .entry))) (guestOf (now (mem .entry)) base) ok 0) r (now (bitmap .exit)) (now (table .entry)) (now (table .entry)) (now (mem .exit)) ⌝ }
 {
-    let idle = pending_to(d, Pending::Nothing);
     if !ok {
-        return ended(idle, mem, base, status, ERROR);
+        return ended(pending_to(d, Pending::Nothing), mem, base, status, ERROR);
     }
+    let left = saturating_sub(d.config.plugged_size, d.config.block_size);
     set_range(bitmap, block as usize, 1, false);
-    unplug_all(idle, &bitmap[..], table, mem, base, block + 1, status)
+    let cleared = pending_to(plugged_to(d, left), Pending::Nothing);
+    unplug_all(cleared, &bitmap[..], table, mem, base, block + 1, status)
 }
 
 // The host's answer to a discard: 8 where none is pending.

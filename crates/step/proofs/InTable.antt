@@ -1,6 +1,6 @@
 -- Request 2/12: the row that test (d) looks at is in the table, so that (d) never looks past the table's end, where nothing is mapped (`rowAt`). Assumes nothing.
 use Prim.Native.Nat.{ℕ, _+_, _*_, _<_}
-use mathlib.Core.Path.{_≡_, refl}
+use mathlib.Core.Path.{_≡_}
 use mathlib.Core.Bool.{Bool, true, false}
 use native.Mathlib.Omega.{arith}
 use lib.Dec.{leb}
@@ -11,9 +11,8 @@ use Rattle.units.specs.declared.RegionOffset.{RegionOffset}
 use Rattle.units.proofs.Tests.{and-right}
 use Rattle.bitmap.proofs.Laws.{fill-length}
 use Rattle.wire.specs.declared.VirtioMemReq.{VirtioMemReq}
-use Rattle.record.specs.declared.Pending.the-variants.{Nothing}
-use Rattle.record.specs.Shape.{shapedOf, pendingOk}
-use Rattle.record.proofs.Laws.{shaped-is, pending-keeps}
+use Rattle.record.specs.Shape.{shapedOf}
+use Rattle.record.proofs.Laws.{shaped-is, block-less-keeps}
 use Rattle.change.specs.declared.Range.the-variants.{Inside}
 use Rattle.change.specs.Change.{rangeOf, rowOf}
 use Rattle.change.proofs.Laws.{inside-is}
@@ -59,8 +58,7 @@ module _ (w : World) (ready : readyRefusal (w .device) (length (w .blocks)) (len
 -- a block of it that was discarded leaves the shape and the lengths
 module _ (w : World) (pending : pendingRefusal (w .device) (length (w .blocks)) (length (w .rows)) ≡ 0) (done : ℕ) where
   pub cleared-shaped : shapedOf (cleared w done .device) ≡ true
-  unfolding pendingOk
-  cleared-shaped = pending-keeps (w .device) (waits-is _ _ _ pending .shaped) Nothing refl
+  cleared-shaped = block-less-keeps (w .device) (waits-is _ _ _ pending .shaped)
 
   pub cleared-fits : tablesFit (cleared w done .device) (length (cleared w done .blocks)) (length (cleared w done .rows)) ≡ true
   unfolding tablesFit

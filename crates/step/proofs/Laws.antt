@@ -1,8 +1,9 @@
--- What the endings of a call do and leave alone: each plug and unplug is of its whole range, and an ending that is no ACK changes nothing but the response. Assumes nothing.
+-- What the endings of a call do and leave alone: each plug and unplug is of its whole range, an unplug-all of its blocks one by one, and an ending that is no ACK changes nothing but the response. Assumes nothing.
 use Prim.Native.Nat.{ℕ, _+_, _-_, _≤_, _<_}
 use mathlib.Core.Path.{_≡_, refl}
 use mathlib.Core.Bool.{true, false}
 use mathlib.Core.List.{List}
+use native.Mathlib.Omega.{arith}
 use lib.ListN.{length}
 use Rattle.units.specs.Numbers.{bytesOf}
 use Rattle.units.specs.declared.GuestAddr.{GuestAddr}
@@ -11,7 +12,7 @@ use Rattle.bitmap.proofs.Laws.{at-inside, at-before, at-after}
 use Rattle.wire.specs.declared.VirtioMemResp.{VirtioMemResp}
 use Rattle.record.specs.declared.Pending.the-variants.{Discard}
 use Rattle.step.specs.World.{World, Guest}
-use Rattle.step.specs.Step.{blockSize, plugged, refused, served, plugs, unplugs, stops, endsAll, hostAnswer}
+use Rattle.step.specs.Step.{blockSize, plugged, Untouched, refused, served, plugs, asksDiscard, unplugs, stops, asksOne, cleared, endsAll, hostAnswer}
 
 module _ (w : World) (first count status : ℕ) (g : Guest) where
   -- ---- an acknowledged plug sets exactly its blocks, and adds their size
@@ -40,6 +41,29 @@ module _ (w : World) (first count status : ℕ) (g : Guest) where
   pub unplug-subtracts : plugged (unplugs w first count status g .world) ≡ plugged w - bytesOf (blockSize w) count
   unplug-subtracts = refl
 
+-- ---- a block of an unplug-all that the host has discarded is cleared, no other is, and its size is taken off at once
+module _ (w : World) (block : ℕ) where
+  pub one-inside : block < length (w .blocks) → blockAt (cleared w block .blocks) block ≡ false
+  one-inside e = at-inside (w .blocks) block 1 false block (omega arith) (omega arith) e
+
+  pub one-before : (i : ℕ) → i < block → blockAt (cleared w block .blocks) i ≡ blockAt (w .blocks) i
+  one-before i h = at-before (w .blocks) block 1 false i h
+
+  pub one-behind : (i : ℕ) → block < i → blockAt (cleared w block .blocks) i ≡ blockAt (w .blocks) i
+  one-behind i h = at-after (w .blocks) block 1 false i (omega arith)
+
+  pub one-subtracts : plugged (cleared w block) ≡ plugged w - blockSize w
+  one-subtracts = refl
+
+-- ---- asking takes nothing: blocks and size go when the host has answered
+pub asking-takes-nothing : (w : World) (first count offset host status : ℕ) (g : Guest) → Untouched w (asksDiscard w first count offset host status g .world) × Untouched w (asksOne w first offset host status g .world)
+asking-takes-nothing w first count offset host status g =
+    (record { same-blocks = refl; same-rows = refl; same-plugged = refl }, record { same-blocks = refl; same-rows = refl; same-plugged = refl })
+
+-- ---- nor does a discard that failed, also of an unplug-all: "cleared blocks stay cleared", and what they took off stays taken off
+pub failure-takes-nothing : (w : World) (status : ℕ) (g : Guest) → Untouched w (stops w status g .world)
+failure-takes-nothing w status g = record { same-blocks = refl; same-rows = refl; same-plugged = refl }
+
 -- ---- a refused call changes nothing at all
 pub refused-changes-nothing : (n : ℕ) (w : World) (bytes : List ℕ) → (refused n w bytes .world ≡ w) × (refused n w bytes .bytes ≡ bytes)
 refused-changes-nothing n w bytes = (refl, refl)
@@ -47,10 +71,6 @@ refused-changes-nothing n w bytes = (refl, refl)
 -- ---- NACK and ERROR change nothing but the response
 pub response-alone : (resp : VirtioMemResp) (status : ℕ) (w : World) (g : Guest) → served resp status w g .world ≡ w
 response-alone resp status w g = refl
-
--- ---- a discard that failed, also of an unplug-all, takes no block and no size: "cleared blocks stay cleared, the plugged size keeps its old number"
-pub failure-takes-nothing : (w : World) (status : ℕ) (g : Guest) → (stops w status g .world .blocks ≡ w .blocks) × (stops w status g .world .rows ≡ w .rows) × (plugged (stops w status g .world) ≡ plugged w)
-failure-takes-nothing w status g = (refl, refl, refl)
 
 -- ---- "If all succeed, plugged size is 0, usable stays"
 pub all-leaves-none : (w : World) (status : ℕ) (g : Guest) → (plugged (endsAll w status g .world) ≡ 0) × (endsAll w status g .world .device .config .«usable_region_size» ≡ w .device .config .«usable_region_size»)

@@ -1,5 +1,6 @@
 -- What each call does, in 01's order of tests and 01's words: `step` from a World and a Call to an Outcome. Every ending is a named leaf, and every decision a tree of tests over leaves.
 use Prim.Native.Nat.{ℕ, _+_, _-_, _*_, _%_}
+use mathlib.Core.Path.{_≡_}
 use mathlib.Core.Bool.{Bool, true, false, cond, not, _&&_, _||_}
 use mathlib.Core.List.{List, []}
 use lib.Dec.{leb, ltb, eqb}
@@ -66,6 +67,12 @@ regionRows w = mapRegions (region w) (several w)
 -- the world with another record
 abbrev pub deviceOf : Device → World → World
 deviceOf d w = record { device = d; blocks = w .blocks; rows = w .rows }
+
+-- blocks, rows and the plugged size are as they were
+pub record Untouched (w w′ : World) : Type 0 where
+  pub same-blocks : w′ .blocks ≡ w .blocks
+  pub same-rows : w′ .rows ≡ w .rows
+  pub same-plugged : plugged w′ ≡ plugged w
 
 -- ---- the endings
 -- a refusal of 01's number changes nothing
@@ -142,9 +149,14 @@ asksOne w block offset host status g =
       bytes = g .mem;
     }
 
--- one block of an unplug-all is discarded, which "neither tests nor changes the plugged size", and nothing is asked yet
+-- one block of an unplug-all is discarded, and nothing is asked yet: "each block that an unplug-all clears takes 4 MiB off at once (never below 0 ..)" (02, request 5)
 abbrev pub cleared : World → (block : ℕ) → World
-cleared w block = record { device = pendingTo Nothing (w .device); blocks = fill (w .blocks) block 1 false; rows = w .rows }
+cleared w block =
+    record {
+      device = pendingTo Nothing (pluggedTo (plugged w - blockSize w) (w .device));
+      blocks = fill (w .blocks) block 1 false;
+      rows = w .rows;
+    }
 
 -- "If all succeed, plugged size is 0, usable stays"
 abbrev pub endsAll : World → (status : ℕ) → Guest → Outcome

@@ -1,7 +1,7 @@
 -- `serving::one_answered` meets its contract: the block is clear when the search goes on behind it. Assumes nothing.
 use native.Mathlib.Omega.{arith}
 use Rattle.record.proofs.Laws.{shaped-is, discard-one-is}
-use Rattle.serving.proofs.Entries.{idle-shaped, one-fails, one-done}
+use Rattle.serving.proofs.Entries.{less-shaped, one-fails, one-done}
 use borrow.Author.Needs.{needs}
 use Rattle.serving.proofs.one_answered.Statement.{statement}
 use Rattle.serving.proofs.one_answered.Tie as tie
@@ -16,16 +16,34 @@ same-length : tie.Need-same-length
 same-length c = search needs
 
 returns : tie.Need-returns
-returns c = one-fails _ _ _ (c .before .before .before .before .before .before .before .before .before .pre .0) _ _ _ _ _ (c .before .before .before .before .if1 .taken) _ (c .before .before .before .before .before .pending-to .ensures) (c .before .before .ended .ensures)
+returns c =
+    let idle = c .before .before .before .before in
+    let failed = idle .before in
+    one-fails _ _ _ (failed .before .before .before .before .pre .0) _ _ _ _ _ (failed .if1 .taken) _ (idle .pending-to .ensures) (c .before .before .ended .ensures)
+
+saturating-sub-requires : tie.Need-saturating-sub-requires
+saturating-sub-requires c κs = search needs
 
 set-range-requires : tie.Need-set-range-requires
 set-range-requires c κs = search needs
 
+plugged-to-requires : tie.Need-plugged-to-requires
+plugged-to-requires c κs = search needs
+
+pending-to-requires-2 : tie.Need-pending-to-requires-2
+pending-to-requires-2 c κs = search needs
+
 add-unplug-all : tie.Need-add-unplug-all
-add-unplug-all c = omega (arith, shaped-is _ (c .before .before .before .before .before .before .before .before .before .before .before .pre .0), discard-one-is _ (c .before .before .before .before .before .before .before .before .before .before .before .pre .0) _ _ (c .before .before .before .before .before .before .before .before .before .before .before .pre .1))
+add-unplug-all c =
+    let done = c .before .before .before .before .before .before .before .before .before in
+    let pre = done .before .before .before .before .pre in
+    omega (arith, shaped-is _ (pre .0), discard-one-is _ (pre .0) _ _ (pre .1))
 
 unplug-all-requires : tie.Need-unplug-all-requires
-unplug-all-requires c κs = idle-shaped _ _ (c .before .before .before .before .before .before .before .before .before .before .before .pre .0) (c .before .before .before .before .before .before .before .pending-to .ensures)
+unplug-all-requires c κs =
+    let cleared = c .before .before in
+    let left = cleared .before .before .before .before .before .before in
+    less-shaped _ _ _ _ (left .before .before .before .before .before .pre .0) (left .saturating-sub .ensures) (cleared .before .plugged-to .ensures) (cleared .pending-to2 .ensures)
 
 same-length-2 : tie.Need-same-length-2
 same-length-2 c = search needs
@@ -34,7 +52,13 @@ same-length-3 : tie.Need-same-length-3
 same-length-3 c = search needs
 
 returns-2 : tie.Need-returns-2
-returns-2 c = one-done _ _ _ (c .before .before .before .before .before .before .before .before .before .before .before .before .before .before .pre .0) _ _ _ _ _ (c .before .before .before .before .before .before .before .before .before .if1 .left) _ (c .before .before .before .before .before .before .before .set-range .ensures) _ (c .before .before .before .before .before .before .before .before .before .before .pending-to .ensures) (c .before .before .unplug-all .ensures)
+returns-2 c =
+    let cleared = c .before .before .before .before .before in
+    let filled = cleared .before .before .before .before in
+    let left = filled .before .before in
+    let done = left .before in
+    one-done _ _ _ (done .before .before .before .before .pre .0) _ _ _ _ _ (done .if1 .left) _ (filled .set-range .ensures) _ (left .saturating-sub .ensures) _ _
+    (cleared .before .plugged-to .ensures) (cleared .pending-to2 .ensures) (c .before .before .unplug-all .ensures)
 
 pub one-answered-spec : {M : Type 1} → statement M
 one-answered-spec =
@@ -44,7 +68,10 @@ one-answered-spec =
     ended-requires
     same-length
     returns
+    saturating-sub-requires
     set-range-requires
+    plugged-to-requires
+    pending-to-requires-2
     add-unplug-all
     unplug-all-requires
     same-length-2
