@@ -4,12 +4,11 @@ use mathlib.Core.Path.{_≡_, refl, ap, _∙_, sym}
 use mathlib.Core.Bool.{true, false}
 use mathlib.Core.List.{List, [], _∷_, _++_}
 use native.Mathlib.Omega.{arith}
-use lib.Dec.{leb}
 use lib.Seq.{take-nil}
 use borrow.Author.Tests.{leb-true}
-use Rattle.units.specs.Numbers.{bytesOf, blocksIn}
+use Rattle.units.specs.Numbers.{blocksIn}
 use Rattle.units.specs.declared.GuestAddr.{GuestAddr}
-use Rattle.units.proofs.Tests.{and-left, and-right}
+use Rattle.units.proofs.Tests.{and-left}
 use Rattle.bitmap.specs.Blocks.{ones}
 use Rattle.record.specs.declared.Device.{Device}
 use Rattle.record.specs.declared.Pending.{Pending}
@@ -17,21 +16,16 @@ use Rattle.record.specs.declared.Pending.the-variants.{Discard}
 use Rattle.record.specs.Shape.{pendingOk}
 use Rattle.step.specs.World.{World, Call, Outcome}
 use Rattle.step.specs.Step.{blockSize, region, plugged, regionBlocks, cleared}
-use Rattle.history.specs.History.{Event, Discarded, Story, next, after, Fresh, begun, lastOn, wasPlug, since, inPlugs, inUnplugs, inDiscards, Told}
+use Rattle.history.specs.History.{Event, Discarded, Story, next, after, Fresh, begun, lastOn, wasPlug, Told}
 use Rattle.history.proofs.Shaped.{clash}
 use Rattle.history.proofs.Invariant.{discarding, Asked, Inv, quiet-asks, idle-quiet, goes-on, inv-plugs, inv-unplugs, inv-cleared, inv-ends, placed-by, inv-placed, still, over}
 use Rattle.history.proofs.Observer.{openOf, sees}
 use Rattle.history.proofs.Calls.{Endings, each-call}
 
--- a pending unplug lies in the region, and is at most the plugged size
-module _ (w : World) (f c : ℕ) (status : GuestAddr) (e : pendingOk (Discard f c status) (blockSize w) (region w) (w .device .«multi_region») (plugged w) ≡ true) where
-  pub discard-ends : f + c ≤ regionBlocks w
-  unfolding pendingOk
-  discard-ends = leb-true (f + c) (regionBlocks w) (and-left _ _ e)
-
-  pub discard-enough : bytesOf (blockSize w) c ≤ plugged w
-  unfolding pendingOk
-  discard-enough = leb-true (bytesOf (blockSize w) c) (plugged w) (and-right (leb (f + c) (regionBlocks w)) _ e)
+-- a pending unplug lies in the region
+pub discard-ends : (w : World) (f c : ℕ) (status : GuestAddr) → pendingOk (Discard f c status) (blockSize w) (region w) (w .device .«multi_region») (plugged w) ≡ true → f + c ≤ regionBlocks w
+unfolding pendingOk
+discard-ends w f c status e = leb-true (f + c) (regionBlocks w) (and-left _ _ e)
 
 -- ---- each ending keeps the invariant
 abbrev pub Kept : (before : List Event) → Call → Outcome → (new : List Event) → Type 0
@@ -61,9 +55,8 @@ module _ (w : World) (es : List Event) (h : Inv w es) where
         maps = λ i last a. over w es h _ _ _ (λ q. clash refl q);
         create-fails = λ i last a. over w es h _ _ _ (λ q. q);
         unplugs-range = λ first count status a.
-            let fine = rw (a .waits) at (a .entry .is-shaped .pending) in
             inv-unplugs w es h (there _ (a .waits) refl) (status .0) (a .guest) (a .entry .is-long) first count (rw (a .waits) at (h .asked))
-            (discard-ends w first count status fine) (discard-enough w first count status fine);
+            (discard-ends w first count status (rw (a .waits) at (a .entry .is-shaped .pending)));
         discard-fails = λ first count status a. over w es h _ _ _ (λ q. q);
         ends-all = λ j status a r.
             let p = there _ (a .waits) refl in
@@ -97,13 +90,12 @@ always s (c ∷ cs) o h = always (next s c) cs (rw o at (sees (s .world) c)) (rw
 
 module _ (d : Device) (fresh : Fresh d) where
   at-first : Inv (begun d .world) []
-  unfolding lastOn wasPlug since inPlugs inUnplugs inDiscards discarding ones
+  unfolding lastOn wasPlug discarding ones
   at-first =
       let quiet : discarding (d .pending) ≡ false = rw (fresh .waits-for-nothing) in
       record {
         told = record {
           bits = λ i l. refl;
-          size = omega (arith, fresh .nothing-plugged);
           count = rw (take-nil (blocksIn (d .config .«block_size») (d .config .«region_size»))) (omega (arith, fresh .nothing-plugged));
         };
         early = λ p. record { none-yet = refl; not-asked = quiet; no-size = fresh .nothing-plugged };

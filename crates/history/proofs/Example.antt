@@ -1,11 +1,11 @@
--- The whole example of 01 as a run, guest bytes and all, and a second run with every kind of event. Both begin with a newly made device, so what is said of every run is said of something. Computed, by `refl`.
+-- The whole example of 01 as a run, guest bytes and all, a second run with every kind of event, and request 5's builder, which plugs again after a failed unplug-all. All begin with a newly made device, so what is said of every run is said of something. Computed, by `refl`.
 use Prim.Native.Nat.{ℕ}
 use mathlib.Core.Path.{_≡_, refl}
 use mathlib.Core.Bool.{true, false}
 use mathlib.Core.List.{List, [], _∷_, _++_}
 use lib.ListN.{replicate}
 use Rattle.units.specs.Numbers.{mapRegions}
-use Rattle.bitmap.specs.Blocks.{every, fill, firstSet}
+use Rattle.bitmap.specs.Blocks.{every, fill, firstSet, ones}
 use Rattle.little_endian.specs.Bytes.{value, littleEndian, part, put}
 use Rattle.wire.specs.Layout.{requestAt, responseBytes}
 use Rattle.descriptors.specs.Standard.{virtqDesc, descriptorAt, descriptorAddr}
@@ -22,7 +22,7 @@ use Rattle.step.specs.declared.Answer.{Answer}
 use Rattle.step.specs.declared.Answer.the-variants.{Wants, Sized, Served}
 use Rattle.step.specs.World.{World, Guest, Call, Place, SetRequestedSize, Request, HostAnswer}
 use Rattle.step.specs.Step.{tablesFit, readyRefusal, unplacedRefusal, pendingRefusal, unless, plugAs, plug, unplugAs, oneAs, nextAs, stateType, serve, request, resizes, placing, place, setRequestedSize, hostAnswer, step, plugged, respond}
-use Rattle.history.specs.History.{PlugAck, UnplugAck, Discarded, UnplugAllAck, ackToType, ackToRequest, ackToHost, acknowledges, discardOf, reports, ifAck, unlessRefused, eventsOf, openedByType, openedByRequest, goesOn, openedBy, askedBy, openAfter, next, after, Fresh, begun}
+use Rattle.history.specs.History.{PlugAck, UnplugAck, Discarded, UnplugAllAck, ackToType, ackToRequest, ackToHost, acknowledges, discardOf, reports, ifAck, unlessRefused, eventsOf, openedByType, openedByRequest, goesOn, openedBy, askedBy, openAfter, next, after, Fresh, begun, used}
 
 -- capacity_mib=256 requested_mib=16 multi=0 node=none boot=1073741824
 pub device : Device
@@ -93,11 +93,22 @@ more =
     ∷ HostAnswer (chain 0 0 0) true 0
     ∷ []
 
+-- four blocks, which is all that is requested; an unplug-all whose second discard fails; and the first block again
+pub again : List Call
+again =
+    place-it
+    ++ Request (chain 0 0 4) 0 0
+    ∷ Request (chain 2 0 0) 0 0
+    ∷ HostAnswer (chain 0 0 0) true 0
+    ∷ HostAnswer (chain 0 0 0) false 0
+    ∷ Request (chain 0 0 1) 0 0
+    ∷ []
+
 pub answers : World → List Call → List Answer
 answers w [] = []
 answers w (c ∷ cs) = step w c .answer ∷ answers (step w c .world) cs
 
--- 01's output: its answers, its events, newest first, and the plugged size that the unplug-all that was refused has kept
+-- 01's output as 02 amends it: its answers, its events, newest first, the plugged size that the refused unplug-all has left, and how many blocks are plugged; what was lent behind the region's 64 blocks does not count
 pub record Example : Type 0 where
   pub answered :
       answers (begun device .world) calls
@@ -112,7 +123,8 @@ pub record Example : Type 0 where
       ∷ Sized
       ∷ []
   pub told : after (begun device) calls .events ≡ Discarded 0 ∷ PlugAck 0 2 ∷ []
-  pub kept : plugged (after (begun device) calls .world) ≡ 8388608
+  pub left : plugged (after (begun device) calls .world) ≡ 4194304
+  pub counted : ones (used (after (begun device) calls .world)) ≡ 1
   pub more-answered :
       answers (begun device .world) more
       ≡ Wants (Create (record { 0 = 4294967296 }) 268435456 1)
@@ -124,8 +136,36 @@ pub record Example : Type 0 where
       ∷ Served (respond 0 0) 10
       ∷ []
   pub more-told : after (begun device) more .events ≡ UnplugAllAck ∷ Discarded 1 ∷ UnplugAck 0 1 ∷ PlugAck 0 2 ∷ []
-  pub more-kept : plugged (after (begun device) more .world) ≡ 0
+  pub more-left : plugged (after (begun device) more .world) ≡ 0
+  pub more-counted : ones (used (after (begun device) more .world)) ≡ 0
+  pub again-answered :
+      answers (begun device .world) again
+      ≡ Wants (Create (record { 0 = 4294967296 }) 268435456 1)
+      ∷ Sized
+      ∷ Served (respond 0 0) 10
+      ∷ Wants (Discard (record { 0 = 0 }) 4194304 (record { 0 = 140737488355328 }))
+      ∷ Wants (Discard (record { 0 = 4194304 }) 4194304 (record { 0 = 140737492549632 }))
+      ∷ Served (respond 3 0) 10
+      ∷ Served (respond 0 0) 10
+      ∷ []
+  pub again-told : after (begun device) again .events ≡ PlugAck 0 1 ∷ Discarded 0 ∷ PlugAck 0 4 ∷ []
+  pub again-left : plugged (after (begun device) again .world) ≡ 16777216
+  pub again-counted : ones (used (after (begun device) again .world)) ≡ 4
 
 pub example : Example
-unfolding device chainTo chain place-it calls more answers mapRegions every fill firstSet value littleEndian part put requestAt responseBytes virtqDesc descriptorAt descriptorAddr inside linkAt linkAfter withSecond withFirst parsed reaches delivered mappingOf fillRows laid alignmentOk regionOk sizeOk spanOf startOk severalOk pendingOk shapedOf newSize growthOf insideOf rangeOf hostSum hostIn hostOf legalAt changeIn stateIn stateOf tablesFit readyRefusal unplacedRefusal pendingRefusal unless plugAs plug unplugAs oneAs nextAs stateType serve request resizes placing place setRequestedSize hostAnswer step ackToType ackToRequest ackToHost acknowledges discardOf reports ifAck unlessRefused eventsOf openedByType openedByRequest goesOn openedBy askedBy openAfter next after
-example = record { answered = refl; told = refl; kept = refl; more-answered = refl; more-told = refl; more-kept = refl }
+unfolding device chainTo chain place-it calls more again answers mapRegions every fill firstSet ones value littleEndian part put requestAt responseBytes virtqDesc descriptorAt descriptorAddr inside linkAt linkAfter withSecond withFirst parsed reaches delivered mappingOf fillRows laid alignmentOk regionOk sizeOk spanOf startOk severalOk pendingOk shapedOf newSize growthOf insideOf rangeOf hostSum hostIn hostOf legalAt changeIn stateIn stateOf tablesFit readyRefusal unplacedRefusal pendingRefusal unless plugAs plug unplugAs oneAs nextAs stateType serve request resizes placing place setRequestedSize hostAnswer step ackToType ackToRequest ackToHost acknowledges discardOf reports ifAck unlessRefused eventsOf openedByType openedByRequest goesOn openedBy askedBy openAfter next after
+example =
+    record {
+      answered = refl;
+      told = refl;
+      left = refl;
+      counted = refl;
+      more-answered = refl;
+      more-told = refl;
+      more-left = refl;
+      more-counted = refl;
+      again-answered = refl;
+      again-told = refl;
+      again-left = refl;
+      again-counted = refl;
+    }

@@ -1,7 +1,7 @@
 -- The invariant of every run, pending states included, and that each leaf of the step keeps it.
 -- It says: what demand 3 says (`Told`); before placing there is no event, no discard is asked for and nothing is plugged; what an unplug asks for is all plugged, and what an unplug-all asks for is the lowest plugged block.
 use Prim.Native.Nat.{ℕ, suc, _+_, _-_, _*_, _≤_, _<_}
-use mathlib.Core.Path.{_≡_, refl, ap, _∙_, sym}
+use mathlib.Core.Path.{_≡_, refl, _∙_, sym}
 use mathlib.Core.Bool.{Bool, true, false, cond, _&&_}
 use mathlib.Core.List.{List, [], _∷_}
 use mathlib.Core.Option.{Option, some, none}
@@ -10,7 +10,6 @@ use lib.Dec.{leb, ltb}
 use lib.ListN.{length, take, length-take}
 use lib.Seq.{getD-take}
 use borrow.Author.Tests.{leb-true, leb-false, ltb-true, ltb-false}
-use Rattle.units.specs.Numbers.{bytesOf}
 use Rattle.bitmap.specs.Blocks.{blockAt, fill, nextSet, ones, allAre}
 use Rattle.bitmap.specs.declared.Found.the-variants.{At, Nothing as NoneSet}
 use Rattle.bitmap.proofs.Laws.{at-inside, at-before, at-after, take-fill, range-take, fill-after, ones-plugged, ones-unplugged, ones-one, take-cleared, next-at, next-cleared, next-nothing-ones}
@@ -23,7 +22,7 @@ use Rattle.step.specs.World.{World, Guest}
 use Rattle.step.specs.Step.{blockSize, plugged, requested, start, regionBlocks}
 use Rattle.step.specs.Step.{plugs, unplugs, cleared, endsAll}
 use Rattle.history.proofs.Shaped.{clash}
-use Rattle.history.specs.History.{Event, PlugAck, UnplugAck, Discarded, UnplugAllAck, within, on, lastOn, wasPlug, since, inPlugs, inUnplugs, inDiscards, Told}
+use Rattle.history.specs.History.{Event, PlugAck, UnplugAck, Discarded, UnplugAllAck, within, on, lastOn, wasPlug, Told}
 
 -- ---- a fill, at one block
 fill-at : (bs : List Bool) (f c : ℕ) (v : Bool) (i : ℕ) → i < length bs → blockAt (fill bs f c v) i ≡ cond (within f c i) v (blockAt bs i)
@@ -55,8 +54,11 @@ module _ (n : ℕ) (bs : List Bool) (long : n ≤ length bs) where
   used-unplugged f c l a =
       rw (take-fill n bs f c false) (ones-unplugged (take n bs) f c (omega (arith, length-take n bs)) (rw (range-take n bs f c l) a))
 
-  used-one : (i : ℕ) → i < n → blockAt bs i ≡ true → suc (ones (take n (fill bs i 1 false))) ≡ ones (take n bs)
-  used-one i l e = rw (take-fill n bs i 1 false) (ones-one (take n bs) i (getD-take n bs i false l ∙ e))
+-- the lowest of them is one
+pub used-one : (n : ℕ) (bs : List Bool) (j : ℕ) → nextSet bs 0 n ≡ At j → suc (ones (take n (fill bs j 1 false))) ≡ ones (take n bs)
+used-one n bs j e =
+    let lowest = next-at bs 0 n j e in
+    rw (take-fill n bs j 1 false) (ones-one (take n bs) j (getD-take n bs j false (lowest .before-end) ∙ lowest .is-set))
 
 -- no block of the region is set
 used-none : (n : ℕ) (bs : List Bool) → nextSet bs 0 n ≡ NoneSet → ones (take n bs) ≡ 0
@@ -107,61 +109,58 @@ idle-quiet (Create first last) e = refl
 idle-quiet (Discard first count status) e = clash e refl
 idle-quiet (DiscardOne block status) e = clash e refl
 
-unplug-count : (b s c a n k : ℕ) → n + c ≡ a → s ≡ (a + k) * b → s - c * b ≡ (n + k) * b
-unplug-count b s c a n k p q = rw (q, ← p) (omega arith)
+unplug-count : (b s c a n : ℕ) → n + c ≡ a → s ≡ a * b → s - c * b ≡ n * b
+unplug-count b s c a n p q = rw (q, ← p) (omega arith)
+
+one-count : (b s a n : ℕ) → suc n ≡ a → s ≡ a * b → s - b ≡ n * b
+one-count b s a n p q = rw (q, ← p) (omega arith)
 
 -- ---- each leaf keeps it
 module _ (w : World) (es : List Event) (h : Inv w es) (there : w .device .placed ≡ true) (status : ℕ) (g : Guest) where
   module _ (long : regionBlocks w ≤ length (w .blocks)) where
     pub inv-plugs : (f c : ℕ) → isIdle (w .device .pending) ≡ true → f + c ≤ regionBlocks w → allAre (w .blocks) f c false ≡ true
         → Inv (plugs w f c status g .world) (PlugAck f c ∷ es)
-    unfolding on wasPlug since inPlugs inUnplugs inDiscards
+    unfolding on wasPlug
     inv-plugs f c quiet ends state =
         record {
           told = record {
             bits = λ i l. more (w .blocks) es i (omega arith) (h .told .bits i l) (PlugAck f c) f c true refl refl;
-            size = omega (arith, h .told .size);
             count = rw (used-plugged (regionBlocks w) (w .blocks) long f c ends state) (omega (arith, h .told .count));
           };
           early = λ p. clash there p;
           asked = quiet-asks (w .device .pending) _ _ (idle-quiet (w .device .pending) quiet);
         }
 
-    pub inv-unplugs : (f c : ℕ) → allAre (w .blocks) f c true ≡ true → f + c ≤ regionBlocks w → bytesOf (blockSize w) c ≤ plugged w
-        → Inv (unplugs w f c status g .world) (UnplugAck f c ∷ es)
-    unfolding on wasPlug since inPlugs inUnplugs inDiscards Asked
-    inv-unplugs f c full ends enough =
+    pub inv-unplugs : (f c : ℕ) → allAre (w .blocks) f c true ≡ true → f + c ≤ regionBlocks w → Inv (unplugs w f c status g .world) (UnplugAck f c ∷ es)
+    unfolding on wasPlug Asked
+    inv-unplugs f c full ends =
         let fewer = used-unplugged (regionBlocks w) (w .blocks) long f c ends full in
         record {
           told = record {
             bits = λ i l. more (w .blocks) es i (omega arith) (h .told .bits i l) (UnplugAck f c) f c false refl refl;
-            size = omega (arith, h .told .size);
-            count = unplug-count (blockSize w) _ _ _ _ _ fewer (h .told .count);
+            count = unplug-count (blockSize w) _ _ _ _ fewer (h .told .count);
           };
           early = λ p. clash there p;
           asked = refl;
         }
 
     pub inv-cleared : (j : ℕ) → nextSet (w .blocks) 0 (regionBlocks w) ≡ At j → Inv (cleared w j) (Discarded j ∷ es)
-    unfolding on wasPlug since inPlugs inUnplugs inDiscards Asked
+    unfolding on wasPlug Asked
     inv-cleared j e =
-        let lowest = next-at (w .blocks) 0 (regionBlocks w) j e in
-        let fewer = used-one (regionBlocks w) (w .blocks) long j (lowest .before-end) (lowest .is-set) in
         record {
           told = record {
             bits = λ i l. more (w .blocks) es i (omega arith) (h .told .bits i l) (Discarded j) j 1 false refl refl;
-            size = h .told .size;
-            count = h .told .count ∙ ap (λ n. n * blockSize w) (omega arith);
+            count = one-count (blockSize w) _ _ _ (used-one (regionBlocks w) (w .blocks) j e) (h .told .count);
           };
           early = λ p. clash there p;
           asked = refl;
         }
 
   pub inv-ends : nextSet (w .blocks) 0 (regionBlocks w) ≡ NoneSet → Inv (endsAll w status g .world) (UnplugAllAck ∷ es)
-  unfolding on lastOn since inPlugs inUnplugs inDiscards Asked
+  unfolding on lastOn Asked
   inv-ends e =
       record {
-        told = record { bits = h .told .bits; size = omega arith; count = rw (used-none (regionBlocks w) (w .blocks) e) (omega arith) };
+        told = record { bits = h .told .bits; count = rw (used-none (regionBlocks w) (w .blocks) e) (omega arith) };
         early = λ p. clash there p;
         asked = refl;
       }
@@ -178,14 +177,13 @@ module _ (w : World) (es : List Event) (h : Inv w es) where
   -- placing, asked for or done
   pub inv-placed : (at u : ℕ) (pl : Bool) (p : Pending) (bs : List Bool) (rows : List MapRow) → w .device .placed ≡ false → regionBlocks w ≤ length bs → discarding p ≡ false
       → Inv (record { device = deviceWith (w .device) (configWith (w .device .config) at u (plugged w) (requested w)) pl p; blocks = fill bs 0 (regionBlocks w) false; rows = rows }) es
-  unfolding lastOn wasPlug since inPlugs inUnplugs inDiscards
+  unfolding lastOn wasPlug
   inv-placed at u pl p bs rows f long q =
       let none = h .early f .none-yet in
       record {
         told = record {
           bits = λ i l. rw none (at-inside bs 0 (regionBlocks w) false i (omega arith) (omega arith) (omega arith));
-          size = h .told .size;
-          count = rw (none, take-cleared (regionBlocks w) bs (regionBlocks w) (omega arith)) (omega (arith, h .early f .no-size));
+          count = rw (take-cleared (regionBlocks w) bs (regionBlocks w) (omega arith)) (omega (arith, h .early f .no-size));
         };
         early = λ _. record { none-yet = none; not-asked = q; no-size = h .early f .no-size };
         asked = quiet-asks p _ _ q;
@@ -197,7 +195,7 @@ module _ (w : World) (es : List Event) (h : Inv w es) where
 
   pub still : (at u r : ℕ) (pl : Bool) (p : Pending) (rows : List MapRow) → (pl ≡ false → Early (Same at u r pl p rows) es) → Asked p (w .blocks) (regionBlocks w)
       → Inv (Same at u r pl p rows) es
-  still at u r pl p rows k q = record { told = record { bits = h .told .bits; size = h .told .size; count = h .told .count }; early = k; asked = q }
+  still at u r pl p rows k q = record { told = record { bits = h .told .bits; count = h .told .count }; early = k; asked = q }
 
   -- a host call that ends without an event
   pub over : (u : ℕ) (pl : Bool) (rows : List MapRow) → (pl ≡ false → w .device .placed ≡ false) → Inv (Same (start w) u (requested w) pl Nothing rows) es

@@ -1,6 +1,6 @@
 -- The record keeps its shape: each ending does.
-use Prim.Native.Nat.{ℕ, _+_, _-_, _*_, _/_, _%_, max, min, _≤_, _<_}
-use mathlib.Core.Path.{_≡_, refl, ap, _∙_, sym}
+use Prim.Native.Nat.{ℕ, _+_, _-_, _*_, _/_, max, min, _≤_, _<_}
+use mathlib.Core.Path.{_≡_, refl, _∙_}
 use mathlib.Core.Bool.{Bool, true, false}
 use mathlib.Core.List.{List, [], _∷_}
 use native.Mathlib.Omega.{arith}
@@ -22,22 +22,14 @@ use Rattle.step.specs.World.{World, Call, Outcome}
 use Rattle.step.specs.Step.{step, blockSize, region, usable, plugged, requested, several, regionBlocks, cleared}
 use Rattle.history.specs.History.{Event, Story, next, after, Fresh, begun}
 use Rattle.history.specs.Rules.{InEveryRun, KeepsShape}
-use Rattle.record.proofs.Laws.{Parts, parts as shaped-is, whole as shaped-when}
-use Rattle.history.proofs.Shaped.{size-whole, size-within, size-ok, reshaped, awaiting, idle-ok}
-use Rattle.history.proofs.Demand3.{discard-enough}
+use Rattle.record.proofs.Laws.{Parts, parts as shaped-is, whole as shaped-when, less-ok}
+use Rattle.history.proofs.Shaped.{size-whole, size-within, size-ok, reshaped, awaiting, idle-ok, cleared-shaped}
 use Rattle.history.proofs.Calls.{Endings, each-call}
 
 -- ---- the sizes stay whole blocks, at most the region
 module _ (b size region : ℕ) (e : sizeOk b size region ≡ true) where
   more-ok : (c limit : ℕ) → size + c * b ≤ limit → limit ≤ region → sizeOk b (size + c * b) region ≡ true
   more-ok c limit p q = size-ok b (size + c * b) region (add-mul-mod-self-right size c b ∙ size-whole b size region e) (omega arith)
-
-  less-ok : (c : ℕ) → c * b ≤ size → sizeOk b (size - c * b) region ≡ true
-  less-ok c p =
-      let back : size - c * b + c * b ≡ size = omega arith in
-      size-ok b (size - c * b) region
-      (sym (add-mul-mod-self-right (size - c * b) c b) ∙ ap (λ n. n % b) back ∙ size-whole b size region e)
-      (omega (arith, size-within b size region e))
 
   grown-ok : (r alignment : ℕ) → sizeOk b (max size (newSize b region r alignment)) region ≡ true
   grown-ok r alignment =
@@ -107,13 +99,13 @@ module _ (w : World) (s : Parts (w .device)) where
         create-fails = λ i last a. over;
         unplugs-range = λ first count status a.
             reshaped d s _ _ _ _ (d .placed) Nothing (s .start) (s .usable)
-            (less-ok (blockSize w) (plugged w) (region w) (s .plugged) count (discard-enough w first count status (rw (a .waits) at (s .pending))))
+            (less-ok (blockSize w) (plugged w) (region w) count (s .plugged))
             (s .requested) (nothing-ok _ _ _ _);
         discard-fails = λ first count status a. over;
         ends-all = λ j status a r. reshaped d s _ _ 0 _ (d .placed) Nothing (s .start) (s .usable) (none-ok _ _) (s .requested) (nothing-ok _ _ _ _);
         asks-next = λ j status a block offset host r _.
-            awaiting d s _ (one-ok _ _ _ _ block _ (next-at (cleared w j .blocks) (j + 1) (regionBlocks w) block r .before-end));
-        stops-after = λ j status a. over;
+            awaiting (cleared w j .device) (cleared-shaped w j s) _ (one-ok _ _ _ _ block _ (next-at (cleared w j .blocks) (j + 1) (regionBlocks w) block r .before-end));
+        stops-after = λ j status a. cleared-shaped w j s;
         one-fails = λ j status a. over;
         resizes = λ a.
             let fits = size-ok (blockSize w) (a .mib * 1048576) (region w) (a .whole) (a .in-region) in

@@ -14,7 +14,7 @@ use Rattle.step.specs.Step.{cleared}
 use Rattle.record.specs.declared.Pending.the-variants.{Nothing, Create, Discard, DiscardOne}
 use Rattle.record.specs.Changes.{configWith, deviceWith, pendingTo}
 use Rattle.record.specs.Shape.{isIdle, sizeOk, startOk, pendingOk}
-use Rattle.record.proofs.Laws.{Parts}
+use Rattle.record.proofs.Laws.{Parts, parts, whole, block-less-keeps}
 
 abbrev pub sizesOk : VirtioMemConfig → ℕ → Bool
 sizesOk c size = sizeOk (c .«block_size») size (c .«region_size»)
@@ -73,5 +73,4 @@ idle-ok (DiscardOne block status) b region several plugged e = clash e refl
 
 -- one block less, and nothing pending: the shape stays
 pub cleared-shaped : (w : World) (j : ℕ) → Parts (w .device) → Parts (cleared w j .device)
-unfolding pendingOk
-cleared-shaped w j s = awaiting (w .device) s Nothing refl
+cleared-shaped w j s = parts (cleared w j .device) (block-less-keeps (w .device) (whole (w .device) s))

@@ -1,10 +1,9 @@
--- The sizes over every run: 12 never appears, the usable size never shrinks, and a plug never takes the plugged size past the requested size.
-use Prim.Native.Nat.{ℕ, _+_, _-_, _*_, max, _≤_, _<_}
+-- The sizes over every run: 12 never appears, an unplug-all takes off what was counted, the usable size never shrinks, and a plug never takes the plugged size past the requested size.
+use Prim.Native.Nat.{ℕ, suc, _+_, _*_, max, _≤_, _<_}
 use mathlib.Core.Path.{_≡_, refl, ap}
 use mathlib.Core.Bool.{Bool, false}
 use mathlib.Core.List.{List}
 use native.Mathlib.Omega.{arith}
-use native.Mathlib.Nat.{le-of-mul-le-mul-right, add-mul}
 use lib.Dec.{eqb}
 use borrow.Author.Tests.{ne-eqb}
 use Rattle.step.specs.declared.Answer.{Answer}
@@ -12,12 +11,12 @@ use Rattle.step.specs.declared.Answer.the-variants.{Refused, Wants, Sized, Unse
 use Rattle.step.specs.World.{World, Call, Outcome}
 use Rattle.step.specs.Step.{blockSize, usable, plugged, requested, regionBlocks}
 use Rattle.history.specs.History.{Event, next, after, begun}
-use Rattle.history.specs.Rules.{InEveryRun, Never12, PluggedSize, UsableNeverShrinks, PlugWithinRequested}
+use Rattle.history.specs.Rules.{InEveryRun, Never12, DiscardIsCounted, UsableNeverShrinks, PlugWithinRequested}
 use Rattle.record.proofs.Laws.{Parts, whole as shaped-when}
-use Rattle.history.proofs.Shaped.{block-is, clash}
-use Rattle.history.proofs.Invariant.{Inv, used-unplugged}
+use Rattle.history.proofs.Shaped.{clash}
+use Rattle.history.proofs.Invariant.{Asked, Inv, used-unplugged, used-one}
 use Rattle.history.proofs.Calls.{Endings, each-call}
-use Rattle.history.proofs.Demand3.{invariant, demand-3}
+use Rattle.history.proofs.Demand3.{invariant}
 use Rattle.history.proofs.KeepsShape.{is-shaped}
 
 -- ---- 12 never appears
@@ -33,8 +32,8 @@ abbrev Not12 : Call → Outcome → List Event → Type 0
 Not12 c o new = is12 (o .answer) ≡ false
 
 -- the blocks of a legal unplug are counted in the plugged size
-not-spoiled : (b s c a n k : ℕ) → n + c ≡ a → s ≡ (a + k) * b → s < c * b → ⊥
-not-spoiled b s c a n k p q r = let e : s ≡ (n + c + k) * b = rw p q in omega arith
+not-spoiled : (b s c a n : ℕ) → n + c ≡ a → s ≡ a * b → s < c * b → ⊥
+not-spoiled b s c a n p q r = let e : s ≡ (n + c) * b = rw p q in omega arith
 
 module _ (w : World) (s : Parts (w .device)) (es : List Event) (h : Inv w es) where
   not-12 : Endings w Not12
@@ -50,7 +49,7 @@ module _ (w : World) (s : Parts (w .device)) (es : List Event) (h : Inv w es) wh
         asks-range = λ a addr count first offset host _ _. refl;
         spoils = λ a addr count first offset less l.
             let fewer = used-unplugged (regionBlocks w) (w .blocks) (a .entry .is-long) first count (l .ends) (l .state) in
-            absurd (not-spoiled (blockSize w) (plugged w) count _ _ _ fewer (h .told .count) less);
+            absurd (not-spoiled (blockSize w) (plugged w) count _ _ fewer (h .told .count) less);
         ends-at-once = λ a r. refl;
         asks-first = λ a block offset host r _. refl;
         stops-at-once = λ a. refl;
@@ -74,6 +73,17 @@ unfolding is12
 never-12 d fresh cs c e =
     let w = after (begun d) cs .world in
     clash (ap is12 e) (each-call w Not12 (not-12 w (is-shaped d fresh cs) (after (begun d) cs .events) (invariant d fresh cs)) c)
+
+-- ---- the block that an unplug-all waits for is counted
+one-counted : (b s a n : ℕ) → suc n ≡ a → s ≡ a * b → b ≤ s
+one-counted b s a n p q = rw (q, ← p) (omega arith)
+
+pub discard-is-counted : InEveryRun DiscardIsCounted
+unfolding Asked
+discard-is-counted d fresh cs c block status waits =
+    let w = after (begun d) cs .world in
+    let h = invariant d fresh cs in
+    one-counted (blockSize w) (plugged w) _ _ (used-one (regionBlocks w) (w .blocks) block (rw waits at (h .asked))) (h .told .count)
 
 -- ---- the usable size never shrinks, and a plug never takes the plugged size past the requested size
 abbrev Moved : (u n : ℕ) → Call → Outcome → List Event → Type 0
@@ -108,8 +118,8 @@ moved w =
       unplugs-range = λ first count status a. fewer _ _ _ _ (omega arith);
       discard-fails = λ first count status a. kept;
       ends-all = λ j status a r. fewer _ _ _ _ (omega arith);
-      asks-next = λ j status a block offset host r _. kept;
-      stops-after = λ j status a. kept;
+      asks-next = λ j status a block offset host r _. fewer _ _ _ _ (omega arith);
+      stops-after = λ j status a. fewer _ _ _ _ (omega arith);
       one-fails = λ j status a. kept;
       resizes = λ a. grown _ _ _ _;
       resize-asks = λ a i last size _. same _ _ _;
@@ -125,17 +135,3 @@ usable-never-shrinks d fresh cs c = let w = after (begun d) cs .world in each-ca
 pub plug-within-requested : InEveryRun PlugWithinRequested
 unfolding next
 plug-within-requested d fresh cs c = let w = after (begun d) cs .world in each-call w (Moved (usable w) (plugged w)) (moved w) c .1
-
--- ---- demand 3's second sentence as a difference
-difference : (b size unplugged plugs : ℕ) → 0 < b → size + unplugged * b ≡ plugs * b → size ≡ (plugs - unplugged) * b
-difference b size unplugged plugs positive e =
-    let least : unplugged ≤ plugs = le-of-mul-le-mul-right {k = b} (omega arith) positive in
-    let whole : unplugged + (plugs - unplugged) ≡ plugs = omega arith in
-    let parts = add-mul unplugged (plugs - unplugged) b in
-    let same-bytes : (unplugged + (plugs - unplugged)) * b ≡ plugs * b = ap (λ n. n * b) whole in
-    omega arith
-
-pub plugged-size : InEveryRun PluggedSize
-plugged-size d fresh cs c =
-    let positive = block-is _ (is-shaped d fresh cs) in
-    difference (blockSize (after (begun d) cs .world)) _ _ _ (omega arith) (demand-3 d fresh cs .size)

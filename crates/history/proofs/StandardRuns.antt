@@ -1,4 +1,4 @@
--- The device and Virtio 1.2, section 5.15, over every run: the config fields, and what an ACK and an ERROR to an unplug and to an unplug-all say.
+-- The device and Virtio 1.2, section 5.15, over every run: the config fields, what is granted to a plug, what an ACK and an ERROR to an unplug say, and an ACK to an unplug-all.
 use Prim.Native.Nat.{ℕ, _+_, _*_, _%_, max, _≤_}
 use mathlib.Core.Path.{_≡_, refl, ap, _∙_}
 use mathlib.Core.Bool.{Bool, true, false}
@@ -21,9 +21,9 @@ use Rattle.step.specs.declared.Answer.{Answer}
 use Rattle.step.specs.declared.Answer.the-variants.{Refused, Wants, Sized, Unserved, Served, Done}
 use Rattle.step.specs.World.{World, Guest, Call, Place, SetRequestedSize, Request, HostAnswer, ReadConfig, WriteConfig, Outcome}
 use Rattle.step.specs.Step.{step, blockSize, region, usable, plugged, requested, regionBlocks}
-use Rattle.history.specs.History.{Event, UnplugAck, UnplugAllAck, Open, Unplugging, UnpluggingAll, acknowledges, ackToHost, reports, discardOf, ifAck, unlessRefused, eventsOf, next, after, Fresh, begun}
+use Rattle.history.specs.History.{Event, UnplugAck, UnplugAllAck, Open, Unplugging, acknowledges, ackToHost, reports, discardOf, ifAck, unlessRefused, eventsOf, next, after, Fresh, begun}
 use Rattle.history.specs.Rules.{InEveryRun, Whole, marks, counts, could, marked, counted, allCould, isPlace}
-use Rattle.history.specs.Standard.{isRequest, OnlyRequestsPlug, UsableShrinksByUnplugAll, configOf, Constant, ConstantFields, FieldsLaidOut, UsableCoversRequested, PluggedSizeIsOfBlocks, responseOf, Responds, UnplugDone, UnplugAcknowledged, NonePlugged, UnplugAllAcknowledged, UnplugRejected, UnplugAllRejected, «VIRTIO_MEM_RESP_ACK», «VIRTIO_MEM_RESP_ERROR»}
+use Rattle.history.specs.Standard.{isRequest, OnlyRequestsPlug, UsableShrinksByUnplugAll, configOf, Constant, ConstantFields, FieldsLaidOut, UsableCoversRequested, PluggedSizeIsOfBlocks, FreeBlocksPlug, responseOf, Responds, UnplugDone, UnplugAcknowledged, NonePlugged, UnplugAllAcknowledged, UnplugRejected, «VIRTIO_MEM_RESP_ACK», «VIRTIO_MEM_RESP_ERROR»}
 use Rattle.record.proofs.Laws.{whole as shaped-when}
 use Rattle.history.proofs.Shaped.{clash}
 use Rattle.history.proofs.Cases.{by-cond, on-pending}
@@ -33,7 +33,7 @@ use Rattle.history.proofs.Demand3.{demand-3, open-is}
 use Rattle.history.proofs.KeepsShape.{is-shaped}
 use Rattle.history.proofs.Sizes.{usable-never-shrinks}
 use Rattle.history.proofs.Whole.{whole-or-not-at-all}
-use Rattle.history.proofs.Standard.{all-at, none-at}
+use Rattle.history.proofs.Standard.{all-at, none-at, plug-standard}
 
 -- ---- the config fields
 -- what the requested size is worth is at least the requested size
@@ -132,7 +132,13 @@ fields-laid-out d fresh cs c =
     }
 
 pub plugged-size-is-of-blocks : InEveryRun PluggedSizeIsOfBlocks
-plugged-size-is-of-blocks d fresh cs c e = let t = rw e at (demand-3 d fresh cs .count) in omega arith
+plugged-size-is-of-blocks d fresh cs c = demand-3 d fresh cs .count
+
+pub free-blocks-plug : InEveryRun FreeBlocksPlug
+free-blocks-plug d fresh cs c g table head req status is hears type within valid free maps =
+    let w = after (begun d) cs .world in
+    let counted = demand-3 d fresh cs .count in
+    rw is (plug-standard w g table head req status hears type .granted (omega arith) valid free maps)
 
 pub usable-shrinks-by-unplug-all : InEveryRun UsableShrinksByUnplugAll
 usable-shrinks-by-unplug-all d fresh cs c _ = usable-never-shrinks d fresh cs c
@@ -205,7 +211,7 @@ unplug-acknowledged d fresh cs c g ok host first count is opened responds =
     rw is (unplug-done w _ first count (long-by w g ok host (rw is at responds))
     (enough (w .device .pending) (blockSize w) (region w) _ (plugged w) first count (open-is d fresh cs ∙ opened) (is-shaped d fresh cs .pending)) whole′)
 
--- ---- an ERROR to an unplug, and to an unplug-all
+-- ---- an ERROR to an unplug
 error-tells : (a : Answer) (es : List Event) → responseOf a ≡ some «VIRTIO_MEM_RESP_ERROR» → ifAck a es ≡ []
 unfolding responseOf ifAck
 error-tells (Refused n) es e = refl
@@ -227,25 +233,6 @@ unplug-rejected d fresh cs c g ok host first count is opened responds =
     let tells = rejected-tells w g ok host first count (step w (HostAnswer g ok host) .answer) (rw is at responds) in
     let whole = rw (opened, tells) at (rw is at (whole-or-not-at-all d fresh cs c) refl) in
     rw is (whole .blocks-by, whole .size-by)
-
--- what a host answer to an unplug-all tells, an ERROR apart, leaves the plugged size
-stopped-tells : (w : World) (g : Guest) (ok : Bool) (host block : ℕ) (a : Answer) (b size : ℕ) → responseOf a ≡ some «VIRTIO_MEM_RESP_ERROR»
-    → counted b (eventsOf w (UnpluggingAll block) (HostAnswer g ok host) a) size ≡ size
-unfolding eventsOf acknowledges ackToHost reports discardOf counted counts responseOf unlessRefused
-stopped-tells w g ok host block (Refused n) b size e = let z : _≡_ {A = ℕ} 0 1 = cc in absurd (omega arith)
-stopped-tells w g ok host block (Wants call) b size e = let z : _≡_ {A = ℕ} 0 1 = cc in absurd (omega arith)
-stopped-tells w g ok host block Sized b size e = let z : _≡_ {A = ℕ} 0 1 = cc in absurd (omega arith)
-stopped-tells w g ok host block (Unserved reason) b size e = let z : _≡_ {A = ℕ} 0 1 = cc in absurd (omega arith)
-stopped-tells w g true host block (Served resp length) b size e = rw (error-tells (Served resp length) (UnplugAllAck ∷ []) e)
-stopped-tells w g false host block (Served resp length) b size e = rw (error-tells (Served resp length) (UnplugAllAck ∷ []) e)
-stopped-tells w g ok host block Done b size e = let z : _≡_ {A = ℕ} 0 1 = cc in absurd (omega arith)
-
-pub unplug-all-rejected : InEveryRun UnplugAllRejected
-unfolding isPlace next
-unplug-all-rejected d fresh cs c g ok host block is opened responds =
-    let w = after (begun d) cs .world in
-    let whole = rw opened at (rw is at (whole-or-not-at-all d fresh cs c) refl) in
-    rw is (whole .size-by ∙ stopped-tells w g ok host block (step w (HostAnswer g ok host) .answer) (blockSize w) (plugged w) (rw is at responds))
 
 -- ---- an ACK to an unplug-all
 no-place : (w : World) (o : Open) (c : Call) → acknowledges w o c ≡ UnplugAllAck ∷ [] → isPlace c ≡ false

@@ -1,4 +1,4 @@
--- Demand 3's words: a run of calls from a newly made device, the events that its answers tell, the last event on a block, and the blocks counted since the last acknowledged unplug-all.
+-- Demand 3's words: a run of calls from a newly made device, the events that its answers tell, the last event on a block, and how many blocks are plugged.
 use Prim.Native.Nat.{ℕ, _+_, _-_, _<_}
 use mathlib.Core.Path.{_≡_}
 use mathlib.Core.Bool.{Bool, true, false, cond, _&&_}
@@ -192,38 +192,6 @@ wasPlug (some (Discarded block)) = false
 wasPlug (some UnplugAllAck) = false
 
 -- ---- the count
--- the events since the last acknowledged unplug-all
-unfoldable pub since : List Event → List Event
-since [] = []
-since (PlugAck first count ∷ es) = PlugAck first count ∷ since es
-since (UnplugAck first count ∷ es) = UnplugAck first count ∷ since es
-since (Discarded block ∷ es) = Discarded block ∷ since es
-since (UnplugAllAck ∷ es) = []
-
--- the blocks in acknowledged plugs
-unfoldable pub inPlugs : List Event → ℕ
-inPlugs [] = 0
-inPlugs (PlugAck first count ∷ es) = count + inPlugs es
-inPlugs (UnplugAck first count ∷ es) = inPlugs es
-inPlugs (Discarded block ∷ es) = inPlugs es
-inPlugs (UnplugAllAck ∷ es) = inPlugs es
-
--- the blocks in acknowledged unplugs
-unfoldable pub inUnplugs : List Event → ℕ
-inUnplugs [] = 0
-inUnplugs (PlugAck first count ∷ es) = inUnplugs es
-inUnplugs (UnplugAck first count ∷ es) = count + inUnplugs es
-inUnplugs (Discarded block ∷ es) = inUnplugs es
-inUnplugs (UnplugAllAck ∷ es) = inUnplugs es
-
--- the blocks that unplug-alls discarded
-unfoldable pub inDiscards : List Event → ℕ
-inDiscards [] = 0
-inDiscards (PlugAck first count ∷ es) = inDiscards es
-inDiscards (UnplugAck first count ∷ es) = inDiscards es
-inDiscards (Discarded block ∷ es) = 1 + inDiscards es
-inDiscards (UnplugAllAck ∷ es) = inDiscards es
-
 -- the blocks of the region; the bitmap that is lent may have more
 abbrev pub used : World → List Bool
 used w = take (regionBlocks w) (w .blocks)
@@ -232,7 +200,5 @@ used w = take (regionBlocks w) (w .blocks)
 pub record Told (w : World) (es : List Event) : Type 0 where
   -- each block of the region is plugged exactly if the last event on it was an acknowledged plug
   pub bits : (i : ℕ) → i < regionBlocks w → blockAt (w .blocks) i ≡ wasPlug (lastOn es i)
-  -- the plugged size is the block size times (blocks in acknowledged plugs - blocks in acknowledged unplugs) since the last acknowledged unplug-all
-  pub size : plugged w + bytesOf (blockSize w) (inUnplugs (since es)) ≡ bytesOf (blockSize w) (inPlugs (since es))
-  -- and it is the block size times (set blocks + blocks discarded by unplug-alls since the last acknowledged one): so an unplug-all that acknowledges has left no bit set
-  pub count : plugged w ≡ bytesOf (blockSize w) (ones (used w) + inDiscards (since es))
+  -- the plugged size is "4 MiB times the plugged blocks, in every state, pending ones included" (02, request 5)
+  pub count : plugged w ≡ bytesOf (blockSize w) (ones (used w))

@@ -5,6 +5,7 @@ use mathlib.Core.Bool.{Bool, true, false, cond, _&&_}
 use mathlib.Core.List.{List, [], _∷_}
 use lib.Dec.{leb, ltb, eqb}
 use Rattle.units.specs.Numbers.{bytesOf}
+use Rattle.units.specs.declared.GuestAddr.{GuestAddr}
 use Rattle.bitmap.specs.Blocks.{blockAt, allAre, fill}
 use Rattle.rows.specs.declared.MapRow.{MapRow}
 use Rattle.rows.specs.Rows.{rowAt}
@@ -16,15 +17,11 @@ use Rattle.step.specs.declared.Answer.{Answer}
 use Rattle.step.specs.declared.Answer.the-variants.{Refused, Wants, Sized, Unserved, Served, Done}
 use Rattle.step.specs.World.{World, Call, Place, SetRequestedSize, Request, HostAnswer, ReadConfig, WriteConfig}
 use Rattle.step.specs.Step.{step, blockSize, usable, plugged, requested, newUsable, regionBlocks, Untouched}
-use Rattle.history.specs.History.{Event, PlugAck, UnplugAck, Discarded, UnplugAllAck, eventsOf, since, inPlugs, inUnplugs, Story, next, after, Fresh, begun}
+use Rattle.history.specs.History.{Event, PlugAck, UnplugAck, Discarded, UnplugAllAck, eventsOf, Story, next, after, Fresh, begun}
 
 -- of any list of calls from any newly made device, and of any call after them
 abbrev pub InEveryRun : (Story → Call → Type 0) → Type 0
 InEveryRun P = (d : Device) → Fresh d → (cs : List Call) (c : Call) → P (after (begun d) cs) c
-
--- demand 3's second sentence as a difference; `Told` says it as a sum, where nothing is cut off at 0
-abbrev pub PluggedSize : Story → Call → Type 0
-PluggedSize s c = plugged (s .world) ≡ bytesOf (blockSize (s .world)) (inPlugs (since (s .events)) - inUnplugs (since (s .events)))
 
 -- the record keeps its shape
 abbrev pub KeepsShape : Story → Call → Type 0
@@ -62,8 +59,12 @@ marks UnplugAllAck bs = bs
 unfoldable pub counts : (b : ℕ) → Event → ℕ → ℕ
 counts b (PlugAck first count) size = size + bytesOf b count
 counts b (UnplugAck first count) size = size - bytesOf b count
-counts b (Discarded block) size = size
+counts b (Discarded block) size = size - b
 counts b UnplugAllAck size = 0
+
+-- "never below 0, which only a spoiled bitmap could bring" (02, request 5): in a run the block that an unplug-all waits for is counted in the plugged size, so nothing is cut off
+abbrev pub DiscardIsCounted : Story → Call → Type 0
+DiscardIsCounted s c = (block : ℕ) (status : GuestAddr) → s .world .device .pending ≡ DiscardOne block status → blockSize (s .world) ≤ plugged (s .world)
 
 -- what must be so before it, in a region of n blocks: a plug finds all its blocks unplugged, an unplug all of them plugged, an unplug-all discards the lowest plugged block, and acknowledges where none is left
 unfoldable pub could : Event → List Bool → (n : ℕ) → Bool

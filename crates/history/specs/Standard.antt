@@ -21,7 +21,7 @@ use Rattle.step.specs.declared.Answer.{Answer}
 use Rattle.step.specs.declared.Answer.the-variants.{Refused, Wants, Sized, Unserved, Served, Done}
 use Rattle.step.specs.World.{World, Guest, Call, Place, SetRequestedSize, Request, HostAnswer, ReadConfig, WriteConfig, Outcome}
 use Rattle.step.specs.Step.{step, blockSize, region, usable, plugged, requested, start, several, regionBlocks, tablesFit}
-use Rattle.history.specs.History.{blockOf, Unplugging, UnpluggingAll, UnplugAllAck, acknowledges, since, inDiscards, used, Story, next}
+use Rattle.history.specs.History.{blockOf, Unplugging, UnplugAllAck, acknowledges, used, Story, next}
 use Rattle.history.specs.Rules.{asks}
 
 -- ---- 5.15.4, device configuration layout
@@ -61,9 +61,9 @@ UsableCoversRequested s c = step (s .world) c .answer ≡ Sized → requested (n
 abbrev pub UsableShrinksByUnplugAll : Story → Call → Type 0
 UsableShrinksByUnplugAll s c = (acknowledges (s .world) (s .«open») c ≡ UnplugAllAck ∷ [] → ⊥) → usable (s .world) ≤ usable (next s c .world)
 
--- plugged_size is the size of the plugged memory blocks. Narrower: unless an unplug-all that was refused has discarded blocks
+-- plugged_size is the size of the plugged memory blocks
 abbrev pub PluggedSizeIsOfBlocks : Story → Call → Type 0
-PluggedSizeIsOfBlocks s c = inDiscards (since (s .events)) ≡ 0 → plugged (s .world) ≡ ones (used (s .world)) * blockSize (s .world)
+PluggedSizeIsOfBlocks s c = plugged (s .world) ≡ ones (used (s .world)) * blockSize (s .world)
 
 -- ---- 5.15.6, device operation: requests, responses and states
 abbrev pub «VIRTIO_MEM_REQ_PLUG» : ℕ
@@ -239,11 +239,6 @@ abbrev pub UnplugAllAcknowledged : Story → Call → Type 0
 UnplugAllAcknowledged s c = acknowledges (s .world) (s .«open») c ≡ UnplugAllAck ∷ []
     → Responds (step (s .world) c) «VIRTIO_MEM_RESP_ACK» → NonePlugged (next s c .world)
 
--- not the standard's: a rejected unplug-all leaves plugged_size as it was, although blocks may have been discarded
-abbrev pub UnplugAllRejected : Story → Call → Type 0
-UnplugAllRejected s c = (g : Guest) (ok : Bool) (host block : ℕ) → c ≡ HostAnswer g ok host → s .«open» ≡ UnpluggingAll block
-    → Responds (step (s .world) c) «VIRTIO_MEM_RESP_ERROR» → plugged (next s c .world) ≡ plugged (s .world)
-
 -- ---- 5.15.6, STATE
 pub record State (w : World) (req : VirtioMemReq) (o : Outcome) : Type 0 where
   -- rejected with ERROR if it is not valid, and acknowledged otherwise
@@ -289,3 +284,10 @@ pub record Unknown (w : World) (req : VirtioMemReq) (o : Outcome) : Type 0 where
 abbrev pub OfEveryUnknown : (World → VirtioMemReq → Outcome → Type 0) → Type 0
 OfEveryUnknown P = (w : World) (g : Guest) (table head : ℕ) (req : VirtioMemReq) (status : GuestAddr) → Hears w g table head req status → 3 < req .«req_type»
     → P w req (step w (Request g table head))
+
+-- ---- PLUG, counted by blocks: whatever was refused or failed before, unplugged blocks can be plugged as long as they and the plugged ones are at most requested_size
+abbrev pub FreeBlocksPlug : Story → Call → Type 0
+FreeBlocksPlug s c = (g : Guest) (table head : ℕ) (req : VirtioMemReq) (status : GuestAddr) → c ≡ Request g table head → Hears (s .world) g table head req status → req .«req_type» ≡ «VIRTIO_MEM_REQ_PLUG»
+    → ones (used (s .world)) * blockSize (s .world) + sizeOf (s .world) req ≤ requested (s .world)
+    → Valid (s .world) req → ((i : ℕ) → Covers (s .world) req i → IsUnplugged (s .world) i) → OneMapping (s .world) req
+    → Responds (step (s .world) c) «VIRTIO_MEM_RESP_ACK»
