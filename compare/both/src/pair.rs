@@ -8,7 +8,7 @@ use std::rc::Rc;
 use oracle::chains::Chain;
 use oracle::guest::Guest;
 use oracle::host::{answering, Answer, Question};
-use oracle::rust::{Rust, MAP_REGION, PLUG, STATE, UNPLUG, UNPLUG_ALL};
+use oracle::rust::{Rust, BLOCK, ERROR, MAP_REGION, PLUG, STATE, UNPLUG, UNPLUG_ALL};
 use oracle::trace::{First, Op, Want};
 
 use crate::proved::{Proved, Told};
@@ -70,6 +70,7 @@ pub struct Pair {
     first_slot: u32,
     memory: Vec<u8>,
     placed: bool,
+    over: bool,
     /// Calls of the exports so far, without the reads that compare.
     pub calls: u64,
     pub seen: Seen,
@@ -103,6 +104,7 @@ impl Pair {
             first_slot: first.slot as u32,
             memory: vec![0; LENGTH],
             placed: false,
+            over: false,
             calls: 1,
             seen: Seen::from([(("make, number", 0), 1)]),
         };
@@ -112,6 +114,12 @@ impl Pair {
 
     pub fn placed(&self) -> bool {
         self.placed
+    }
+
+    /// An unplug-all was refused. mem.rs keeps the plugged size of the blocks that it has cleared,
+    /// so no further call is compared (02, request 5).
+    pub fn over(&self) -> bool {
+        self.over
     }
 
     fn saw(&mut self, what: &'static str, outcome: u64) {
@@ -204,6 +212,7 @@ impl Pair {
             };
             self.saw(name, told.words[5]);
         }
+        self.over = kind == UNPLUG_ALL && told.words[5] == u64::from(ERROR);
         let (kind, state) = (told.words[5] as u16, told.words[6] as u16);
         let at = req as usize + 32 - BASE as usize;
         let word = |at: usize| u16::from_le_bytes([memory[at], memory[at + 1]]);
@@ -215,6 +224,7 @@ impl Pair {
         let mut asked = Vec::new();
         self.calls += 1;
         while let Some(want) = told.want() {
+            self.counted()?;
             if let Want::Discard { offset, host, .. } = want {
                 same("the row's host address", self.host_of(offset), Some(host))?;
             }
@@ -261,12 +271,37 @@ impl Pair {
         }
     }
 
-    /// Config bytes, and of a placed device bitmap and rows.
+    /// The plugged size that the guest reads is that of the plugged blocks, whatever is pending.
+    fn counted(&self) -> Result<(), String> {
+        if !self.placed {
+            return Ok(());
+        }
+        let blocks: u32 = self
+            .proved
+            .bitmap()
+            .iter()
+            .map(|byte| byte.count_ones())
+            .sum();
+        let mut bytes = [NOISE; 8];
+        self.proved.read_config(40, &mut bytes);
+        let plugged = u64::from_le_bytes(bytes);
+        match plugged == u64::from(blocks) * BLOCK {
+            true => Ok(()),
+            false => Err(format!("plugged {plugged} with {blocks} blocks plugged")),
+        }
+    }
+
+    /// Config bytes, and of a placed device bitmap and rows. After an unplug-all that was refused the
+    /// plugged size of mem.rs is that of the blocks that it has plugged.
     fn compare(&mut self) -> Result<(), String> {
         let (mut rust, mut proved) = ([NOISE; 56], [NOISE; 56]);
         self.rust.read_config(0, &mut rust);
+        if self.over {
+            rust[40..48].copy_from_slice(&self.rust.plugged_by_blocks().to_le_bytes());
+        }
         self.proved.read_config(0, &mut proved);
         same("config", rust, proved)?;
+        self.counted()?;
         same("lent behind the need is spared", true, self.proved.spared())?;
         if !self.placed {
             return Ok(());

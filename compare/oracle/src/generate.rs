@@ -2,7 +2,8 @@
 //!
 //! Every trace keeps inside the domain in which 01 departs from mem.rs nowhere: at most 1 TiB, MiB
 //! numbers whose bytes are below 2^64, an aligned start whose region (several regions: whose rows)
-//! ends below 2^64, and host addresses whose mappings do too.
+//! ends below 2^64, and host addresses whose mappings do too. It ends at the first unplug-all that is
+//! refused, where request 5 of 02 departs.
 
 use std::cell::RefCell;
 use std::collections::BTreeSet;
@@ -24,18 +25,23 @@ pub struct Limits {
     pub ops: u64,
     /// Plugged blocks up to which an unplug-all is asked for: each costs two lines.
     pub unplug_all: usize,
+    /// Of a hundred unplug-alls those whose every discard the host grants. The others are refused at
+    /// one of their blocks more often than not, and that ends the run.
+    pub granted: u64,
 }
 
 /// For traces that are run and compared.
 pub const LONG: Limits = Limits {
     ops: 40,
     unplug_all: 200,
+    granted: 85,
 };
 
 /// For traces that are kept as a sample.
 pub const SHORT: Limits = Limits {
     ops: 9,
     unplug_all: 6,
+    granted: 50,
 };
 
 /// A trace, what mem.rs printed, and the kinds of thing that happened.
@@ -64,6 +70,8 @@ struct Host {
     trace: Trace,
     /// The questions of the line that is being run, with their answers, for the trace's kinds.
     asked: String,
+    /// Whether it grants every discard of that line.
+    granted: bool,
 }
 
 impl Host {
@@ -73,7 +81,7 @@ impl Host {
             Want::Create { size, .. } => format!("create {}", size.div_ceil(MAP_REGION)),
             Want::Discard { .. } => "discard".to_string(),
         };
-        let (ok, addr) = host_answer(&mut self.random, want);
+        let (ok, addr) = host_answer(&mut self.random, want, self.granted);
         let line = Op::Host { ok, addr };
         self.trace.input.push(line.to_string());
         self.asked += &format!("{kind} {} ", u8::from(ok));
@@ -81,8 +89,13 @@ impl Host {
     }
 }
 
+/// Whether the host grants every discard of a line.
+pub fn granted(random: &mut Random, op: Op, limits: Limits) -> bool {
+    op == Op::UnplugAll && random.chance(limits.granted)
+}
+
 /// A host's answer: success or not, and a host address that the mapping fits behind.
-pub fn host_answer(random: &mut Random, want: Want) -> (bool, u64) {
+pub fn host_answer(random: &mut Random, want: Want, granted: bool) -> (bool, u64) {
     match want {
         Want::Create { size, .. } => {
             let rows = size.div_ceil(MAP_REGION);
@@ -100,7 +113,7 @@ pub fn host_answer(random: &mut Random, want: Want) -> (bool, u64) {
         }
         Want::Discard { .. } => {
             let addr = random.pick(&[0, 0, 0, 4096, u64::MAX]);
-            (!random.chance(15), addr)
+            (granted || !random.chance(15), addr)
         }
     }
 }
@@ -112,6 +125,7 @@ pub fn trace(seed: u64, limits: Limits) -> Trace {
         random: Random::new(random.next()),
         trace: Trace::default(),
         asked: String::new(),
+        granted: false,
     }));
     let asked = host.clone();
     let answers = Rc::new(RefCell::new(move |want| asked.borrow_mut().answer(want)));
@@ -147,8 +161,9 @@ fn drive(random: &mut Random, first: &First, mut run: Run, host: &RefCell<Host>,
         let (op, kind) = next_op(random, &mut run.device, limits, done < 2);
         host.borrow_mut().trace.input.push(op.to_string());
         host.borrow_mut().asked.clear();
+        host.borrow_mut().granted = granted(random, op, limits);
         let old = run.device.config();
-        let outcome = run.step(op);
+        let (outcome, goes_on) = run.compared(op);
         let multi = u8::from(run.device.multi());
         let usable = grown(&old, &run.device.config());
         let kind = format!("multi={multi} {kind} {usable}");
@@ -157,6 +172,9 @@ fn drive(random: &mut Random, first: &First, mut run: Run, host: &RefCell<Host>,
             .trace
             .happened(format!("{before} then {after}"));
         before = after;
+        if !goes_on {
+            return;
+        }
     }
 }
 

@@ -32,6 +32,9 @@ pub const UNPLUG: u16 = 1;
 pub const UNPLUG_ALL: u16 = 2;
 pub const STATE: u16 = 3;
 
+/// The response type that refuses.
+pub const ERROR: u16 = 3;
+
 /// The numbers of the config that can change or that a caller wants to see.
 #[derive(Clone, Copy, Debug, PartialEq, Eq)]
 pub struct Config {
@@ -262,6 +265,12 @@ impl Rust {
     /// The same, lent to `f`.
     pub fn with_blocks<T>(&self, f: impl FnOnce(&[bool]) -> T) -> T {
         self.with_handler(|handler| f(&handler.mem_state))
+    }
+
+    /// The size of the blocks that are plugged.
+    pub fn plugged_by_blocks(&self) -> u64 {
+        let count = |blocks: &[bool]| blocks.iter().filter(|&&plugged| plugged).count();
+        self.with_blocks(count) as u64 * BLOCK
     }
 
     /// Each row's slot and host address.

@@ -7,7 +7,7 @@ use std::rc::Rc;
 
 use crate::guest::Guest;
 use crate::host::{answering, Answer, Question};
-use crate::rust::{Rust, BLOCK, MAP_REGION, PLUG, STATE, UNPLUG, UNPLUG_ALL};
+use crate::rust::{Rust, BLOCK, ERROR, MAP_REGION, PLUG, STATE, UNPLUG, UNPLUG_ALL};
 
 /// The greatest first slot.
 pub const MAX_SLOT: u64 = 4_294_966_000;
@@ -257,6 +257,28 @@ impl Run {
         }
     }
 
+    /// The same, as far as the device is compared with mem.rs: false where that ends. An unplug-all
+    /// that is refused leaves mem.rs with the plugged size of the blocks that it has cleared, so
+    /// later answers may differ (02, request 5). The size of its own line is that of the blocks
+    /// that mem.rs has plugged.
+    pub fn compared(&mut self, op: Op) -> (Outcome, bool) {
+        let mut outcome = self.step(op);
+        let mut goes_on = true;
+        if let (
+            Op::UnplugAll,
+            Outcome::Response {
+                resp: ERROR,
+                plugged,
+                ..
+            },
+        ) = (op, &mut outcome)
+        {
+            *plugged = self.device.plugged_by_blocks();
+            goes_on = false;
+        }
+        (outcome, goes_on)
+    }
+
     fn sized(&mut self, done: Result<(), u64>) -> Outcome {
         let config = self.device.config();
         match done {
@@ -362,9 +384,11 @@ impl Replay {
     }
 }
 
-/// Runs a trace through mem.rs. An error names the first line outside what can be compared.
+/// Runs a trace through mem.rs, line by line by `step`, until that says that it ends. An error names
+/// the first line outside what can be compared.
 pub fn replay(
     lines: impl Iterator<Item = String> + 'static,
+    step: impl Fn(&mut Run, Op) -> (Outcome, bool),
     print: impl FnMut(String) + 'static,
 ) -> Result<(), String> {
     let replay = Rc::new(RefCell::new(Replay {
@@ -394,9 +418,11 @@ pub fn replay(
         match next {
             Some(Op::Host { .. }) => replay.borrow_mut().leave("the Rust waits for no answer"),
             Some(op) => {
-                let outcome = run.step(op);
+                let (outcome, goes_on) = step(&mut run, op);
                 replay.borrow_mut().print(outcome)?;
-                continue;
+                if goes_on {
+                    continue;
+                }
             }
             None => (),
         }
@@ -404,13 +430,12 @@ pub fn replay(
     }
 }
 
-/// What mem.rs prints for a trace, or where the trace leaves what can be compared.
+/// What mem.rs prints for a trace as far as it is compared, or where the trace leaves what can be.
 pub fn replayed(input: &[String]) -> Result<Vec<String>, String> {
     let output = Rc::new(RefCell::new(Vec::new()));
     let lines = output.clone();
-    replay(input.to_vec().into_iter(), move |line| {
-        lines.borrow_mut().push(line)
-    })?;
+    let push = move |line| lines.borrow_mut().push(line);
+    replay(input.to_vec().into_iter(), Run::compared, push)?;
     let lines = output.borrow().clone();
     Ok(lines)
 }

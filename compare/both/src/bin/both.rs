@@ -6,7 +6,7 @@ use std::time::{Duration, Instant};
 
 use both::pair::{chain, Call, Pair, Seen};
 use oracle::chains;
-use oracle::generate::{first_line, host_answer, next_op, start, LONG};
+use oracle::generate::{first_line, granted, host_answer, next_op, start, LONG};
 use oracle::random::Random;
 use oracle::trace::{First, Op};
 
@@ -110,6 +110,9 @@ fn run_calls(
         0
     };
     for done in 0..calls {
+        if pair.over() {
+            break;
+        }
         let call = match random.chance(10) {
             true => read(random),
             false => Call::Op(next_op(random, &mut pair.rust, LONG, done < 2).0),
@@ -145,8 +148,12 @@ fn step(
     lines: &mut Vec<Line>,
 ) -> Result<(), String> {
     let mut answers = Vec::new();
+    let granted = match call {
+        Call::Op(op) => granted(random, op, LONG),
+        _ => false,
+    };
     let done = pair.step(call, &mut |want| {
-        let answer = host_answer(random, want);
+        let answer = host_answer(random, want, granted);
         answers.push(answer);
         answer
     });
@@ -177,6 +184,9 @@ fn replayed(first: &First, lines: &[Line]) -> Result<(), Differs> {
         run.push((*call, used));
         if let Err(said) = done {
             return Err((said, run));
+        }
+        if pair.over() {
+            return Ok(());
         }
     }
     Ok(())

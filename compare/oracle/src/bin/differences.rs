@@ -9,7 +9,7 @@ use std::rc::Rc;
 
 use oracle::guest::{request, Descriptor, Guest, INDIRECT, NEXT, WRITE};
 use oracle::host::{answering, Answer, Question};
-use oracle::rust::{Rust, BLOCK, MAP_REGION, PLUG, UNPLUG};
+use oracle::rust::{Rust, BLOCK, ERROR, MAP_REGION, PLUG, UNPLUG, UNPLUG_ALL};
 
 const GIB: u64 = 1 << 30;
 const MIB: u64 = 1 << 20;
@@ -226,6 +226,23 @@ fn host_address_wraps() -> String {
         .into()
 }
 
+fn refused_unplug_all() -> String {
+    let mut device = placed(small_guest());
+    assert_eq!(device.request(PLUG, 4 * GIB, 2).resp, 0);
+    let mut answers = [Some(0), None].into_iter();
+    let served = answering(
+        move |_| answers.next().unwrap(),
+        || device.request(UNPLUG_ALL, 0, 0),
+    );
+    assert_eq!(served.resp, ERROR);
+    assert_eq!(device.config().plugged, 2 * BLOCK);
+    assert_eq!(device.plugged_by_blocks(), BLOCK);
+    assert_eq!(device.request(PLUG, 4 * GIB + 2 * BLOCK, 3).resp, 1);
+    "plug of 2 blocks, unplug-all, the second discard fails: ERROR, plugged 8388608 with one block \
+     plugged, and a plug of 3 blocks is NACK (02, request 5: plugged 4194304, and the plug is ACK)"
+        .into()
+}
+
 fn head_of_128() -> String {
     let mut device = placed(small_guest());
     let panicked = catch_unwind(AssertUnwindSafe(|| device.serve(128)));
@@ -315,6 +332,7 @@ fn main() {
         ),
         ("failed-single-placing", failed_single_placing),
         ("host-address-wraps", host_address_wraps),
+        ("refused-unplug-all", refused_unplug_all),
         ("head-of-128", head_of_128),
         ("indirect-is-followed", indirect_is_followed),
         ("long-chain", long_chain),

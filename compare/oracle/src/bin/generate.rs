@@ -76,6 +76,11 @@ fn sample(file: &str, seed: u64, count: u64) {
     let edges = edges(file);
     for input in &edges {
         let output = replayed(input).unwrap_or_else(|e| panic!("{}: {e}", input.join("\n")));
+        assert_eq!(
+            input.len(),
+            output.len(),
+            "goes on past a refusal: {input:?}"
+        );
         print_trace(input, &output);
     }
     let count = count - edges.len() as u64;

@@ -6,11 +6,12 @@
 use std::io;
 use std::process::exit;
 
-use oracle::trace::replay;
+use oracle::trace::{replay, Run};
 
 fn main() {
     let lines = io::stdin().lines().map(|line| line.expect("text"));
-    if let Err(outside) = replay(lines, |line| println!("{line}")) {
+    let step = |run: &mut Run, op| (run.step(op), true);
+    if let Err(outside) = replay(lines, step, |line| println!("{line}")) {
         eprintln!("{outside}");
         exit(3)
     }
