@@ -1,9 +1,10 @@
 // Runs traces whose answers are known, and compares. A file of data/ has a block for each trace: its lines, a line `--`, its
 // answers, and an empty line. In an answer `*` stands for any value of a field.
 //
-// traces.txt has what mem.rs answers: first to document 01's example and its edges W1 to W11, then to random traces. recorded.txt
-// has requests that Linux's driver made in a guest of QEMU, and the fields of QEMU's answers that may be compared. edges.txt has
-// the edges of a line's form: its answers were read against document 01.
+// traces.txt has what mem.rs answers: first to document 01's example and its edges W1 to W11, then to random traces, each up to
+// the first unplug-all that is refused. amended.txt goes on behind one, where document 02 departs from mem.rs: its answers were
+// worked out by a model of both documents. recorded.txt has requests that Linux's driver made in a guest of QEMU, and the fields of
+// QEMU's answers that may be compared. edges.txt has the edges of a line's form: its answers were read against document 01.
 use libc::STDOUT_FILENO;
 use trace_run::Run;
 use trace_run::first_bytes;
@@ -327,6 +328,7 @@ fn run_file(path: &[u8]) {
 
 fn main() {
     run_file(b"traces.txt");
+    run_file(b"amended.txt");
     run_file(b"recorded.txt");
     run_file(b"edges.txt");
 }
