@@ -6,8 +6,8 @@
 // is printed by its name. A wrong letter shows as a line that stdout has not.
 //
 // bitmaps.txt asks the bitmap; chains.txt the chain; changes.txt the range test, the plug and unplug decision and the state;
-// placings.txt making, placing and size changes; servings.txt requests and discards; values.txt the numbers, the record's shape and
-// the usable size.
+// placings.txt making, placing and size changes; servings.txt requests, discards and the config; values.txt the numbers, the
+// record's shape and the usable size.
 use lines::Numbers;
 use scene::Scene;
 

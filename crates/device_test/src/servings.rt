@@ -1,4 +1,4 @@
-// Requests and discard answers: each with its answer and all that it leaves.
+// Requests and discard answers: each with its answer and all that it leaves. Reads of the config.
 use super::lines::Numbers;
 use super::scene::Scene;
 use super::scene::after;
@@ -123,6 +123,18 @@ fn answered(scene: Scene, bitmap: &mut [u8], table: &[u64], ok: u64) -> Scene {
     }
 }
 
+// Eight bytes of the config, as one number.
+fn read(scene: Scene, offset: u64) -> Scene {
+    print(b"config # -> ", &[offset]);
+    let d = scene.device;
+    let mut bytes: [u8; 8] = [255; 8];
+    let s = device::read_config(d, offset, &mut bytes);
+    let answer = s.answer;
+    show_answer(answer);
+    print(b" #\n", &[little_endian::read_u64(&bytes, 0)]);
+    after(scene, true)
+}
+
 // Another request in memory, which nobody asks the device to read.
 fn overwritten(scene: Scene, addr: u64, blocks: u64, status: u64) -> Scene {
     let mem = laid(0, addr, blocks, status);
@@ -137,6 +149,7 @@ pub fn command(scene: Scene, kind: u8, v: Numbers, bitmap: &mut [u8], table: &[u
     match kind {
         b't' => asked(scene, bitmap, table, v.0, v.1, v.2, v.3),
         b'h' => answered(scene, bitmap, table, v.0),
+        b'c' => read(scene, v.0),
         b'o' => overwritten(scene, v.0, v.1, v.2),
         _ => after(scene, false),
     }
