@@ -39,7 +39,7 @@ struct host {
     struct ram ram;
     int memfd;
     uint8_t *memory;
-    bool refuse; /* the next discard is refused */
+    unsigned refuse; /* which of the next discards is refused, from 1 on; 0 for none */
 };
 
 static void fail(const char *what)
@@ -73,10 +73,8 @@ static bool create(struct host *h)
 /* Discard: the memory goes back to the kernel. A hole in the memfd is one in every mapping of it. */
 static bool discard(struct host *h)
 {
-    if (h->refuse) {
-        h->refuse = false;
+    if (h->refuse > 0 && --h->refuse == 0)
         return false;
-    }
     uint64_t offset = h->answer[JAMBCOPPER_ANSWER_WHERE] - (uint64_t)(uintptr_t)h->memory;
     return fallocate(h->memfd, FALLOC_FL_PUNCH_HOLE | FALLOC_FL_KEEP_SIZE, (off_t)offset,
                      (off_t)h->answer[JAMBCOPPER_ANSWER_SIZE]) == 0;
@@ -161,12 +159,20 @@ int main(void)
     expect(ask(&h, VIRTIO_MEM_REQ_UNPLUG, REGION_START + 2 * block, 3) == VIRTIO_MEM_RESP_ACK, "no unplug");
     print(&h, "unplugged 3 of 8");
 
-    h.refuse = true;
+    h.refuse = 1;
     expect(ask(&h, VIRTIO_MEM_REQ_UNPLUG, REGION_START, 2) == VIRTIO_MEM_RESP_ERROR, "an unplug that the host refused");
     print(&h, "unplug host refused");
 
     expect(ask(&h, VIRTIO_MEM_REQ_UNPLUG, REGION_START + block, 4) == VIRTIO_MEM_RESP_ERROR, "an unplug that is illegal");
     print(&h, "unplug device refused");
+
+    /* Of five blocks the first is given back: what is held and what is plugged go together, and there is room again. */
+    h.refuse = 2;
+    expect(ask(&h, VIRTIO_MEM_REQ_UNPLUG_ALL, 0, 0) == VIRTIO_MEM_RESP_ERROR, "an unplug-all that the host refused");
+    print(&h, "unplug-all refused");
+
+    expect(ask(&h, VIRTIO_MEM_REQ_PLUG, REGION_START + 8 * block, 12) == VIRTIO_MEM_RESP_ACK, "no plug again");
+    print(&h, "plugged again");
 
     expect(ask(&h, VIRTIO_MEM_REQ_UNPLUG_ALL, 0, 0) == VIRTIO_MEM_RESP_ACK, "no unplug-all");
     print(&h, "unplugged all");

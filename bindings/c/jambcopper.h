@@ -167,7 +167,9 @@ uint64_t jambcopper_request(uint64_t *record, size_t record_words, uint8_t *bitm
  *   mem, base  guest memory, for the response to an unplug; a creation does not look at it
  *   ok         whether the host did what was asked
  *   host       creation: the host address of the memory; a discard does not look at it
- * Answer: refused, sized (creation), served (discard), or discard: the next block of an unplug-all.
+ * Answer: refused, sized (creation), served (discard), or discard: the next block of an unplug-all. Each block of one
+ * is unplugged, and its size taken off the plugged size, as its discard is answered; where a discard fails the request
+ * ends with ERROR, and the blocks before it stay unplugged.
  */
 uint64_t jambcopper_host_answer(uint64_t *record, size_t record_words, uint8_t *bitmap, size_t bitmap_bytes,
                                 uint64_t *table, size_t table_words, uint8_t *mem, size_t mem_bytes, uint64_t base,

@@ -258,7 +258,8 @@ impl Device {
     }
 
     /// The host's answer to what it was asked. Guest memory is for the response to an unplug; a creation does not look
-    /// at it.
+    /// at it. Each block of an unplug-all is unplugged, and its size taken off the plugged size, as its discard is
+    /// answered; where a discard fails the request ends with ERROR, and the blocks before it stay unplugged.
     pub fn host_answer(
         &mut self,
         mem: &mut [u8],
@@ -324,7 +325,7 @@ impl Device {
         self.record[4]
     }
 
-    /// How many bytes are plugged.
+    /// How many bytes are plugged: the block size for each plugged block, while the host is asked too.
     pub fn plugged_size(&self) -> u64 {
         self.record[5]
     }

@@ -81,12 +81,13 @@ fn the_whole_example() {
         device.host_answer(&mut mem, BASE, HostAnswer::Discarded),
         Ok(discard(1))
     );
+    assert_eq!((device.plugged_size(), device.bitmap()[0]), (4_194_304, 2));
     assert_eq!(
         device.host_answer(&mut mem, BASE, HostAnswer::Failed),
         Ok(served(3, 0))
     );
     assert_eq!(mem[RESPONSE..], [3, 0, 0, 0, 0, 0, 0, 0, 0, 0]);
-    assert_eq!((device.plugged_size(), device.bitmap()[0]), (8_388_608, 2));
+    assert_eq!((device.plugged_size(), device.bitmap()[0]), (4_194_304, 2));
 
     assert_eq!(device.set_requested_size(20), Ok(Answer::Sized));
     assert_eq!(
