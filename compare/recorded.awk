@@ -1,14 +1,5 @@
-# Holds a trace's output against a recorded one: awk -f recorded.awk NAME.qemu OUTPUT
+# Holds a trace's output against a recorded one: awk -f fields.awk -f recorded.awk NAME.qemu OUTPUT
 # Every result line (all but want=) must agree in the fields that the recorded line names by cmp=.
-
-function read_fields(line, into,    parts, n, i, at) {
-    split("", into)
-    n = split(line, parts, " ")
-    for (i = 1; i <= n; i++) {
-        at = index(parts[i], "=")
-        into[substr(parts[i], 1, at - 1)] = substr(parts[i], at + 1)
-    }
-}
 
 FNR == NR && /^#/ { next } # a request that the recording left out
 FNR == NR { recorded[++lines] = $0; next }
