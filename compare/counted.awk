@@ -1,4 +1,5 @@
-# Counts the plugged blocks of a trace by its events, and holds the count against what was printed: awk -f fields.awk -f counted.awk INPUT OUTPUT
+# Counts the plugged blocks of a trace by its events, and holds the count against what was printed:
+# awk -f fields.awk -f counted.awk INPUT OUTPUT
 # It knows no device, only the lines: an acknowledged plug, an acknowledged unplug, and each discard of an unplug-all that the host
 # granted and that was not refused. After every line that prints it, `plugged=` must be 4 MiB times the blocks, a state must be the
 # block's, and NACK must be given exactly if the blocks and those asked for are more than the requested size.
@@ -35,7 +36,7 @@ FNR == NR { line[FNR] = $0; given = FNR; next }
     for (i in plugged) count++
 
     if (says["want"] == "discard") {
-        if (asks["op"] != "host") { open = asks["op"]; cleared = 0 }
+        if (asks["op"] != "host") open = asks["op"]
         block = says["offset"] / 4194304
         blocks = says["size"] / 4194304
         next
@@ -52,6 +53,7 @@ FNR == NR { line[FNR] = $0; given = FNR; next }
     }
     hold("plugged", says["plugged"], count * 4194304)
     open = ""
+    cleared = 0
 }
 END {
     if (lines != given) { print lines + 0 " of " given " lines are answered"; differ = 1 }

@@ -44,7 +44,7 @@ pub const SHORT: Limits = Limits {
     granted: 50,
 };
 
-/// A trace, what mem.rs printed, and the kinds of thing that happened.
+/// A trace, what mem.rs printed as far as it is compared, and the kinds of thing that happened.
 #[derive(Clone, Debug, Default)]
 pub struct Trace {
     pub input: Vec<String>,

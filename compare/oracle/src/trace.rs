@@ -262,21 +262,23 @@ impl Run {
     /// later answers may differ (02, request 5). The size of its own line is that of the blocks
     /// that mem.rs has plugged.
     pub fn compared(&mut self, op: Op) -> (Outcome, bool) {
-        let mut outcome = self.step(op);
-        let mut goes_on = true;
-        if let (
-            Op::UnplugAll,
+        match self.step(op) {
             Outcome::Response {
                 resp: ERROR,
-                plugged,
+                state,
+                usable,
                 ..
-            },
-        ) = (op, &mut outcome)
-        {
-            *plugged = self.device.plugged_by_blocks();
-            goes_on = false;
+            } if op == Op::UnplugAll => {
+                let refused = Outcome::Response {
+                    resp: ERROR,
+                    state,
+                    plugged: self.device.plugged_by_blocks(),
+                    usable,
+                };
+                (refused, false)
+            }
+            outcome => (outcome, true),
         }
-        (outcome, goes_on)
     }
 
     fn sized(&mut self, done: Result<(), u64>) -> Outcome {

@@ -54,11 +54,12 @@ module _ (n : ℕ) (bs : List Bool) (long : n ≤ length bs) where
   used-unplugged f c l a =
       rw (take-fill n bs f c false) (ones-unplugged (take n bs) f c (omega (arith, length-take n bs)) (rw (range-take n bs f c l) a))
 
--- the lowest of them is one
-pub used-one : (n : ℕ) (bs : List Bool) (j : ℕ) → nextSet bs 0 n ≡ At j → suc (ones (take n (fill bs j 1 false))) ≡ ones (take n bs)
+-- after the lowest of them is cleared
+pub used-one : (n : ℕ) (bs : List Bool) (j : ℕ) → nextSet bs 0 n ≡ At j → ones (take n (fill bs j 1 false)) + 1 ≡ ones (take n bs)
 used-one n bs j e =
     let lowest = next-at bs 0 n j e in
-    rw (take-fill n bs j 1 false) (ones-one (take n bs) j (getD-take n bs j false (lowest .before-end) ∙ lowest .is-set))
+    let fewer = ones-one (take n bs) j (getD-take n bs j false (lowest .before-end) ∙ lowest .is-set) in
+    rw (take-fill n bs j 1 false) (omega arith)
 
 -- no block of the region is set
 used-none : (n : ℕ) (bs : List Bool) → nextSet bs 0 n ≡ NoneSet → ones (take n bs) ≡ 0
@@ -112,7 +113,7 @@ idle-quiet (DiscardOne block status) e = clash e refl
 unplug-count : (b s c a n : ℕ) → n + c ≡ a → s ≡ a * b → s - c * b ≡ n * b
 unplug-count b s c a n p q = rw (q, ← p) (omega arith)
 
-one-count : (b s a n : ℕ) → suc n ≡ a → s ≡ a * b → s - b ≡ n * b
+one-count : (b s a n : ℕ) → n + 1 ≡ a → s ≡ a * b → s - b ≡ n * b
 one-count b s a n p q = rw (q, ← p) (omega arith)
 
 -- ---- each leaf keeps it

@@ -1,5 +1,5 @@
 -- The sizes over every run: 12 never appears, an unplug-all takes off what was counted, the usable size never shrinks, and a plug never takes the plugged size past the requested size.
-use Prim.Native.Nat.{ℕ, suc, _+_, _*_, max, _≤_, _<_}
+use Prim.Native.Nat.{ℕ, _+_, _*_, max, _≤_, _<_}
 use mathlib.Core.Path.{_≡_, refl, ap}
 use mathlib.Core.Bool.{Bool, false}
 use mathlib.Core.List.{List}
@@ -31,9 +31,9 @@ is12 Done = false
 abbrev Not12 : Call → Outcome → List Event → Type 0
 Not12 c o new = is12 (o .answer) ≡ false
 
--- the blocks of a legal unplug are counted in the plugged size
-not-spoiled : (b s c a n : ℕ) → n + c ≡ a → s ≡ a * b → s < c * b → ⊥
-not-spoiled b s c a n p q r = let e : s ≡ (n + c) * b = rw p q in omega arith
+-- blocks that are plugged are counted in the plugged size
+are-counted : (b s c a n : ℕ) → n + c ≡ a → s ≡ a * b → c * b ≤ s
+are-counted b s c a n p q = rw (q, ← p) (omega arith)
 
 module _ (w : World) (s : Parts (w .device)) (es : List Event) (h : Inv w es) where
   not-12 : Endings w Not12
@@ -49,7 +49,8 @@ module _ (w : World) (s : Parts (w .device)) (es : List Event) (h : Inv w es) wh
         asks-range = λ a addr count first offset host _ _. refl;
         spoils = λ a addr count first offset less l.
             let fewer = used-unplugged (regionBlocks w) (w .blocks) (a .entry .is-long) first count (l .ends) (l .state) in
-            absurd (not-spoiled (blockSize w) (plugged w) count _ _ fewer (h .told .count) less);
+            let enough = are-counted (blockSize w) (plugged w) count _ _ fewer (h .told .count) in
+            absurd (omega arith);
         ends-at-once = λ a r. refl;
         asks-first = λ a block offset host r _. refl;
         stops-at-once = λ a. refl;
@@ -75,15 +76,13 @@ never-12 d fresh cs c e =
     clash (ap is12 e) (each-call w Not12 (not-12 w (is-shaped d fresh cs) (after (begun d) cs .events) (invariant d fresh cs)) c)
 
 -- ---- the block that an unplug-all waits for is counted
-one-counted : (b s a n : ℕ) → suc n ≡ a → s ≡ a * b → b ≤ s
-one-counted b s a n p q = rw (q, ← p) (omega arith)
-
 pub discard-is-counted : InEveryRun DiscardIsCounted
 unfolding Asked
 discard-is-counted d fresh cs c block status waits =
     let w = after (begun d) cs .world in
     let h = invariant d fresh cs in
-    one-counted (blockSize w) (plugged w) _ _ (used-one (regionBlocks w) (w .blocks) block (rw waits at (h .asked))) (h .told .count)
+    let enough = are-counted (blockSize w) (plugged w) 1 _ _ (used-one (regionBlocks w) (w .blocks) block (rw waits at (h .asked))) (h .told .count) in
+    omega arith
 
 -- ---- the usable size never shrinks, and a plug never takes the plugged size past the requested size
 abbrev Moved : (u n : ℕ) → Call → Outcome → List Event → Type 0

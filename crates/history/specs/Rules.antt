@@ -39,6 +39,10 @@ UsableNeverShrinks s c = usable (s .world) ≤ usable (next s c .world)
 abbrev pub PlugWithinRequested : Story → Call → Type 0
 PlugWithinRequested s c = plugged (s .world) < plugged (next s c .world) → plugged (next s c .world) ≤ requested (next s c .world)
 
+-- "never below 0, which only a spoiled bitmap could bring" (02, request 5): in a run the block that an unplug-all waits for is counted in the plugged size, so nothing is cut off
+abbrev pub DiscardIsCounted : Story → Call → Type 0
+DiscardIsCounted s c = (block : ℕ) (status : GuestAddr) → s .world .device .pending ≡ DiscardOne block status → blockSize (s .world) ≤ plugged (s .world)
+
 -- ---- lowering the requested size changes no block and no row, nor does raising it: rows change when the host has answered
 abbrev pub SizeChangeTouchesNothing : Story → Call → Type 0
 SizeChangeTouchesNothing s c = (mib : ℕ) → c ≡ SetRequestedSize mib → Untouched (s .world) (next s c .world)
@@ -61,10 +65,6 @@ counts b (PlugAck first count) size = size + bytesOf b count
 counts b (UnplugAck first count) size = size - bytesOf b count
 counts b (Discarded block) size = size - b
 counts b UnplugAllAck size = 0
-
--- "never below 0, which only a spoiled bitmap could bring" (02, request 5): in a run the block that an unplug-all waits for is counted in the plugged size, so nothing is cut off
-abbrev pub DiscardIsCounted : Story → Call → Type 0
-DiscardIsCounted s c = (block : ℕ) (status : GuestAddr) → s .world .device .pending ≡ DiscardOne block status → blockSize (s .world) ≤ plugged (s .world)
 
 -- what must be so before it, in a region of n blocks: a plug finds all its blocks unplugged, an unplug all of them plugged, an unplug-all discards the lowest plugged block, and acknowledges where none is left
 unfoldable pub could : Event → List Bool → (n : ℕ) → Bool

@@ -1,4 +1,4 @@
--- What each call does, in 01's order of tests and 01's words: `step` from a World and a Call to an Outcome. Every ending is a named leaf, and every decision a tree of tests over leaves.
+-- What each call does, in the order of tests and the words of 01 as 02 amends it: `step` from a World and a Call to an Outcome. Every ending is a named leaf, and every decision a tree of tests over leaves.
 use Prim.Native.Nat.{ℕ, _+_, _-_, _*_, _%_}
 use mathlib.Core.Path.{_≡_}
 use mathlib.Core.Bool.{Bool, true, false, cond, not, _&&_, _||_}
