@@ -284,6 +284,45 @@ fill-same (false ∷ bs) zero (suc c) false h = rw (fill-same bs zero c false h)
 fill-same (true ∷ bs) zero (suc c) false h = let z : _≡_ {A = ℕ} 0 1 = cc in absurd (omega arith)
 fill-same (false ∷ bs) zero (suc c) true h = let z : _≡_ {A = ℕ} 0 1 = cc in absurd (omega arith)
 
+-- ---- two fills: their order does not matter
+pub fill-swap : (bs : List Bool) (f c g d : ℕ) (v : Bool) → fill (fill bs f c v) g d v ≡ fill (fill bs g d v) f c v
+unfolding fill
+fill-swap [] f c g d v = refl
+fill-swap (b ∷ bs) (suc f) c (suc g) d v = rw (fill-swap bs f c g d v)
+fill-swap (b ∷ bs) (suc f) c zero zero v = refl
+fill-swap (b ∷ bs) (suc f) c zero (suc d) v = rw (fill-swap bs f c zero d v)
+fill-swap (b ∷ bs) zero zero g d v = sym (fill-none (fill (b ∷ bs) g d v) 0 v)
+fill-swap (b ∷ bs) zero (suc c) (suc g) d v = rw (fill-swap bs zero c g d v)
+fill-swap (b ∷ bs) zero (suc c) zero zero v = refl
+fill-swap (b ∷ bs) zero (suc c) zero (suc d) v = rw (fill-swap bs zero c zero d v)
+
+-- a range that is clear after another was set was clear before
+pub clear-before : (bs : List Bool) (f c g d : ℕ) → allAre (fill bs f c true) g d false ≡ true → allAre bs g d false ≡ true
+unfolding fill every
+clear-before [] f c g d h = h
+clear-before (b ∷ bs) (suc f) c (suc g) d h = clear-before bs f c g d h
+clear-before (b ∷ bs) (suc f) c zero zero h = refl
+clear-before (false ∷ bs) (suc f) c zero (suc d) h = clear-before bs f c zero d h
+clear-before (true ∷ bs) (suc f) c zero (suc d) h = h
+clear-before (b ∷ bs) zero zero g d h = h
+clear-before (b ∷ bs) zero (suc c) (suc g) d h = clear-before bs zero c g d h
+clear-before (b ∷ bs) zero (suc c) zero zero h = refl
+clear-before (b ∷ bs) zero (suc c) zero (suc d) h = let z : _≡_ {A = ℕ} 0 1 = cc in absurd (omega arith)
+
+-- and then the other, if it was clear, is still clear after this one is set
+pub clear-instead : (bs : List Bool) (f c g d : ℕ) → allAre bs f c false ≡ true → allAre (fill bs f c true) g d false ≡ true → allAre (fill bs g d true) f c false ≡ true
+unfolding fill every
+clear-instead [] f c g d e h = e
+clear-instead (b ∷ bs) (suc f) c (suc g) d e h = clear-instead bs f c g d e h
+clear-instead (b ∷ bs) (suc f) c zero zero e h = e
+clear-instead (false ∷ bs) (suc f) c zero (suc d) e h = clear-instead bs f c zero d e h
+clear-instead (true ∷ bs) (suc f) c zero (suc d) e h = let z : _≡_ {A = ℕ} 0 1 = cc in absurd (omega arith)
+clear-instead (b ∷ bs) zero zero g d e h = refl
+clear-instead (false ∷ bs) zero (suc c) (suc g) d e h = clear-instead bs zero c g d e h
+clear-instead (true ∷ bs) zero (suc c) (suc g) d e h = e
+clear-instead (b ∷ bs) zero (suc c) zero zero e h = e
+clear-instead (b ∷ bs) zero (suc c) zero (suc d) e h = let z : _≡_ {A = ℕ} 0 1 = cc in absurd (omega arith)
+
 -- ---- a bitmap of which the first n blocks are used
 pub take-fill : (n : ℕ) (bs : List Bool) (f c : ℕ) (v : Bool) → take n (fill bs f c v) ≡ fill (take n bs) f c v
 unfolding fill
