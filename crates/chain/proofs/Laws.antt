@@ -30,7 +30,7 @@ either : {A : Type 0} (P : A → Type 0) (test : Bool) (x y : A) → P x → P y
 either P true x y p q = p
 either P false x y p q = q
 
--- a reason from 21 to 27, or a request: what holds of each holds of a parse
+-- a reason from 21 to 27, or a request that stands somewhere in the memory: what holds of each holds of a parse
 module _ (P : Parsed → Type 0) (bad : (reason : ℕ) → 21 ≤ reason → reason ≤ 27 → P (Bad reason)) where
   second-cases : (req : VirtioMemReq) (found : Link) → ((status : GuestAddr) → P (Request req status)) → P (withSecond req found)
   unfolding withSecond
@@ -40,7 +40,7 @@ module _ (P : Parsed → Type 0) (bad : (reason : ℕ) → 21 ≤ reason → rea
       (either P (not (isWriteOnly second)) _ _ (bad 25 (omega arith) (omega arith))
       (either P (ltb (second .len) 10) _ _ (bad 26 (omega arith) (omega arith)) (good (second .addr))))
 
-  first-cases : (mem : List ℕ) (base table : ℕ) (found : Link) → ((req : VirtioMemReq) (status : GuestAddr) → P (Request req status))
+  first-cases : (mem : List ℕ) (base table : ℕ) (found : Link) → ((at : ℕ) (status : GuestAddr) → P (Request (requestAt mem at) status))
       → P (withFirst mem base table found)
   unfolding withFirst
   first-cases mem base table Missing good = bad 21 (omega arith) (omega arith)
@@ -51,7 +51,7 @@ module _ (P : Parsed → Type 0) (bad : (reason : ℕ) → 21 ≤ reason → rea
       (either P (not (inside (length mem) base (first .addr .0) 24)) _ _ (bad 24 (omega arith) (omega arith))
       (second-cases _ (linkAfter mem base table first) (good _)))))
 
-  pub parsed-cases : (mem : List ℕ) (base table head : ℕ) → ((req : VirtioMemReq) (status : GuestAddr) → P (Request req status))
+  pub parsed-cases : (mem : List ℕ) (base table head : ℕ) → ((at : ℕ) (status : GuestAddr) → P (Request (requestAt mem at) status))
       → P (parsed mem base table head)
   unfolding parsed
   parsed-cases mem base table head good = first-cases mem base table (linkAt mem base table head) good
