@@ -86,28 +86,33 @@ pub record Hosted (several : Bool) (offset size host : ℕ) : Type 0 where
   pub one-map-region : several ≡ true → offset % mapRegion + size ≤ mapRegion
   pub host-fits : host + size ≤ top
 
-sum-fits : (base offset size : ℕ) (host : HostAddr) → hostSum base offset size ≡ At host → host .0 + size ≤ top
+pub sum-is : (base offset size : ℕ) (host : HostAddr) → hostSum base offset size ≡ At host → (base + offset + size ≤ top) × (host ≡ record { 0 = base + offset })
 unfolding hostSum
-sum-fits base offset size host e =
+sum-is base offset size host e =
     let p = cut (ltb top (base + offset + size)) (λ q. let z : _≡_ {A = ℕ} 0 1 = cc in omega arith) e in
-    let same : record { 0 = base + offset } ≡ host = cc (p .1) in
-    let k = ltb-false top (base + offset + size) (p .0) in
-    let w : base + offset ≡ host .0 = ap (λ (x : HostAddr). x .0) same in
-    omega arith
+    (ltb-false top (base + offset + size) (p .0), cc (p .1))
 
 mapping-fits : (m : Mapping) (offset size : ℕ) (host : HostAddr) → hostIn m offset size ≡ At host → host .0 + size ≤ top
 unfolding hostIn
-mapping-fits (MappedAt base) offset size host e = sum-fits (base .0) offset size host e
+mapping-fits (MappedAt base) offset size host e =
+    let p = sum-is (base .0) offset size host e in
+    let w : host .0 ≡ base .0 + offset = ap (λ (x : HostAddr). x .0) (p .1) in
+    omega (arith, p .0)
 mapping-fits NotMapped offset size host e = let z : _≡_ {A = ℕ} 0 1 = cc in absurd (omega arith)
+
+-- with several regions
+pub in-map-region : (rows : List MapRow) (offset size : ℕ) (host : HostAddr) → hostOf true rows offset size ≡ At host
+    → (offset % mapRegion + size ≤ mapRegion) × (hostIn (mappingOf rows (offset / mapRegion)) (offset % mapRegion) size ≡ At host)
+unfolding hostOf
+in-map-region rows offset size host e =
+    let p = cut (ltb mapRegion (offset % mapRegion + size)) (λ q. let z : _≡_ {A = ℕ} 0 1 = cc in omega arith) e in
+    (ltb-false mapRegion (offset % mapRegion + size) (p .0), p .1)
 
 pub host-is : (several : Bool) (rows : List MapRow) (offset size : ℕ) (host : HostAddr) → hostOf several rows offset size ≡ At host → Hosted several offset size (host .0)
 unfolding hostOf
 host-is true rows offset size host e =
-    let p = cut (ltb mapRegion (offset % mapRegion + size)) (λ q. let z : _≡_ {A = ℕ} 0 1 = cc in omega arith) e in
-    record {
-      one-map-region = λ s. ltb-false mapRegion (offset % mapRegion + size) (p .0);
-      host-fits = mapping-fits (mappingOf rows (offset / mapRegion)) (offset % mapRegion) size host (p .1);
-    }
+    let p = in-map-region rows offset size host e in
+    record { one-map-region = λ s. p .0; host-fits = mapping-fits (mappingOf rows (offset / mapRegion)) (offset % mapRegion) size host (p .1) }
 host-is false rows offset size host e =
     record {
       one-map-region = λ s. let z : _≡_ {A = ℕ} 0 1 = cc in absurd (omega arith);

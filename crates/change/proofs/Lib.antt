@@ -1,2 +1,3 @@
 pub mod Laws
 mod Ends
+pub mod Split
