@@ -1,0 +1,155 @@
+-- One big plug or many small ones (02, request 10/12): what holds, in any world, of the plug of a range, of the plugs of its parts, and of a plug under a higher requested size.
+use Prim.Native.Nat.{ℕ, _+_, _-_, _^_, _%_, _≤_, _<_}
+use mathlib.Core.Path.{_≡_}
+use mathlib.Core.Bool.{Bool, true, false, _&&_, _||_}
+use mathlib.Core.List.{List, [], _∷_, List·Permᴰ}
+use lib.Dec.{eqb}
+use lib.ListN.{getD}
+use Rattle.units.specs.Numbers.{bytesOf, mapRegion}
+use Rattle.units.specs.declared.GuestAddr.{GuestAddr}
+use Rattle.wire.specs.declared.VirtioMemReq.{VirtioMemReq}
+use Rattle.chain.specs.declared.Parsed.the-variants.{Request as Got}
+use Rattle.chain.specs.Chain.{parsed}
+use Rattle.record.specs.Shape.{shapedOf}
+use Rattle.record.specs.Changes.{requestedTo}
+use Rattle.step.specs.declared.Answer.the-variants.{Refused}
+use Rattle.step.specs.World.{World, Guest, Call, Request, Outcome}
+use Rattle.step.specs.Step.{step, blockSize, start, several, requested, deviceOf}
+use Rattle.history.specs.Standard.{Responds, «VIRTIO_MEM_REQ_PLUG», «VIRTIO_MEM_RESP_ACK», «VIRTIO_MEM_RESP_ERROR»}
+
+-- ---- a plug, as the guest asks for it
+abbrev pub plugRequest : (addr count : ℕ) → VirtioMemReq
+plugRequest addr count = record { «req_type» = «VIRTIO_MEM_REQ_PLUG»; addr = record { 0 = addr }; «nb_blocks» = count }
+
+-- the call is a request whose chain asks for a plug of `count` blocks at addr
+pub record Asks (c : Call) (addr count : ℕ) : Type 0 where
+  pub guest : Guest
+  pub table : ℕ
+  pub head : ℕ
+  pub status : GuestAddr
+  pub is-request : c ≡ Request guest table head
+  pub reads : parsed (guest .mem) (guest .base) table head ≡ Got (plugRequest addr count) status
+
+-- "provided n is at most 65,535": exactly then a call can ask for n blocks. One does, whatever the address; and where each byte is below 256, none asks for more
+pub record Askable (addr count : ℕ) : Type 0 where
+  pub call : Call
+  pub asks : Asks call addr count
+
+abbrev pub AnyUpTo65535 : Type 0
+AnyUpTo65535 = (addr count : ℕ) → addr < 2 ^ 64 → count ≤ 65535 → Askable addr count
+
+abbrev pub NoneAbove65535 : Type 0
+NoneAbove65535 = (c : Call) (addr count : ℕ) (a : Asks c addr count) → ((i : ℕ) → getD (a .guest .mem) i 0 < 256) → count ≤ 65535
+
+abbrev pub Acknowledged : Outcome → Type 0
+Acknowledged o = Responds o «VIRTIO_MEM_RESP_ACK»
+
+-- ---- calls one after the other: each is acknowledged, and the record, bits and rows that they end in
+unfoldable pub AllAcknowledged : World → List Call → Type 0
+AllAcknowledged w [] = Unit {0}
+AllAcknowledged w (c ∷ cs) = Acknowledged (step w c) × AllAcknowledged (step w c .world) cs
+
+unfoldable pub endOf : World → List Call → World
+endOf w [] = w
+endOf w (c ∷ cs) = endOf (step w c .world) cs
+
+-- the calls are acknowledged, and end where the one call ends
+pub record SameAs (w : World) (cs : List Call) (whole : Call) : Type 0 where
+  pub all-acknowledged : AllAcknowledged w cs
+  pub same-end : endOf w cs ≡ step w whole .world
+
+-- ---- in two
+-- with several regions, this offset is a 2 GiB border
+abbrev pub onBorder : (several : Bool) (offset : ℕ) → Bool
+onBorder several offset = several && eqb (offset % mapRegion) 0
+
+-- the n blocks at addr, the first k of them, and the other n - k
+pub record InTwo (b addr n k : ℕ) (whole first second : Call) : Type 0 where
+  pub asks-whole : Asks whole addr n
+  pub asks-first : Asks first addr k
+  pub asks-second : Asks second (addr + bytesOf b k) (n - k)
+
+-- "If a plug of n blocks is acknowledged, then for any k from 1 to n - 1 the plug of the first k and then the other n - k are both acknowledged and end in the same record, bits and rows"
+abbrev pub OneThenTwo : Type 0
+OneThenTwo = (w : World) (addr n k : ℕ) (whole first second : Call) → InTwo (blockSize w) addr n k whole first second → 0 < k → k < n
+    → Acknowledged (step w whole) → SameAs w (first ∷ second ∷ []) whole
+
+-- "The other way, if both parts are acknowledged one after the other, the whole would have been, provided .., with several regions, no 2 GiB border lies between". With a border between it is ERROR
+pub record Joined (w : World) (border : Bool) (cs : List Call) (whole : Call) : Type 0 where
+  pub same : border ≡ false → Acknowledged (step w whole) × (step w whole .world ≡ endOf w cs)
+  pub stopped : border ≡ true → Responds (step w whole) «VIRTIO_MEM_RESP_ERROR»
+
+abbrev pub TwoThenOne : Type 0
+TwoThenOne = (w : World) (addr n k : ℕ) (whole first second : Call) → InTwo (blockSize w) addr n k whole first second
+    → AllAcknowledged w (first ∷ second ∷ []) → Joined w (onBorder (several w) (addr - start w + bytesOf (blockSize w) k)) (first ∷ second ∷ []) whole
+
+-- ---- in many: the same of any way to cut a range
+-- a part: how many blocks, and the call that asks for them
+pub record Part : Type 0 where
+  pub blocks : ℕ
+  pub call : Call
+
+unfoldable pub callsOf : List Part → List Call
+callsOf [] = []
+callsOf (p ∷ ps) = p .call ∷ callsOf ps
+
+unfoldable pub total : List Part → ℕ
+total [] = 0
+total (p ∷ ps) = p .blocks + total ps
+
+-- each part has a block
+unfoldable pub EachSome : List Part → Type 0
+EachSome [] = Unit {0}
+EachSome (p ∷ ps) = (0 < p .blocks) × EachSome ps
+
+-- the first part is asked for at addr, and each other where the one before it ends
+unfoldable pub InTurn : (b addr : ℕ) → List Part → Type 0
+InTurn b addr [] = Unit {0}
+InTurn b addr (p ∷ ps) = Asks (p .call) addr (p .blocks) × InTurn b (addr + bytesOf b (p .blocks)) ps
+
+-- with several regions, a 2 GiB border lies between two of the parts, of which the first is at this offset
+unfoldable pub borderBetween : (several : Bool) (b offset : ℕ) → List Part → Bool
+borderBetween several b offset [] = false
+borderBetween several b offset (p ∷ []) = false
+borderBetween several b offset (p ∷ q ∷ ps) = borderBetween several b (offset + bytesOf b (p .blocks)) (q ∷ ps) || onBorder several (offset + bytesOf b (p .blocks))
+
+abbrev pub OneThenMany : Type 0
+OneThenMany = (w : World) (addr : ℕ) (whole : Call) (parts : List Part) → Asks whole addr (total parts) → InTurn (blockSize w) addr parts → EachSome parts
+    → Acknowledged (step w whole) → SameAs w (callsOf parts) whole
+
+abbrev pub ManyThenOne : Type 0
+ManyThenOne = (w : World) (addr : ℕ) (whole : Call) (p : Part) (ps : List Part) → let parts = p ∷ ps in Asks whole addr (total parts) → InTurn (blockSize w) addr parts
+    → AllAcknowledged w (callsOf parts) → Joined w (borderBetween (several w) (blockSize w) (addr - start w) parts) (callsOf parts) whole
+
+-- ---- in any order: plugs that are all acknowledged in one order are so in every other, and the end is the same. They need not lie side by side
+pub record IsPlug (c : Call) : Type 0 where
+  pub addr : ℕ
+  pub count : ℕ
+  pub asks : Asks c addr count
+
+unfoldable pub EachPlugs : List Call → Type 0
+EachPlugs [] = Unit {0}
+EachPlugs (c ∷ cs) = IsPlug c × EachPlugs cs
+
+abbrev pub AnyOrder : Type 0
+AnyOrder = (w : World) (cs ds : List Call) → EachPlugs cs → List·Permᴰ cs ds
+    → AllAcknowledged w cs → AllAcknowledged w ds × (endOf w ds ≡ endOf w cs)
+
+-- ---- "with all else equal, raising only the requested size never turns an acknowledged plug into another answer"
+abbrev pub requestedAt : ℕ → World → World
+requestedAt r w = deviceOf (requestedTo r (w .device)) w
+
+-- the whole answer, its length and the guest's bytes are the same, and so is the end but for the requested size
+pub record Raised (r : ℕ) (w : World) (c : Call) : Type 0 where
+  pub same-answer : step (requestedAt r w) c .answer ≡ step w c .answer
+  pub same-bytes : step (requestedAt r w) c .bytes ≡ step w c .bytes
+  pub same-end : step (requestedAt r w) c .world ≡ requestedAt r (step w c .world)
+
+abbrev pub RaisingKeeps : Type 0
+RaisingKeeps = (w : World) (r addr count : ℕ) (c : Call) → Asks c addr count → requested w ≤ r → shapedOf (requestedTo r (w .device)) ≡ true
+    → Acknowledged (step w c) → Raised r w c
+
+-- a requested size that takes the record out of its shape: past the region, or not whole blocks
+abbrev pub RaisingOutOfShape : Type 0
+RaisingOutOfShape = (w : World) (r addr count : ℕ) (c : Call) → Asks c addr count → shapedOf (requestedTo r (w .device)) ≡ false
+    → step (requestedAt r w) c .answer ≡ Refused 12

@@ -1,0 +1,1 @@
+// One big plug, or the same range in parts: theorems about the definitions of the crate `step`. There is no code here that a device runs.
