@@ -20,12 +20,12 @@ use Rattle.step.specs.World.{Guest, Call, Request}
 use Rattle.in_parts.specs.InParts.{plugRequest, Asks, AnyUpTo65535, NoneAbove65535}
 
 -- two descriptors from address 0 on, the request at 32, and 10 bytes for the response at 56
-asking : (addr count : ℕ) → Guest
+unfoldable pub asking : (addr count : ℕ) → Guest
 asking addr count =
     record { mem = virtqDesc 32 24 1 1 ++ virtqDesc 56 10 2 0 ++ virtioMemReq 0 0 0 0 addr count 0 0 0 ++ replicate 10 0; base = 0 }
 
-read-back : (addr count : ℕ) → addr < 2 ^ 64 → count ≤ 65535 → plugRequest (value (littleEndian 8 addr)) (value (littleEndian 2 count)) ≡ plugRequest addr count
-read-back addr count a c = rw (value-fits 8 addr (omega arith), value-fits 2 count (omega arith))
+read-back : (addr count : ℕ) → addr < 256 ^ 8 → count < 256 ^ 2 → plugRequest (value (littleEndian 8 addr)) (value (littleEndian 2 count)) ≡ plugRequest addr count
+read-back addr count a c = rw (value-fits 8 addr a, value-fits 2 count c)
 
 pub any-up-to-65535 : AnyUpTo65535
 unfolding asking virtqDesc virtioMemReq littleEndian part value descriptorAt descriptorAddr inside linkAt linkAfter withSecond withFirst parsed requestAt
@@ -40,7 +40,7 @@ any-up-to-65535 addr count a c =
         head = 0;
         status = record { 0 = 56 };
         is-request = refl;
-        reads = read ∙ ap (λ (req : VirtioMemReq). Got req (record { 0 = 56 })) (read-back addr count a c);
+        reads = read ∙ ap (λ (req : VirtioMemReq). Got req (record { 0 = 56 })) (read-back addr count (omega arith) (omega arith));
       };
     }
 

@@ -1,3 +1,4 @@
 pub mod Granted
 pub mod Asking
 pub mod InParts
+pub mod Example
