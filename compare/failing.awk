@@ -1,13 +1,7 @@
-# A random trace whose host often fails: awk -v seed=N -v lines=N -f failing.awk
+# A random trace whose host often fails: awk -v seed=N -v lines=N -f random.awk -f failing.awk
 # The device has one region of 64 blocks where the seed is odd, and two map regions of 512 blocks, used around their border, where
 # it is even. Nothing is known of the answers, so many lines are refused: requests while the host is asked, and answers that nobody
 # waits for.
-
-# A number below n. The same seed gives the same numbers in every awk.
-function below(n) {
-    at = (at * 16807) % 2147483647
-    return int(at / 2147483647 * n)
-}
 
 function say(line) {
     print line
@@ -23,8 +17,7 @@ function answer() {
 }
 
 BEGIN {
-    at = 1 + seed % 2147483646
-    for (i = 0; i < 9; i++) below(2) # neighbouring seeds part
+    begin_with(seed)
     several = seed % 2 == 0
     first = several ? 480 : 0
     say("capacity_mib=" (several ? 4096 : 256) " requested_mib=" (several ? 4096 : 96) " multi=" several " node=none boot=1073741824 addr=4294967296 slot=1")
