@@ -1,10 +1,9 @@
 -- What a call can ask for: any number of blocks up to 65,535. Assumes nothing.
 use Prim.Native.Nat.{ℕ, _+_, _^_, _≤_, _<_}
 use mathlib.Core.Path.{_≡_, refl, ap, _∙_}
-use mathlib.Core.List.{List, _++_}
+use mathlib.Core.List.{_++_}
 use native.Mathlib.Omega.{arith}
-use lib.ListN.{getD, replicate}
-use Rattle.units.specs.declared.GuestAddr.{GuestAddr}
+use lib.ListN.{replicate}
 use Rattle.little_endian.specs.Bytes.{value, littleEndian, part}
 use Rattle.little_endian.proofs.Laws.{value-fits, value-below}
 use Rattle.wire.specs.declared.VirtioMemReq.{VirtioMemReq}
@@ -12,12 +11,11 @@ use Rattle.wire.specs.Standard.{virtioMemReq}
 use Rattle.wire.specs.Layout.{requestAt}
 use Rattle.descriptors.specs.Standard.{virtqDesc, descriptorAt, descriptorAddr}
 use Rattle.descriptors.specs.Descriptors.{inside, linkAt, linkAfter}
-use Rattle.chain.specs.declared.Parsed.{Parsed}
-use Rattle.chain.specs.declared.Parsed.the-variants.{Request as Got, Bad}
+use Rattle.chain.specs.declared.Parsed.the-variants.{Request as Got}
 use Rattle.chain.specs.Chain.{withSecond, withFirst, parsed}
 use Rattle.chain.proofs.Laws.{parsed-cases}
-use Rattle.step.specs.World.{Guest, Call, Request}
-use Rattle.in_parts.specs.InParts.{plugRequest, Asks, AnyUpTo65535, NoneAbove65535}
+use Rattle.step.specs.World.{Guest, Request}
+use Rattle.in_parts.specs.InParts.{plugRequest, AnyUpTo65535, NoneAbove65535}
 
 -- two descriptors from address 0 on, the request at 32, and 10 bytes for the response at 56
 unfoldable pub asking : (addr count : ℕ) → Guest

@@ -1,7 +1,7 @@
 -- Four blocks in one request, in two and in three from behind; the smallest case where the order of two plugs matters; a border between two parts; and a plug under a higher requested size. Computed, by `refl`.
 use Prim.Native.Nat.{ℕ, _+_, _*_}
 use mathlib.Core.Path.{_≡_, refl}
-use mathlib.Core.Bool.{Bool, true, false}
+use mathlib.Core.Bool.{true, false}
 use mathlib.Core.List.{List, [], _∷_}
 use native.Mathlib.Omega.{arith}
 use lib.ListN.{replicate, take}
@@ -20,8 +20,8 @@ use Rattle.record.specs.Shape.{alignmentOk, regionOk, sizeOk, spanOf, startOk, 
 use Rattle.change.specs.Change.{insideOf, rangeOf, hostSum, hostIn, hostOf, legalAt, changeIn}
 use Rattle.step.specs.World.{World, Guest, Call, Request}
 use Rattle.step.specs.Step.{tablesFit, readyRefusal, unless, plugAs, plug, serve, request, step}
-use Rattle.history.specs.Standard.{Responds, responseOf, «VIRTIO_MEM_RESP_NACK»}
-use Rattle.in_parts.specs.InParts.{plugRequest, Asks, Acknowledged, AllAcknowledged, endOf, SameAs, InTwo, Part, borderBetween, requestedAt, Raised}
+use Rattle.history.specs.Standard.{responseOf}
+use Rattle.in_parts.specs.InParts.{plugRequest, Asks, Acknowledged, AllAcknowledged, endOf, SameAs, InTwo, Part, borderBetween, Raised}
 use Rattle.in_parts.proofs.Asking.{asking}
 
 -- the device of 01's example, placed, with nothing plugged and so much requested

@@ -1,9 +1,7 @@
 -- A plug that is acknowledged, opened: what is so of the world, whatever chain asks for it. Assumes nothing.
 use Prim.Native.Nat.{ℕ, _+_, _-_, _%_, _≤_, _<_}
 use mathlib.Core.Path.{_≡_, refl, ap, _∙_}
-use mathlib.Core.Bool.{Bool, true, false}
-use mathlib.Core.List.{List}
-use mathlib.Core.Option.{some}
+use mathlib.Core.Bool.{true}
 use native.Mathlib.Nat.{add-mul, add-mul-div-right}
 use native.Mathlib.Omega.{arith}
 use lib.Dec.{ltb, eqb}
@@ -15,14 +13,13 @@ use Rattle.units.specs.declared.HostAddr.{HostAddr}
 use Rattle.units.proofs.Tests.{by-test}
 use Rattle.bitmap.specs.Blocks.{fill}
 use Rattle.bitmap.proofs.Laws.{fill-length, fill-split, fill-swap, clear-before, clear-instead}
-use Rattle.chain.specs.Chain.{parsed}
 use Rattle.record.specs.Changes.{pluggedTo}
 use Rattle.record.proofs.Laws.{shaped-is, parts, whole}
 use Rattle.change.specs.declared.Change.{Change}
 use Rattle.change.specs.declared.Change.the-variants.{Legal, Outside, WrongState, NoHost}
 use Rattle.change.proofs.Laws.{IsLegal, legal-is, legal-when}
 use Rattle.change.proofs.Split.{legal-first, legal-second, legal-joined, no-seam}
-use Rattle.step.specs.World.{World, Guest, Call, Request, Outcome}
+use Rattle.step.specs.World.{World, Guest, Call, Outcome}
 use Rattle.step.specs.Step.{step, unless, request, serve, readyRefusal, tablesFit, plug, plugAs, plugs, changing, blockSize, start, usable, several, plugged, requested}
 use Rattle.step.proofs.Entry.{Ready, ready-is, ready-when}
 use Rattle.history.specs.History.{blockOf}

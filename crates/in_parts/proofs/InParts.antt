@@ -1,17 +1,20 @@
 -- One big plug or many small ones. Assumes nothing.
 use Prim.Native.Nat.{ℕ, _+_, _-_, _%_, _≤_, _<_}
 use mathlib.Core.Path.{_≡_, refl, sym, ap, _∙_}
-use mathlib.Core.Bool.{Bool, true, false, _&&_, _||_}
+use mathlib.Core.Bool.{Bool, true, false, _||_}
 use mathlib.Core.List.{List, [], _∷_, List·Permᴰ, List·Permᴰ·nil, List·Permᴰ·cons, List·Permᴰ·swap, List·Permᴰ·trans}
 use native.Mathlib.Nat.{add-mul}
 use native.Mathlib.Omega.{arith}
-use lib.Dec.{eqb}
 use borrow.Author.Tests.{eq-eqb, ne-eqb}
 use Rattle.units.specs.Numbers.{bytesOf, mapRegion}
+use Rattle.record.specs.declared.Device.{Device}
+use Rattle.record.specs.Shape.{sizeOk, shapedOf}
+use Rattle.record.specs.Changes.{requestedTo}
+use Rattle.record.proofs.Laws.{Parts, parts, whole as whole-shape, unshaped}
 use Rattle.step.specs.World.{World, Call}
 use Rattle.step.specs.Step.{step, unless, readyRefusal, tablesFit, blockSize, start, several, plugged, requested}
 use Rattle.history.proofs.Shaped.{clash}
-use Rattle.in_parts.specs.InParts.{Asks, Acknowledged, AllAcknowledged, endOf, onBorder, OneThenTwo, TwoThenOne, Part, callsOf, total, EachSome, InTurn, borderBetween, OneThenMany, ManyThenOne, IsPlug, EachPlugs, AnyOrder, requestedAt, RaisingKeeps, RaisingOutOfShape}
+use Rattle.in_parts.specs.InParts.{Asks, Acknowledged, AllAcknowledged, endOf, onBorder, OneThenTwo, TwoThenOne, Part, callsOf, total, EachSome, InTurn, borderBetween, OneThenMany, ManyThenOne, IsPlug, EachPlugs, AnyOrder, OneThenAnyOrder, requestedAt, RaisingKeeps}
 use Rattle.in_parts.proofs.Granted.{Granted, taken, Reached, positive-of, granted-first, granted-second, taken-both, granted-joined, granted-no-seam, other-first, then-this, taken-swap, acknowledged-reached, acknowledged-granted, granted-does, granted-acknowledged, granted-takes, still-reached, not-granted-error}
 
 -- ---- the seam
@@ -187,18 +190,37 @@ moved (List·Permᴰ·trans d e) w each all =
 pub any-order : AnyOrder
 any-order w cs ds each p all = moved p w each all
 
--- ---- raising the requested size
-pub raising-keeps : RaisingKeeps
-unfolding tablesFit
-raising-keeps w r addr count c a more shape e =
-    let reached = acknowledged-reached w c addr count a e in
-    let x = acknowledged-granted w c addr count a e in
-    let does = granted-does w c addr count a reached x in
-    let does′ =
-    granted-does (requestedAt r w) c addr count a (record { shaped = shape; idle = reached .idle; is-placed = reached .is-placed; fits = reached .fits })
-    (record { within = omega (arith, x .within); host = x .host; legal = x .legal }) in
-    record { same-answer = rw (does, does′); same-bytes = rw (does, does′); same-end = rw (does, does′) }
+-- ---- a range, cut in any way, its parts in any order
+each-part : (b addr : ℕ) (ps : List Part) → InTurn b addr ps → EachPlugs (callsOf ps)
+unfolding InTurn callsOf EachPlugs
+each-part b addr [] turn = tt
+each-part b addr (p ∷ ps) turn = (record { addr = addr; count = p .blocks; asks = turn .0 }, each-part b (addr + bytesOf b (p .blocks)) ps (turn .1))
 
-pub raising-out-of-shape : RaisingOutOfShape
-unfolding step unless readyRefusal
-raising-out-of-shape w r addr count c a shape = rw (a .is-request, shape)
+pub one-then-any-order : OneThenAnyOrder
+one-then-any-order w addr whole ps ds a turn each p e =
+    let q = one-then-many w addr whole ps a turn each e in
+    let m = moved p w (each-part (blockSize w) addr ps turn) (q .all-acknowledged) in
+    record { all-acknowledged = m .0; same-end = m .1 ∙ q .same-end }
+
+-- ---- raising the requested size
+with-requested : (r : ℕ) (d : Device) → Parts d → sizeOk (d .config .«block_size») r (d .config .«region_size») ≡ true → Parts (requestedTo r d)
+with-requested r d s fits =
+    record { block = s .block; region = s .region; requested = fits; usable = s .usable; plugged = s .plugged; start = s .start; several = s .several; pending = s .pending }
+
+out-of-shape : (r : ℕ) (d : Device) → sizeOk (d .config .«block_size») r (d .config .«region_size») ≡ false → shapedOf (requestedTo r d) ≡ false
+out-of-shape r d e = sym (unshaped (requestedTo r d) _ (λ s. s .requested) e)
+
+pub raising-keeps : RaisingKeeps
+unfolding step unless readyRefusal tablesFit
+raising-keeps w r addr count c a more e =
+    let reached = acknowledged-reached w c addr count a e in
+    let x = acknowledged-granted w c addr count a e in (
+      λ fits.
+          let shape = whole-shape (requestedTo r (w .device)) (with-requested r (w .device) (parts (w .device) (reached .shaped)) fits) in
+          let does = granted-does w c addr count a reached x in
+          let does′ =
+          granted-does (requestedAt r w) c addr count a (record { shaped = shape; idle = reached .idle; is-placed = reached .is-placed; fits = reached .fits })
+          (record { within = omega (arith, x .within); host = x .host; legal = x .legal }) in
+          record { same-answer = rw (does, does′); same-bytes = rw (does, does′); same-end = rw (does, does′) },
+      λ bad. rw (a .is-request, out-of-shape r (w .device) bad),
+    )

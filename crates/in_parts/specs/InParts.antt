@@ -1,4 +1,4 @@
--- One big plug or many small ones (02, request 10/12): what holds, in any world, of the plug of a range, of the plugs of its parts, and of a plug under a higher requested size.
+-- One big plug or many small ones (02, request 10/12): what holds of the plug of a range, of the plugs of its parts, and of a plug under a higher requested size. In any world: no run need have led to it, and the tables may be spoiled.
 use Prim.Native.Nat.{ℕ, _+_, _-_, _^_, _%_, _≤_, _<_}
 use mathlib.Core.Path.{_≡_}
 use mathlib.Core.Bool.{Bool, true, false, _&&_, _||_}
@@ -10,11 +10,11 @@ use Rattle.units.specs.declared.GuestAddr.{GuestAddr}
 use Rattle.wire.specs.declared.VirtioMemReq.{VirtioMemReq}
 use Rattle.chain.specs.declared.Parsed.the-variants.{Request as Got}
 use Rattle.chain.specs.Chain.{parsed}
-use Rattle.record.specs.Shape.{shapedOf}
+use Rattle.record.specs.Shape.{sizeOk}
 use Rattle.record.specs.Changes.{requestedTo}
 use Rattle.step.specs.declared.Answer.the-variants.{Refused}
 use Rattle.step.specs.World.{World, Guest, Call, Request, Outcome}
-use Rattle.step.specs.Step.{step, blockSize, start, several, requested, deviceOf}
+use Rattle.step.specs.Step.{step, blockSize, region, start, several, requested, deviceOf}
 use Rattle.history.specs.Standard.{Responds, «VIRTIO_MEM_REQ_PLUG», «VIRTIO_MEM_RESP_ACK», «VIRTIO_MEM_RESP_ERROR»}
 
 -- ---- a plug, as the guest asks for it
@@ -30,7 +30,7 @@ pub record Asks (c : Call) (addr count : ℕ) : Type 0 where
   pub is-request : c ≡ Request guest table head
   pub reads : parsed (guest .mem) (guest .base) table head ≡ Got (plugRequest addr count) status
 
--- "provided n is at most 65,535": exactly then a call can ask for n blocks. One does, whatever the address; and where each byte is below 256, none asks for more
+-- "provided n is at most 65,535": so many blocks a call can ask for, whatever the address, and no more in memory whose every byte is below 256
 pub record Askable (addr count : ℕ) : Type 0 where
   pub call : Call
   pub asks : Asks call addr count
@@ -44,7 +44,7 @@ NoneAbove65535 = (c : Call) (addr count : ℕ) (a : Asks c addr count) → ((i :
 abbrev pub Acknowledged : Outcome → Type 0
 Acknowledged o = Responds o «VIRTIO_MEM_RESP_ACK»
 
--- ---- calls one after the other: each is acknowledged, and the record, bits and rows that they end in
+-- ---- calls one after the other: each is acknowledged; and the record, bits and rows that they end in
 unfoldable pub AllAcknowledged : World → List Call → Type 0
 AllAcknowledged w [] = Unit {0}
 AllAcknowledged w (c ∷ cs) = Acknowledged (step w c) × AllAcknowledged (step w c .world) cs
@@ -53,7 +53,7 @@ unfoldable pub endOf : World → List Call → World
 endOf w [] = w
 endOf w (c ∷ cs) = endOf (step w c .world) cs
 
--- the calls are acknowledged, and end where the one call ends
+-- the calls are acknowledged, and end where the one call ends: whatever is called next has the same outcome
 pub record SameAs (w : World) (cs : List Call) (whole : Call) : Type 0 where
   pub all-acknowledged : AllAcknowledged w cs
   pub same-end : endOf w cs ≡ step w whole .world
@@ -121,7 +121,7 @@ abbrev pub ManyThenOne : Type 0
 ManyThenOne = (w : World) (addr : ℕ) (whole : Call) (p : Part) (ps : List Part) → let parts = p ∷ ps in Asks whole addr (total parts) → InTurn (blockSize w) addr parts
     → AllAcknowledged w (callsOf parts) → Joined w (borderBetween (several w) (blockSize w) (addr - start w) parts) (callsOf parts) whole
 
--- ---- in any order: plugs that are all acknowledged in one order are so in every other, and the end is the same. They need not lie side by side
+-- ---- in any order: plugs that are all acknowledged in one order are so in every other, and the end is the same. They need not be parts of one range
 pub record IsPlug (c : Call) : Type 0 where
   pub addr : ℕ
   pub count : ℕ
@@ -135,6 +135,11 @@ abbrev pub AnyOrder : Type 0
 AnyOrder = (w : World) (cs ds : List Call) → EachPlugs cs → List·Permᴰ cs ds
     → AllAcknowledged w cs → AllAcknowledged w ds × (endOf w ds ≡ endOf w cs)
 
+-- so a range may be cut in any way, and its parts asked for in any order
+abbrev pub OneThenAnyOrder : Type 0
+OneThenAnyOrder = (w : World) (addr : ℕ) (whole : Call) (parts : List Part) (ds : List Call) → Asks whole addr (total parts) → InTurn (blockSize w) addr parts → EachSome parts
+    → List·Permᴰ (callsOf parts) ds → Acknowledged (step w whole) → SameAs w ds whole
+
 -- ---- "with all else equal, raising only the requested size never turns an acknowledged plug into another answer"
 abbrev pub requestedAt : ℕ → World → World
 requestedAt r w = deviceOf (requestedTo r (w .device)) w
@@ -145,11 +150,7 @@ pub record Raised (r : ℕ) (w : World) (c : Call) : Type 0 where
   pub same-bytes : step (requestedAt r w) c .bytes ≡ step w c .bytes
   pub same-end : step (requestedAt r w) c .world ≡ requestedAt r (step w c .world)
 
+-- to a size that a record may have, whole blocks and at most the region; with any other it has lost its shape, and every call is refused
 abbrev pub RaisingKeeps : Type 0
-RaisingKeeps = (w : World) (r addr count : ℕ) (c : Call) → Asks c addr count → requested w ≤ r → shapedOf (requestedTo r (w .device)) ≡ true
-    → Acknowledged (step w c) → Raised r w c
-
--- a requested size that takes the record out of its shape: past the region, or not whole blocks
-abbrev pub RaisingOutOfShape : Type 0
-RaisingOutOfShape = (w : World) (r addr count : ℕ) (c : Call) → Asks c addr count → shapedOf (requestedTo r (w .device)) ≡ false
-    → step (requestedAt r w) c .answer ≡ Refused 12
+RaisingKeeps = (w : World) (r addr count : ℕ) (c : Call) → Asks c addr count → requested w ≤ r → Acknowledged (step w c)
+    → (sizeOk (blockSize w) r (region w) ≡ true → Raised r w c) × (sizeOk (blockSize w) r (region w) ≡ false → step (requestedAt r w) c .answer ≡ Refused 12)
