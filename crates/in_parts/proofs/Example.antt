@@ -3,6 +3,7 @@ use Prim.Native.Nat.{ℕ, _+_, _*_}
 use mathlib.Core.Path.{_≡_, refl}
 use mathlib.Core.Bool.{true, false}
 use mathlib.Core.List.{List, [], _∷_}
+use mathlib.Core.Option.{some}
 use native.Mathlib.Omega.{arith}
 use lib.ListN.{replicate, take}
 use Rattle.units.specs.Numbers.{mapRegions}
@@ -20,7 +21,7 @@ use Rattle.record.specs.Shape.{alignmentOk, regionOk, sizeOk, spanOf, startOk, 
 use Rattle.change.specs.Change.{insideOf, rangeOf, hostSum, hostIn, hostOf, legalAt, changeIn}
 use Rattle.step.specs.World.{World, Guest, Call, Request}
 use Rattle.step.specs.Step.{tablesFit, readyRefusal, unless, plugAs, plug, serve, request, step}
-use Rattle.history.specs.Standard.{responseOf}
+use Rattle.history.specs.Standard.{responseOf, «VIRTIO_MEM_RESP_ACK», «VIRTIO_MEM_RESP_NACK»}
 use Rattle.in_parts.specs.InParts.{plugRequest, Asks, Acknowledged, AllAcknowledged, endOf, SameAs, InTwo, Part, borderBetween, Raised}
 use Rattle.in_parts.proofs.Asking.{asking}
 
@@ -52,12 +53,15 @@ device requested =
 pub plugs : (block count : ℕ) → Call
 plugs block count = Request (asking (4294967296 + block * 4194304) count) 0 0
 
--- two parts of one block each, of which the border is nowhere looked at but in the offset
+-- two parts of one block each: a border is looked for by their sizes and the offset alone
 pub halves : List Part
 halves = record { blocks = 1; call = plugs 0 1 } ∷ record { blocks = 1; call = plugs 1 1 } ∷ []
 
 asks : (g : Guest) (addr count : ℕ) → parsed (g .mem) (g .base) 0 0 ≡ Got (plugRequest addr count) (record { 0 = 56 }) → Asks (Request g 0 0) addr count
 asks g addr count e = record { guest = g; table = 0; head = 0; status = record { 0 = 56 }; is-request = refl; reads = e }
+
+nack-no-ack : some «VIRTIO_MEM_RESP_NACK» ≡ some «VIRTIO_MEM_RESP_ACK» → ⊥
+nack-no-ack e = let z : _≡_ {A = ℕ} 0 1 = cc in omega arith
 
 pub record Example : Type 0 where
   pub cut : InTwo 4194304 4294967296 4 1 (plugs 0 4) (plugs 0 1) (plugs 1 3)
@@ -85,8 +89,8 @@ example =
       from-behind = record { all-acknowledged = (refl, (refl, (refl, tt))); same-end = refl };
       this-alone = refl;
       other-alone = refl;
-      not-both = λ all. let e = all .1 .0 in let z : _≡_ {A = ℕ} 0 1 = cc in omega arith;
-      nor-so = λ all. let e = all .1 .0 in let z : _≡_ {A = ℕ} 0 1 = cc in omega arith;
+      not-both = λ all. nack-no-ack (all .1 .0);
+      nor-so = λ all. nack-no-ack (all .1 .0);
       this-first = refl;
       other-first = refl;
       border = refl;
