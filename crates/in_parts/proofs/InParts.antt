@@ -7,15 +7,11 @@ use native.Mathlib.Nat.{add-mul}
 use native.Mathlib.Omega.{arith}
 use borrow.Author.Tests.{eq-eqb, ne-eqb}
 use Rattle.units.specs.Numbers.{bytesOf, mapRegion}
-use Rattle.record.specs.declared.Device.{Device}
-use Rattle.record.specs.Shape.{sizeOk, shapedOf}
-use Rattle.record.specs.Changes.{requestedTo}
-use Rattle.record.proofs.Laws.{Parts, parts, whole as whole-shape, unshaped}
 use Rattle.step.specs.World.{World, Call}
-use Rattle.step.specs.Step.{step, unless, readyRefusal, tablesFit, blockSize, start, several, plugged, requested}
+use Rattle.step.specs.Step.{step, blockSize, start, several, plugged, requested}
 use Rattle.history.proofs.Shaped.{clash}
-use Rattle.in_parts.specs.InParts.{Asks, Acknowledged, AllAcknowledged, endOf, onBorder, OneThenTwo, TwoThenOne, Part, callsOf, total, EachSome, InTurn, borderBetween, OneThenMany, ManyThenOne, IsPlug, EachPlugs, AnyOrder, OneThenAnyOrder, requestedAt, RaisingKeeps}
-use Rattle.in_parts.proofs.Granted.{Granted, taken, Reached, positive-of, granted-first, granted-second, taken-both, granted-joined, granted-no-seam, other-first, then-this, taken-swap, acknowledged-reached, acknowledged-granted, granted-does, granted-acknowledged, granted-takes, still-reached, not-granted-error}
+use Rattle.in_parts.specs.InParts.{Asks, Acknowledged, AllAcknowledged, endOf, onBorder, OneThenTwo, TwoThenOne, Part, callsOf, total, EachSome, InTurn, borderBetween, OneThenMany, ManyThenOne, IsPlug, EachPlugs, AnyOrder, OneThenAnyOrder}
+use Rattle.in_parts.proofs.Granted.{Granted, taken, Reached, positive-of, granted-first, granted-second, taken-both, granted-joined, granted-no-seam, other-first, then-this, taken-swap, acknowledged-reached, acknowledged-granted, granted-acknowledged, granted-takes, still-reached, not-granted-error}
 
 -- ---- the seam
 or-left : (s t : Bool) → (s || t) ≡ false → s ≡ false
@@ -26,10 +22,10 @@ or-right : (s t : Bool) → (s || t) ≡ false → t ≡ false
 or-right true t e = clash refl e
 or-right false t e = e
 
-apart : (several : Bool) (offset : ℕ) → onBorder several offset ≡ false → several ≡ true → offset % mapRegion ≡ 0 → ⊥
-apart several offset e s z = clash (rw (s, eq-eqb (offset % mapRegion) 0 z)) e
+apart : (m : Bool) (offset : ℕ) → onBorder m offset ≡ false → m ≡ true → offset % mapRegion ≡ 0 → ⊥
+apart m offset e s z = clash (rw (s, eq-eqb (offset % mapRegion) 0 z)) e
 
-off-border : (several : Bool) (offset : ℕ) → (several ≡ true → offset % mapRegion ≡ 0 → ⊥) → onBorder several offset ≡ false
+off-border : (m : Bool) (offset : ℕ) → (m ≡ true → offset % mapRegion ≡ 0 → ⊥) → onBorder m offset ≡ false
 off-border true offset h = ne-eqb (offset % mapRegion) 0 (h refl)
 off-border false offset h = refl
 
@@ -201,26 +197,3 @@ one-then-any-order w addr whole ps ds a turn each p e =
     let q = one-then-many w addr whole ps a turn each e in
     let m = moved p w (each-part (blockSize w) addr ps turn) (q .all-acknowledged) in
     record { all-acknowledged = m .0; same-end = m .1 ∙ q .same-end }
-
--- ---- raising the requested size
-with-requested : (r : ℕ) (d : Device) → Parts d → sizeOk (d .config .«block_size») r (d .config .«region_size») ≡ true → Parts (requestedTo r d)
-with-requested r d s fits =
-    record { block = s .block; region = s .region; requested = fits; usable = s .usable; plugged = s .plugged; start = s .start; several = s .several; pending = s .pending }
-
-out-of-shape : (r : ℕ) (d : Device) → sizeOk (d .config .«block_size») r (d .config .«region_size») ≡ false → shapedOf (requestedTo r d) ≡ false
-out-of-shape r d e = sym (unshaped (requestedTo r d) _ (λ s. s .requested) e)
-
-pub raising-keeps : RaisingKeeps
-unfolding step unless readyRefusal tablesFit
-raising-keeps w r addr count c a more e =
-    let reached = acknowledged-reached w c addr count a e in
-    let x = acknowledged-granted w c addr count a e in (
-      λ fits.
-          let shape = whole-shape (requestedTo r (w .device)) (with-requested r (w .device) (parts (w .device) (reached .shaped)) fits) in
-          let does = granted-does w c addr count a reached x in
-          let does′ =
-          granted-does (requestedAt r w) c addr count a (record { shaped = shape; idle = reached .idle; is-placed = reached .is-placed; fits = reached .fits })
-          (record { within = omega (arith, x .within); host = x .host; legal = x .legal }) in
-          record { same-answer = rw (does, does′); same-bytes = rw (does, does′); same-end = rw (does, does′) },
-      λ bad. rw (a .is-request, out-of-shape r (w .device) bad),
-    )

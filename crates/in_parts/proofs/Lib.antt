@@ -1,4 +1,5 @@
 pub mod Granted
 pub mod Asking
 pub mod InParts
+pub mod Raising
 pub mod Example

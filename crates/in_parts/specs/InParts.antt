@@ -1,5 +1,5 @@
 -- One big plug or many small ones (02, request 10/12): what holds of the plug of a range, of the plugs of its parts, and of a plug under a higher requested size. In any world: no run need have led to it, and the tables may be spoiled.
-use Prim.Native.Nat.{ℕ, _+_, _-_, _^_, _%_, _≤_, _<_}
+use Prim.Native.Nat.{ℕ, _+_, _-_, _*_, _^_, _%_, _≤_, _<_}
 use mathlib.Core.Path.{_≡_}
 use mathlib.Core.Bool.{Bool, true, false, _&&_, _||_}
 use mathlib.Core.List.{List, [], _∷_, List·Permᴰ}
@@ -12,8 +12,8 @@ use Rattle.chain.specs.declared.Parsed.the-variants.{Request as Got}
 use Rattle.chain.specs.Chain.{parsed}
 use Rattle.record.specs.Shape.{sizeOk}
 use Rattle.record.specs.Changes.{requestedTo}
-use Rattle.step.specs.declared.Answer.the-variants.{Refused}
-use Rattle.step.specs.World.{World, Guest, Call, Request, Outcome}
+use Rattle.step.specs.declared.Answer.the-variants.{Refused, Sized}
+use Rattle.step.specs.World.{World, Guest, Call, SetRequestedSize, Request, Outcome}
 use Rattle.step.specs.Step.{step, blockSize, region, start, several, requested, deviceOf}
 use Rattle.history.specs.Standard.{Responds, «VIRTIO_MEM_REQ_PLUG», «VIRTIO_MEM_RESP_ACK», «VIRTIO_MEM_RESP_ERROR»}
 
@@ -154,3 +154,8 @@ pub record Raised (r : ℕ) (w : World) (c : Call) : Type 0 where
 abbrev pub RaisingKeeps : Type 0
 RaisingKeeps = (w : World) (r addr count : ℕ) (c : Call) → Asks c addr count → requested w ≤ r → Acknowledged (step w c)
     → (sizeOk (blockSize w) r (region w) ≡ true → Raised r w c) × (sizeOk (blockSize w) r (region w) ≡ false → step (requestedAt r w) c .answer ≡ Refused 12)
+
+-- as an owner raises it, by a size change to no less. More may then be usable too; where that needs a creation, requests are refused (7) until the host has answered. Where the change is done at once the plug is answered as before
+abbrev pub RaisingByCall : Type 0
+RaisingByCall = (w : World) (mib addr count : ℕ) (c : Call) → Asks c addr count → requested w ≤ mib * 1048576 → step w (SetRequestedSize mib) .answer ≡ Sized
+    → Acknowledged (step w c) → step (step w (SetRequestedSize mib) .world) c .answer ≡ step w c .answer
