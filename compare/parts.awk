@@ -60,7 +60,7 @@ function finish(    i) {
     if (!lines) return
     if (lines != answers) { print "trace " traces + 1 ": " lines " lines and " answers " answers" >"/dev/stderr"; failed = 1; exit 1 }
     traces++
-    for (i = 1; i <= lines; i++) plug_in_parts(line[i], answer[i])
+    for (i = 1; i <= lines; i++) plug_in_parts(asked[i], answered[i])
     close(into "/" traces ".in")
     close(into "/" traces ".out")
     lines = answers = 0
@@ -69,8 +69,8 @@ function finish(    i) {
 BEGIN { begin_with(seed) }
 /^$/ { finish(); behind = 0; next }
 $0 == "--" { behind = 1; next }
-behind { answer[++answers] = $0; next }
-{ line[++lines] = $0 }
+behind { answered[++answers] = $0; next }
+{ asked[++lines] = $0 }
 END {
     if (failed) exit 1
     finish()

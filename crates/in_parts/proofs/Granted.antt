@@ -28,10 +28,14 @@ use Rattle.history.proofs.KeepsShape.{step-shaped}
 use Rattle.in_parts.specs.InParts.{Asks, Acknowledged}
 
 -- ---- what is so of a plug that is acknowledged
+-- tests (b) to (d) are passed
+abbrev pub Passes : (w : World) (addr count first : ℕ) → RegionOffset → HostAddr → Type 0
+Passes w addr count first offset host = IsLegal (blockSize w) (start w) (usable w) (several w) addr count true (w .blocks) (w .rows) first offset host
+
 pub record Granted (w : World) (addr count : ℕ) : Type 0 where
   pub within : plugged w + bytesOf (blockSize w) count ≤ requested w
   pub host : HostAddr
-  pub legal : IsLegal (blockSize w) (start w) (usable w) (several w) addr count true (w .blocks) (w .rows) (blockOf w addr) (record { 0 = addr - start w }) host
+  pub legal : Passes w addr count (blockOf w addr) (record { 0 = addr - start w }) host
 
 -- the world with those blocks plugged
 abbrev pub taken : World → (addr count : ℕ) → World
@@ -44,7 +48,7 @@ taken w addr count =
 
 -- a legal change lies at the block and the offset of its address
 module _ (w : World) (addr count : ℕ) (first : ℕ) (offset : RegionOffset) (host : HostAddr) where
-  granted : plugged w + bytesOf (blockSize w) count ≤ requested w → IsLegal (blockSize w) (start w) (usable w) (several w) addr count true (w .blocks) (w .rows) first offset host → Granted w addr count
+  granted : plugged w + bytesOf (blockSize w) count ≤ requested w → Passes w addr count first offset host → Granted w addr count
   granted h l =
       let o = l .in-range .offset-is in
       let f : first ≡ blockOf w addr = l .first-is ∙ ap (blocksIn (blockSize w)) o in
