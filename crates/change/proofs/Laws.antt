@@ -86,6 +86,7 @@ pub record Hosted (several : Bool) (offset size host : ℕ) : Type 0 where
   pub one-map-region : several ≡ true → offset % mapRegion + size ≤ mapRegion
   pub host-fits : host + size ≤ top
 
+-- a host sum that fits, and the address that it gives
 pub sum-is : (base offset size : ℕ) (host : HostAddr) → hostSum base offset size ≡ At host → (base + offset + size ≤ top) × (host ≡ record { 0 = base + offset })
 unfolding hostSum
 sum-is base offset size host e =
@@ -100,7 +101,7 @@ mapping-fits (MappedAt base) offset size host e =
     omega (arith, p .0)
 mapping-fits NotMapped offset size host e = let z : _≡_ {A = ℕ} 0 1 = cc in absurd (omega arith)
 
--- with several regions
+-- with several regions the range is of one map region, and its row has it
 pub in-map-region : (rows : List MapRow) (offset size : ℕ) (host : HostAddr) → hostOf true rows offset size ≡ At host
     → (offset % mapRegion + size ≤ mapRegion) × (hostIn (mappingOf rows (offset / mapRegion)) (offset % mapRegion) size ≡ At host)
 unfolding hostOf

@@ -52,11 +52,12 @@ module _ (offset s t : ℕ) (host : HostAddr) where
   in-joined NotMapped behind e f = let z : _≡_ {A = ℕ} 0 1 = cc in absurd (omega arith)
 
 -- in the map table
-module _ (rows : List MapRow) (offset s t : ℕ) (host : HostAddr) where
-  within-region : (offset size : ℕ) (host : HostAddr) → offset % mapRegion + size ≤ mapRegion → hostIn (mappingOf rows (offset / mapRegion)) (offset % mapRegion) size ≡ At host → hostOf true rows offset size ≡ At host
+module _ (rows : List MapRow) (offset size : ℕ) (host : HostAddr) where
+  within-region : offset % mapRegion + size ≤ mapRegion → hostIn (mappingOf rows (offset / mapRegion)) (offset % mapRegion) size ≡ At host → hostOf true rows offset size ≡ At host
   unfolding hostOf
-  within-region offset size host h e = rw (le-ltb mapRegion (offset % mapRegion + size) h) e
+  within-region h e = rw (le-ltb mapRegion (offset % mapRegion + size) h) e
 
+module _ (rows : List MapRow) (offset s t : ℕ) (host : HostAddr) where
   -- where the s bytes end before the border, the t bytes are of the same map region
   same-region : offset % mapRegion + s < mapRegion → ((offset + s) / mapRegion ≡ offset / mapRegion) × ((offset + s) % mapRegion ≡ offset % mapRegion + s)
   same-region h = (omega arith, omega arith)
@@ -65,7 +66,7 @@ module _ (rows : List MapRow) (offset s t : ℕ) (host : HostAddr) where
   unfolding hostOf
   host-first true e =
       let p = in-map-region rows offset (s + t) host e in
-      within-region offset s host (omega (arith, p .0)) (in-first (offset % mapRegion) s t host _ (p .1))
+      within-region rows offset s host (omega (arith, p .0)) (in-first (offset % mapRegion) s t host _ (p .1))
   host-first false e = in-first offset s t host _ e
 
   pub host-second : (several : Bool) → 0 < t → hostOf several rows offset (s + t) ≡ At host → hostOf several rows (offset + s) t ≡ At (record { 0 = host .0 + s })
@@ -73,7 +74,7 @@ module _ (rows : List MapRow) (offset s t : ℕ) (host : HostAddr) where
   host-second true more e =
       let p = in-map-region rows offset (s + t) host e in
       let r = same-region (omega (arith, p .0)) in
-      within-region (offset + s) t _ (omega (arith, p .0)) (rw (r .0, r .1) (in-second (offset % mapRegion) s t host _ (p .1)))
+      within-region rows (offset + s) t _ (omega (arith, p .0)) (rw (r .0, r .1) (in-second (offset % mapRegion) s t host _ (p .1)))
   host-second false more e = in-second offset s t host _ e
 
   pub host-joined : (several : Bool) (behind : HostAddr) → (several ≡ true → (offset + s) % mapRegion ≡ 0 → ⊥) → hostOf several rows offset s ≡ At host → hostOf several rows (offset + s) t ≡ At behind → hostOf several rows offset (s + t) ≡ At host
@@ -82,7 +83,7 @@ module _ (rows : List MapRow) (offset s t : ℕ) (host : HostAddr) where
       let p = in-map-region rows offset s host e in
       let q = in-map-region rows (offset + s) t behind f in
       let r = same-region (before (seam refl) (p .0)) in
-      within-region offset (s + t) host (omega (arith, q .0)) (in-joined (offset % mapRegion) s t host _ behind (p .1) (rw (r .0, r .1) at (q .1)))
+      within-region rows offset (s + t) host (omega (arith, q .0)) (in-joined (offset % mapRegion) s t host _ behind (p .1) (rw (r .0, r .1) at (q .1)))
     where
       before : ((offset + s) % mapRegion ≡ 0 → ⊥) → offset % mapRegion + s ≤ mapRegion → offset % mapRegion + s < mapRegion
       before apart l = omega (arith, apart)

@@ -19,7 +19,7 @@ use Rattle.change.specs.declared.Change.{Change}
 use Rattle.change.specs.declared.Change.the-variants.{Legal, Outside, WrongState, NoHost}
 use Rattle.change.proofs.Laws.{IsLegal, legal-is, legal-when}
 use Rattle.change.proofs.Split.{legal-first, legal-second, legal-joined, no-seam}
-use Rattle.step.specs.World.{World, Guest, Call, Outcome}
+use Rattle.step.specs.World.{World, Guest, Call}
 use Rattle.step.specs.Step.{step, unless, request, serve, readyRefusal, tablesFit, plug, plugAs, plugs, changing, blockSize, start, usable, several, plugged, requested}
 use Rattle.step.proofs.Entry.{Ready, ready-is, ready-when}
 use Rattle.history.specs.History.{blockOf}
@@ -171,10 +171,7 @@ pub positive-of : (w : World) → Reached w → 0 < blockSize w
 positive-of w r = let s = shaped-is (w .device) (r .shaped) in omega (arith, s .block-size)
 
 module _ (w : World) (c : Call) (addr count : ℕ) (a : Asks c addr count) where
-  abbrev the-plug : Outcome
-  the-plug = plug w addr count (a .status .0) (a .guest)
-
-  reached-serves : Reached w → step w c ≡ the-plug
+  reached-serves : Reached w → step w c ≡ plug w addr count (a .status .0) (a .guest)
   unfolding step unless request serve
   reached-serves r = rw (a .is-request, ready-when (w .device) (length (w .blocks)) (length (w .rows)) r, a .reads)
 
