@@ -7,7 +7,7 @@ ghost use mathlib.Core.Path.{_≡_};
 ghost use Prim.Native.Nat.{_≤_};
 ghost use lib.ListN.{length};
 ghost use Rattle.little_endian.specs.Bytes.{put};
-ghost use Rattle.answer_words.specs.Answers.{answerWords, questionWords, numberOf};
+ghost use Rattle.step.specs.Answers.{answerWords, questionWords, numberOf};
 
 // An answer's length in words.
 pub const ANSWER_WORDS: usize = 9;

@@ -20,7 +20,7 @@ use Rattle.making.specs.declared.Made.the-variants.{Device as MadeDevice, Refus
 use Rattle.words.specs.declared.Decoded.{Decoded}
 use Rattle.words.specs.declared.Decoded.the-variants.{Is, NoRecord}
 use Rattle.words.specs.Record.{wordsOf, decodedOf}
-use Rattle.answer_words.specs.Answers.{answerWords, numberOf}
+use Rattle.step.specs.Answers.{answerWords, numberOf}
 use Rattle.words.proofs.Laws.{decoded-encodes, decoded-long}
 use Rattle.capi.specs.Exports.{madeNumber, madeWords, MadeIn, lent, Called, Exported}
 

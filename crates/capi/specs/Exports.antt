@@ -18,7 +18,7 @@ use Rattle.step.specs.World.{Outcome}
 use Rattle.words.specs.declared.Decoded.{Decoded}
 use Rattle.words.specs.declared.Decoded.the-variants.{Is, NoRecord}
 use Rattle.words.specs.Record.{wordsOf, decodedOf}
-use Rattle.answer_words.specs.Answers.{answerWords, numberOf}
+use Rattle.step.specs.Answers.{answerWords, numberOf}
 
 -- ---- making
 abbrev pub nodeOf : (given : Bool) (node : ℕ) → Node

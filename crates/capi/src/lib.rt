@@ -2,7 +2,6 @@
 // The static library: each call of the device for C and Rust, the record as words. Words that are no record are refused with 12.
 use answer_words::number_of;
 use answer_words::tell;
-use device::host_answer;
 use device::read_config;
 use device::write_config;
 use making::Made;
@@ -10,6 +9,7 @@ use making::Mem;
 use making::Node;
 use placing::place;
 use placing::set_requested_size;
+use serving::host_answer;
 use serving::request;
 use step::Answer;
 use units::GuestAddr;

@@ -47,7 +47,7 @@ fn call_lent(
     if file == 2 {
         return placings::command(scene, kind, v, bitmap, table, slots);
     }
-    servings::command(scene, kind, v, bitmap, &table[..])
+    servings::command(scene, kind, v, bitmap, table)
 }
 
 fn call(

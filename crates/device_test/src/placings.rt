@@ -12,11 +12,11 @@ use super::show::word;
 use making::Made;
 use making::Mem;
 use making::Node;
-use placing::creation_answered;
 use placing::place;
 use placing::set_requested_size;
 use record::Device;
 use record::HostCall;
+use serving::host_answer;
 use step::Answer;
 use step::Answered;
 use units::GuestAddr;
@@ -99,9 +99,18 @@ fn placed(
     after(scene, false)
 }
 
-fn answered(scene: Scene, bitmap: &[u8], table: &mut [u64], ok: bool, host: u64) -> Scene {
+fn answered(scene: Scene, bitmap: &mut [u8], table: &mut [u64], ok: bool, host: u64) -> Scene {
     let d = scene.device;
-    let now = show(creation_answered(d, bitmap, table, ok, HostAddr(host)));
+    let mut mem = scene.mem;
+    let now = show(host_answer(
+        d,
+        bitmap,
+        table,
+        &mut mem,
+        GuestAddr(4096),
+        ok,
+        HostAddr(host),
+    ));
     with_device(scene, now)
 }
 
@@ -155,7 +164,7 @@ pub fn command(
 ) -> Scene {
     match kind {
         b'p' => placed(scene, bitmap, table, v.0, v.1, slots, small(v.2)),
-        b'c' => answered(scene, &bitmap[..], table, v.0 == 1, v.1),
+        b'c' => answered(scene, bitmap, table, v.0 == 1, v.1),
         b's' => sized(scene, &bitmap[..], &table[..], v.0),
         _ => after(scene, shown(kind, v, &bitmap[..], &table[..])),
     }

@@ -8,6 +8,7 @@ use super::show::word;
 use record::HostCall;
 use step::Answer;
 use units::GuestAddr;
+use units::HostAddr;
 
 // The length, flags and next index of the two descriptors: 24 bytes with the next flag, then 10 to be written.
 const FIRST: u64 = 24 + (1 << 32) + (1 << 48);
@@ -106,11 +107,19 @@ fn asked(
 }
 
 // One answer of the host.
-fn answered(scene: Scene, bitmap: &mut [u8], table: &[u64], ok: u64) -> Scene {
+fn answered(scene: Scene, bitmap: &mut [u8], table: &mut [u64], ok: u64) -> Scene {
     print(b"host ok=# -> ", &[ok]);
     let d = scene.device;
     let mut mem = scene.mem;
-    let s = serving::discard_answered(d, bitmap, table, &mut mem, GuestAddr(4096), ok == 1);
+    let s = serving::host_answer(
+        d,
+        bitmap,
+        table,
+        &mut mem,
+        GuestAddr(4096),
+        ok == 1,
+        HostAddr(0),
+    );
     let answer = s.answer;
     show_answer(answer);
     show_left(s.device.config.plugged_size, &bitmap[..], &mem);
@@ -145,9 +154,9 @@ fn overwritten(scene: Scene, addr: u64, blocks: u64, status: u64) -> Scene {
     }
 }
 
-pub fn command(scene: Scene, kind: u8, v: Numbers, bitmap: &mut [u8], table: &[u64]) -> Scene {
+pub fn command(scene: Scene, kind: u8, v: Numbers, bitmap: &mut [u8], table: &mut [u64]) -> Scene {
     match kind {
-        b't' => asked(scene, bitmap, table, v.0, v.1, v.2, v.3),
+        b't' => asked(scene, bitmap, &table[..], v.0, v.1, v.2, v.3),
         b'h' => answered(scene, bitmap, table, v.0),
         b'c' => read(scene, v.0),
         b'o' => overwritten(scene, v.0, v.1, v.2),

@@ -70,7 +70,7 @@ pub fn host_answer(
 ) -> Answer
     ensures { λ r. ⌜ Meets (step (worldOf (now (d .entry)) (now (bitmap .entry)) (now (table .entry))) (HostAnswer (guestOf (now (mem .entry)) base) ok (host .0))) (answering (now (d .exit)) r) (now (bitmap .exit)) (now (table .entry)) (now (table .exit)) (now (mem .exit)) ⌝ }
 {
-    let s = device::host_answer(*d, bitmap, table, mem, base, ok, host);
+    let s = serving::host_answer(*d, bitmap, table, mem, base, ok, host);
     *d = s.device;
     s.answer
 }

@@ -1,4 +1,4 @@
--- How the outcomes of placing, of a size change and of a creation's answer come about, test by test. Assumes nothing.
+-- How the outcomes of placing and of a size change come about, test by test.
 use Prim.Native.Nat.{ℕ, _+_, _*_, _≤_}
 use mathlib.Core.Path.{_≡_, refl, ap, sym}
 use mathlib.Core.Bool.{true, false}
@@ -19,16 +19,16 @@ use Rattle.resize.specs.Resize.{growthOf}
 use Rattle.resize.proofs.Laws.{asking}
 use Rattle.step.specs.declared.Answer.the-variants.{Refused}
 use Rattle.step.specs.declared.Answered.{Answered}
-use Rattle.step.specs.World.{World, Outcome, Meets, worldOf}
+use Rattle.step.specs.Answers.{answerWords}
+use Rattle.step.specs.World.{World, Outcome, Meets, answeredBy, worldOf}
 use Rattle.step.specs.Step.{refused, unless, several, region, resizes, resized, asksCreate, placing}
-use Rattle.placing.specs.Placing.{answeredBy}
 
 -- ---- the refusals
 module _ (d : Device) (bm tb : List ℕ) where
   pub refused-meets : (n : ℕ) (o : Outcome) → o ≡ refused n (worldOf d bm tb) [] → Meets o (record { device = d; answer = Refused n }) bm tb tb []
   refused-meets n o e =
       rw e
-      (record { answered = refl; recorded = refl; marked = refl; mapped = sym (table-whole tb); left = refl })
+      (record { answered = refl; told = refl; recorded = refl; marked = refl; mapped = sym (table-whole tb); left = refl })
 
   -- the call is refused by its first tests
   pub stops : (n : ℕ) (o : Outcome) → (n ≡ 0 → ⊥) → Meets (unless n (worldOf d bm tb) [] o) (record { device = d; answer = Refused n }) bm tb tb []
@@ -45,9 +45,9 @@ goes-on n w o s bm tb tb′ h m = rw (eq-eqb n 0 h) m
 pub resizes-meets : (g : Growth) (w : World) (s : Answered) (bm tb tb′ : List ℕ) → s ≡ answeredBy (resizes g (record { device = w .device; blocks = blocks []; rows = w .rows })) → blocks bm ≡ w .blocks → tb′ ≡ written tb (w .rows) → Meets (resizes g w) s bm tb tb′ []
 unfolding resizes
 resizes-meets Settled w s bm tb tb′ e m n =
-    record { answered = ap (λ s. s .answer) e; recorded = ap (λ s. s .device) e; marked = m; mapped = n; left = refl }
+    record { answered = ap (λ s. s .answer) e; told = ap (λ s. answerWords (s .answer)) e; recorded = ap (λ s. s .device) e; marked = m; mapped = n; left = refl }
 resizes-meets (Asks i last size) w s bm tb tb′ e m n =
-    record { answered = ap (λ s. s .answer) e; recorded = ap (λ s. s .device) e; marked = m; mapped = n; left = refl }
+    record { answered = ap (λ s. s .answer) e; told = ap (λ s. answerWords (s .answer)) e; recorded = ap (λ s. s .device) e; marked = m; mapped = n; left = refl }
 
 -- the map region of a creation starts at or below 2^64 - 1
 pub asked-within : (d : Device) → shapedOf d ≡ true → (usable new : ℕ) (rows : List MapRow) (i last size : ℕ) → growthOf (d .config .«region_size») (d .«multi_region») usable new rows ≡ Asks i last size → d .config .addr .0 + i * mapRegion ≤ top

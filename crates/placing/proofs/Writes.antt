@@ -17,9 +17,10 @@ use Rattle.record.specs.Changes.{startTo}
 use Rattle.record.specs.Shape.{shapedOf, startOk}
 use Rattle.record.proofs.Laws.{shaped-is}
 use Rattle.step.specs.declared.Answered.{Answered}
-use Rattle.step.specs.World.{World, Meets, worldOf}
+use Rattle.step.specs.Answers.{answerWords}
+use Rattle.step.specs.World.{World, Meets, answeredBy, worldOf}
 use Rattle.step.specs.Step.{unless, place, placed, placing}
-use Rattle.placing.specs.Placing.{answeredBy, rangeRefusal}
+use Rattle.placing.specs.Placing.{rangeRefusal}
 use Rattle.placing.proofs.Laws.{resizes-meets, placing-several, placing-single}
 
 pub start-good : (d : Device) (start size n : ℕ) → rangeRefusal d start size n ≡ 0 → startOk start (d .config .«region_size») (d .«multi_region») (d .alignment) ≡ true
@@ -54,4 +55,4 @@ module _ (d : Device) (bm tb : List ℕ) (start : ℕ) (slots : List ℕ) where
       (λ t.
       let r = told ∙ ap answeredBy (placing-single w0 t) in
       rw (placing-single w t)
-      (record { answered = ap (λ s. s .answer) r; recorded = ap (λ s. s .device) r; marked = marked; mapped = m; left = refl }))
+      (record { answered = ap (λ s. s .answer) r; told = ap (λ s. answerWords (s .answer)) r; recorded = ap (λ s. s .device) r; marked = marked; mapped = m; left = refl }))

@@ -1,5 +1,5 @@
 // SPDX-License-Identifier: Apache-2.0 AND BSD-3-Clause
-// Placing and resizing a device, and the host's answer to a creation.
+// Placing and resizing a device.
 use bitmap::set_range;
 use making::requested_refused;
 use record::Device;
@@ -7,52 +7,30 @@ use record::HostCall;
 use record::Pending;
 use record::start_ok;
 use resize::Growth;
-use resize::grown_size;
 use resize::growth_of;
 use resize::new_size;
-use rows::fill;
 use rows::lay;
 use rows::slot_of;
 use step::Answer;
 use step::Answered;
-use step::pending_refusal;
 use step::ready_refusal;
+use step::sized;
 use step::unplaced_refusal;
 use units::GuestAddr;
-use units::HostAddr;
 use units::MemTool;
 use units::RegionOffset;
 use units::map_regions;
-use units::sum_within;
 ghost use mathlib.Core.Path.{_≡_};
 ghost use mathlib.Core.Bool.{true};
 ghost use mathlib.Core.List.{[]};
-ghost use Prim.Native.Nat.{_+_, _*_, _≤_, _<_};
+ghost use Prim.Native.Nat.{_+_, _*_, _≤_};
 ghost use Rattle.units.specs.Numbers.{top, mapRegion};
 ghost use Rattle.bitmap.specs.Blocks.{blocks};
 ghost use Rattle.rows.specs.Rows.{rowsOf};
-ghost use Rattle.record.specs.declared.Pending.the-variants.{Nothing};
-ghost use Rattle.record.specs.Changes.{pendingTo};
 ghost use Rattle.record.specs.Shape.{shapedOf};
-ghost use Rattle.step.specs.World.{worldOf, Place, SetRequestedSize, Meets};
-ghost use Rattle.step.specs.Step.{step, sized, asksCreate, resized, coveredBy, createFails, placing};
-ghost use Rattle.placing.specs.Placing.{answeredBy, Created, creationAnswered, rangeRefusal};
-
-const MAX: u64 = 18446744073709551615;
-
-// The record with its usable size worked out, and placed.
-fn sized(d: Device) -> Device
-    requires { ⌜ shapedOf d ≡ true ⌝ }
-    ensures { λ r. ⌜ r ≡ sized (worldOf d [] []) ⌝ }
-{
-    let config = d.config;
-    let new = new_size(config.region_size, config.requested_size, d.alignment);
-    let usable = grown_size(config.usable_region_size, new);
-    let mut sized = d;
-    sized.config.usable_region_size = usable;
-    sized.placed = true;
-    sized
-}
+ghost use Rattle.step.specs.World.{worldOf, answeredBy, Place, SetRequestedSize, Meets};
+ghost use Rattle.step.specs.Step.{step, asksCreate, resized, placing};
+ghost use Rattle.placing.specs.Placing.{rangeRefusal};
 
 // Asks for one creation that covers the rows from `first` to `last`.
 fn ask_creation(d: Device, table: &[u64], first: u64, last: u64, size: u64) -> Answered
@@ -189,84 +167,4 @@ pub fn place(
         ..d
     };
     ask_placing(started, table)
-}
-
-// The record with no host call pending.
-fn idle(d: Device) -> Device
-    ensures { λ r. ⌜ r ≡ pendingTo Nothing d ⌝ }
-{
-    let nothing = Pending::Nothing;
-    Device {
-        pending: nothing,
-        ..d
-    }
-}
-
-// The bytes from the host address on that the rows from `first` to `last` map.
-fn covered_by(d: Device, first: u64, last: u64) -> u64
-    requires { ⌜ (first ≤ last) × (last < 512) ⌝ }
-    ensures { λ r. ⌜ r ≡ coveredBy (worldOf d [] []) first last ⌝ }
-{
-    if d.multi_region {
-        return (last - first + 1) * MemTool::MAP_REGION_SIZE;
-    }
-    d.config.region_size
-}
-
-// The creation that covers the rows from `first` to `last` is done: they are mapped from `host` on.
-fn created(d: Device, table: &mut [u64], first: u64, last: u64, host: HostAddr) -> Answered
-    requires { ⌜ shapedOf d ≡ true ⌝ }
-    ensures { λ r. ⌜ Created d (now (table .entry)) first last (host .0) r (now (table .exit)) ⌝ }
-{
-    fill(table, first, last, host);
-    Answered {
-        device: idle(sized(d)),
-        answer: Answer::Sized,
-    }
-}
-
-// The creation failed: the device waits for nothing, and all else stands.
-fn creation_failed(d: Device) -> Answered
-    ensures { λ r. ⌜ r ≡ answeredBy (createFails (worldOf d [] []) []) ⌝ }
-{
-    Answered {
-        device: idle(d),
-        answer: Answer::Refused(10),
-    }
-}
-
-// The host's answer to the creation that is pending. Where another call is pending, no creation is: 8.
-pub fn creation_answered(
-    d: Device,
-    bitmap: &[u8],
-    table: &mut [u64],
-    ok: bool,
-    host: HostAddr,
-) -> Answered
-    ensures { λ r. ⌜ Meets (creationAnswered (worldOf d (now (bitmap .entry)) (now (table .entry))) ok (host .0)) r (now (bitmap .entry)) (now (table .entry)) (now (table .exit)) [] ⌝ }
-{
-    let number = pending_refusal(d, bitmap.len(), table.len());
-    if number != 0 {
-        return Answered {
-            device: d,
-            answer: Answer::Refused(number),
-        };
-    }
-    let pending = d.pending;
-    let Pending::Create { first, last } = pending else {
-        return Answered {
-            device: d,
-            answer: Answer::Refused(8),
-        };
-    };
-    if !ok {
-        return creation_failed(d);
-    }
-    if !sum_within(host.0, covered_by(d, first, last), MAX) {
-        return Answered {
-            device: d,
-            answer: Answer::Refused(9),
-        };
-    }
-    created(d, table, first, last, host)
 }

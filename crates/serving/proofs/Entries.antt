@@ -1,6 +1,6 @@
--- What the calls come to: the refusals before them, a request by its chain, and the host's answer to a discard. Assumes nothing.
+-- What the calls come to: the refusals before them, a request by its chain, and the host's answer to a discard.
 use Prim.Native.Nat.{ℕ, _+_, _-_, _*_, _/_}
-use mathlib.Core.Path.{_≡_, refl, _∙_}
+use mathlib.Core.Path.{_≡_, refl, ap, _∙_}
 use mathlib.Core.Bool.{Bool, true, false, not}
 use mathlib.Core.List.{List, [], _∷_}
 use lib.ListN.{length}
@@ -26,8 +26,7 @@ use Rattle.record.specs.Shape.{shapedOf}
 use Rattle.record.specs.Changes.{pluggedTo, pendingTo}
 use Rattle.record.proofs.Laws.{shaped-is, block-less-keeps}
 use Rattle.step.specs.declared.Answered.{Answered}
-use Rattle.step.specs.World.{World, Guest, Request, worldOf, Responded, Meets}
-use Rattle.serving.specs.Discards.{discardAnswer, discardAnswered}
+use Rattle.step.specs.World.{World, Guest, Request, HostAnswer, worldOf, Responded, Meets}
 use Rattle.step.specs.Step.{unserved, hostAnswer, serve, request, step, unless, readyRefusal, pendingRefusal, ack, error, refused as refusedWith, unplugAll}
 use Rattle.serving.proofs.Ends.{serves}
 
@@ -63,34 +62,37 @@ module _ (d : Device) (bitmap table : List ℕ) (number : ℕ) where
     same-pending : pendingRefusal d (length (blocks bitmap)) (length (rowsOf table)) ≡ number
     same-pending = rw (blocks-length bitmap, count table, ← number-is)
 
-    module _ (g : Guest) (ok : Bool) where
-      pub discard-refused : (number ≡ 0 → ⊥) → discardAnswered (worldOf d bitmap table) g ok ≡ refusedWith number (worldOf d bitmap table) (g .mem)
-      unfolding discardAnswered unless
-      discard-refused h = rw (same-pending, ne-eqb number 0 h)
+    module _ (g : Guest) (ok : Bool) (host : ℕ) where
+      pub answer-refused : (number ≡ 0 → ⊥) → step (worldOf d bitmap table) (HostAnswer g ok host) ≡ refusedWith number (worldOf d bitmap table) (g .mem)
+      unfolding step unless
+      answer-refused h = rw (same-pending, ne-eqb number 0 h)
 
-      discard-ready : number ≡ 0 → discardAnswered (worldOf d bitmap table) g ok ≡ discardAnswer (d .pending) (worldOf d bitmap table) g ok
-      unfolding discardAnswered unless
-      discard-ready h = rw (same-pending, eq-eqb number 0 h)
-
-      pub discard-one : number ≡ 0 → (block : ℕ) (status : GuestAddr) → d .pending ≡ DiscardOne block status → discardAnswered (worldOf d bitmap table) g ok ≡ hostAnswer (DiscardOne block status) (worldOf d bitmap table) g ok 0
-      unfolding discardAnswer
-      discard-one h block status e = discard-ready h ∙ rw e
-
-      pub discard-range : number ≡ 0 → (first n : ℕ) (status : GuestAddr) → d .pending ≡ Discard first n status → discardAnswered (worldOf d bitmap table) g ok ≡ hostAnswer (Discard first n status) (worldOf d bitmap table) g ok 0
-      unfolding discardAnswer
-      discard-range h first n status e = discard-ready h ∙ rw e
-
-      none-pending : (p : Pending) → OneOf (0 ∷ 1 ∷ []) (tagOf pending-type p) → discardAnswer p (worldOf d bitmap table) g ok ≡ refusedWith 8 (worldOf d bitmap table) (g .mem)
-      unfolding discardAnswer
-      none-pending Nothing k = refl
-      none-pending (Create first last) k = refl
-      none-pending (Discard first n status) k = absurd (miss (0 ∷ 1 ∷ []) 2 tt k)
-      none-pending (DiscardOne block status) k = absurd (miss (0 ∷ 1 ∷ []) 3 tt k)
-
-      pub discard-none : number ≡ 0 → OneOf (0 ∷ 1 ∷ []) (tagOf pending-type (d .pending)) → discardAnswered (worldOf d bitmap table) g ok ≡ refusedWith 8 (worldOf d bitmap table) (g .mem)
-      discard-none h k = discard-ready h ∙ none-pending (d .pending) k
+      pub answer-ready : number ≡ 0 → step (worldOf d bitmap table) (HostAnswer g ok host) ≡ hostAnswer (d .pending) (worldOf d bitmap table) g ok host
+      unfolding step unless
+      answer-ready h = rw (same-pending, eq-eqb number 0 h)
 
 -- ---- the host's answer to a discard, by its pending case
+module _ (w : World) (g : Guest) (ok : Bool) where
+  -- where the pattern did not fit, only the case's number is known
+  pub none-pending : (p : Pending) → ((first last : ℕ) → p ≡ Create first last → ⊥) → OneOf (0 ∷ 1 ∷ []) (tagOf pending-type p) → hostAnswer p w g ok 0 ≡ refusedWith 8 w (g .mem)
+  unfolding hostAnswer
+  none-pending Nothing none k = refl
+  none-pending (Create first last) none k = absurd (none first last refl)
+  none-pending (Discard first n status) none k = absurd (miss (0 ∷ 1 ∷ []) 2 tt k)
+  none-pending (DiscardOne block status) none k = absurd (miss (0 ∷ 1 ∷ []) 3 tt k)
+
+  -- the case that is pending
+  pub case-is : (p q : Pending) → p ≡ q → (host : ℕ) → hostAnswer p w g ok host ≡ hostAnswer q w g ok host
+  case-is p q e host = ap (λ (p : Pending). hostAnswer p w g ok host) e
+
+  -- a discard's answer is the same whatever host address it brings
+  pub any-host : (p : Pending) → ((first last : ℕ) → p ≡ Create first last → ⊥) → (host : ℕ) → hostAnswer p w g ok host ≡ hostAnswer p w g ok 0
+  unfolding hostAnswer
+  any-host Nothing none host = refl
+  any-host (Create first last) none host = absurd (none first last refl)
+  any-host (Discard first n status) none host = refl
+  any-host (DiscardOne block status) none host = refl
+
 -- one block less, and nothing pending
 pub less-shaped : (d d′ d″ : Device) (n : ℕ) → shapedOf d ≡ true → n ≡ d .config .«plugged_size» - d .config .«block_size» → d′ ≡ pluggedTo n d → d″ ≡ pendingTo Nothing d′ → shapedOf d″ ≡ true
 less-shaped d d′ d″ n shape less same same′ = rw (same′, same, less) (block-less-keeps d shape)

@@ -1,4 +1,4 @@
-pub mod Laws
 mod Ends
 mod Ways
 mod Entries
+mod Creation

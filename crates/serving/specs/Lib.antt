@@ -1,1 +1,1 @@
-pub mod Discards
+pub mod Hosts

@@ -1,5 +1,5 @@
 // SPDX-License-Identifier: Apache-2.0 AND BSD-3-Clause
-// Requests of the guest: plug, unplug, unplug-all and state, and the host's answers to their discards.
+// Requests of the guest: plug, unplug, unplug-all and state; and the host's answer to what it was asked, a discard or a creation.
 use bitmap::Found;
 use bitmap::next_set;
 use bitmap::set_range;
@@ -13,11 +13,13 @@ use change::state_of;
 use record::Device;
 use record::HostCall;
 use record::Pending;
+use rows::fill;
 use step::Answer;
 use step::Answered;
 use step::pending_refusal;
 use step::ready_refusal;
 use step::respond;
+use step::sized;
 use units::GuestAddr;
 use units::HostAddr;
 use units::MemTool;
@@ -29,16 +31,19 @@ use wire::VirtioMemReq;
 use wire::VirtioMemResp;
 ghost use mathlib.Core.Path.{_≡_};
 ghost use mathlib.Core.Bool.{true};
-ghost use Prim.Native.Nat.{_<_};
+ghost use mathlib.Core.List.{[]};
+ghost use Prim.Native.Nat.{ℕ, _≤_, _<_};
 ghost use Rattle.bitmap.specs.Blocks.{blocks};
 ghost use Rattle.change.specs.Change.{rangeOf, stateOf};
-ghost use Rattle.record.specs.declared.Pending.the-variants.{Discard, DiscardOne};
+ghost use Rattle.record.specs.declared.Pending.the-variants.{Create, Discard, DiscardOne};
 ghost use Rattle.record.specs.Shape.{shapedOf};
 ghost use Rattle.record.specs.Changes.{pendingTo, pluggedTo};
-ghost use Rattle.step.specs.World.{Request, guestOf, worldOf, Responded, Meets};
-ghost use Rattle.step.specs.Step.{step, plug as plugOf, unplugAll, stateType, serve as serveOf, hostAnswer, respond as respondOf};
+ghost use Rattle.step.specs.World.{Request, HostAnswer, guestOf, worldOf, Responded, Meets};
+ghost use Rattle.step.specs.Step.{step, plug as plugOf, unplugAll, stateType, serve as serveOf, creates, coveredBy, hostAnswer, respond as respondOf};
 ghost use Rattle.units.specs.Numbers.{blocksIn};
-ghost use Rattle.serving.specs.Discards.{asksFor, unplug as unplugOf, unplugOne, discardAnswered};
+ghost use Rattle.serving.specs.Hosts.{asksFor, unplug as unplugOf, unplugOne, noGuest, Heard};
+
+const MAX: u64 = 18446744073709551615;
 
 // The types of a response.
 const ACK: u16 = 0;
@@ -369,8 +374,8 @@ fn one_answered(
     unplug_all(cleared, &bitmap[..], table, mem, base, block + 1, status)
 }
 
-// The host's answer to a discard: 8 where none is pending.
-pub fn discard_answered(
+// The host's answer to the discard that is pending.
+fn discard_answered(
     d: Device,
     bitmap: &mut [u8],
     table: &[u64],
@@ -378,15 +383,9 @@ pub fn discard_answered(
     base: GuestAddr,
     ok: bool,
 ) -> Answered
-    ensures { λ r. ⌜ Meets (discardAnswered (worldOf d (now (bitmap .entry)) (now (table .entry))) (guestOf (now (mem .entry)) base) ok) r (now (bitmap .exit)) (now (table .entry)) (now (table .entry)) (now (mem .exit)) ⌝ }
+    requires { ⌜ (shapedOf d ≡ true) × ((first last : ℕ) → d .pending ≡ Create first last → ⊥) ⌝ }
+    ensures { λ r. ⌜ Meets (hostAnswer (d .pending) (worldOf d (now (bitmap .entry)) (now (table .entry))) (guestOf (now (mem .entry)) base) ok 0) r (now (bitmap .exit)) (now (table .entry)) (now (table .entry)) (now (mem .exit)) ⌝ }
 {
-    let number = pending_refusal(d, bitmap.len(), table.len());
-    if number != 0 {
-        return Answered {
-            device: d,
-            answer: Answer::Refused(number),
-        };
-    }
     let pending = d.pending;
     match pending {
         Pending::Discard {
@@ -401,5 +400,82 @@ pub fn discard_answered(
             device: d,
             answer: Answer::Refused(8),
         },
+    }
+}
+
+// The bytes from the host address on that the rows from `first` to `last` map.
+fn covered_by(d: Device, first: u64, last: u64) -> u64
+    requires { ⌜ (first ≤ last) × (last < 512) ⌝ }
+    ensures { λ r. ⌜ r ≡ coveredBy (worldOf d [] []) first last ⌝ }
+{
+    if d.multi_region {
+        return (last - first + 1) * MemTool::MAP_REGION_SIZE;
+    }
+    d.config.region_size
+}
+
+// The creation that covers the rows from `first` to `last` is done: they are mapped from `host` on.
+fn created(d: Device, table: &mut [u64], first: u64, last: u64, host: HostAddr) -> Answered
+    requires { ⌜ shapedOf d ≡ true ⌝ }
+    ensures { λ r. ⌜ Heard (creates (worldOf d [] (now (table .entry))) first last (host .0) []) r (now (table .entry)) (now (table .exit)) ⌝ }
+{
+    fill(table, first, last, host);
+    Answered {
+        device: pending_to(sized(d), Pending::Nothing),
+        answer: Answer::Sized,
+    }
+}
+
+// The host's answer to the creation that is pending. Where it failed the device waits for nothing, and all else stands.
+fn creation_answered(
+    d: Device,
+    table: &mut [u64],
+    first: u64,
+    last: u64,
+    ok: bool,
+    host: HostAddr,
+) -> Answered
+    requires { ⌜ (shapedOf d ≡ true) × (d .pending ≡ Create first last) ⌝ }
+    ensures { λ r. ⌜ Heard (hostAnswer (Create first last) (worldOf d [] (now (table .entry))) noGuest ok (host .0)) r (now (table .entry)) (now (table .exit)) ⌝ }
+{
+    if !ok {
+        return Answered {
+            device: pending_to(d, Pending::Nothing),
+            answer: Answer::Refused(10),
+        };
+    }
+    if !sum_within(host.0, covered_by(d, first, last), MAX) {
+        return Answered {
+            device: d,
+            answer: Answer::Refused(9),
+        };
+    }
+    created(d, table, first, last, host)
+}
+
+// The host's answer to what it was asked last. A creation's comes with a host address; a discard's is heard without one.
+pub fn host_answer(
+    d: Device,
+    bitmap: &mut [u8],
+    table: &mut [u64],
+    mem: &mut [u8],
+    base: GuestAddr,
+    ok: bool,
+    host: HostAddr,
+) -> Answered
+    ensures { λ r. ⌜ Meets (step (worldOf d (now (bitmap .entry)) (now (table .entry))) (HostAnswer (guestOf (now (mem .entry)) base) ok (host .0))) r (now (bitmap .exit)) (now (table .entry)) (now (table .exit)) (now (mem .exit)) ⌝ }
+{
+    let number = pending_refusal(d, bitmap.len(), table.len());
+    if number != 0 {
+        return Answered {
+            device: d,
+            answer: Answer::Refused(number),
+        };
+    }
+    let pending = d.pending;
+    match pending {
+        Pending::Create { first, last } => creation_answered(d, table, first, last, ok, host),
+        // One call for all others: the compiler then puts it in place, with no copy of the record.
+        _ => discard_answered(d, bitmap, &table[..], mem, base, ok),
     }
 }

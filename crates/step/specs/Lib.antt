@@ -1,2 +1,3 @@
+pub mod Answers
 pub mod World
 pub mod Step

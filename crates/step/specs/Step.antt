@@ -166,9 +166,14 @@ endsAll w status g = served ack status (deviceOf (pendingTo Nothing (pluggedTo 0
 abbrev pub newUsable : World → ℕ
 newUsable w = newSize (blockSize w) (region w) (requested w) (w .device .alignment)
 
--- the record with the usable size worked out, and placed
+-- the record with the usable size worked out in blocks of b bytes, and placed
+abbrev pub sizedBy : (b : ℕ) → Device → Device
+sizedBy b d =
+    let c = d .config in
+    placedTo true (usableTo (grown (c .«usable_region_size») (newSize b (c .«region_size») (c .«requested_size») (d .alignment))) d)
+
 abbrev pub sized : World → Device
-sized w = placedTo true (usableTo (grown (usable w) (newUsable w)) (w .device))
+sized w = sizedBy (blockSize w) (w .device)
 
 abbrev pub sizes : World → Outcome
 sizes w =

@@ -13,6 +13,7 @@ use Rattle.rows.specs.Rows.{rowsOf, written}
 use Rattle.step.specs.declared.Answer.{Answer}
 use Rattle.step.specs.declared.Answer.the-variants.{Served}
 use Rattle.step.specs.declared.Answered.{Answered}
+use Rattle.step.specs.Answers.{answerWords}
 
 -- the record and the lent tables: the bitmap as its blocks, the map table as its rows
 pub record World : Type 0 where
@@ -43,6 +44,10 @@ pub record Outcome : Type 0 where
   pub answer : Answer
   pub bytes : List ℕ
 
+-- the record and the answer of an outcome
+abbrev pub answeredBy : Outcome → Answered
+answeredBy o = record { device = o .world .device; answer = o .answer }
+
 -- the world of a record, the bytes of a bitmap and the words of a map table
 abbrev pub worldOf : Device → (bitmap table : List ℕ) → World
 worldOf d bitmap table = record { device = d; blocks = blocks bitmap; rows = rowsOf table }
@@ -53,9 +58,10 @@ pub record Responded (g : Guest) (status : ℕ) (resp : VirtioMemResp) (d : Devi
   pub recorded : s .device ≡ d
   pub left : bytes ≡ delivered (g .mem) (g .base) status resp
 
--- what code promises: its answer and record, and the bitmap, the table and the bytes that it leaves, are those of the outcome
+-- what code promises: its answer, with 01's number and values, its record, and the bitmap, the table and the bytes that it leaves are those of the outcome
 pub record Meets (o : Outcome) (s : Answered) (bitmap table table′ bytes : List ℕ) : Type 0 where
   pub answered : s .answer ≡ o .answer
+  pub told : answerWords (s .answer) ≡ answerWords (o .answer)
   pub recorded : s .device ≡ o .world .device
   pub marked : blocks bitmap ≡ o .world .blocks
   pub mapped : table′ ≡ written table (o .world .rows)

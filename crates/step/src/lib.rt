@@ -1,10 +1,12 @@
 // SPDX-License-Identifier: Apache-2.0 AND BSD-3-Clause
-// What every call of the device ends in: the answers, the refusals that several calls share, and the response to the guest.
+// What every call of the device ends in: the answers, the refusals that several calls share, the usable size worked out, and the response to the guest.
 use chain::deliver;
 use record::Device;
 use record::HostCall;
 use record::is_idle;
 use record::shaped;
+use resize::grown_size;
+use resize::new_size;
 use units::GuestAddr;
 use units::map_regions;
 use wire::VirtioMemResp;
@@ -12,7 +14,7 @@ ghost use mathlib.Core.Path.{_≡_};
 ghost use mathlib.Core.Bool.{cond};
 ghost use Prim.Native.Nat.{_+_, _*_, _/_};
 ghost use Rattle.units.specs.Numbers.{blocksIn};
-ghost use Rattle.step.specs.Step.{tablesFit, readyRefusal, unplacedRefusal, pendingRefusal};
+ghost use Rattle.step.specs.Step.{tablesFit, readyRefusal, unplacedRefusal, pendingRefusal, sizedBy};
 ghost use Rattle.step.specs.World.{guestOf, Responded};
 
 // The answer of a call.
@@ -117,6 +119,19 @@ pub fn pending_refusal(d: Device, bytes: usize, words: usize) -> u64
         return 11;
     }
     0
+}
+
+// The record with its usable size worked out, and placed.
+pub fn sized(d: Device) -> Device
+    ensures { λ r. ⌜ r ≡ sizedBy 4194304 d ⌝ }
+{
+    let config = d.config;
+    let new = new_size(config.region_size, config.requested_size, d.alignment);
+    let usable = grown_size(config.usable_region_size, new);
+    let mut sized = d;
+    sized.config.usable_region_size = usable;
+    sized.placed = true;
+    sized
 }
 
 // The used length of a response that was delivered, or was not.

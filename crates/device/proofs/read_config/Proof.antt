@@ -16,7 +16,7 @@ returns : tie.Need-returns
 unfolding step readConfig rowsOf wordsOf blocks
 returns c =
     rw (refused (shapedOf (c .before .before .before .args .d)) (c .before .shaped .result) (c .before .shaped .ensures) (c .if1 .taken))
-    (record { answered = refl; recorded = refl; marked = refl; mapped = refl; left = refl })
+    (record { answered = refl; told = refl; recorded = refl; marked = refl; mapped = refl; left = refl })
 
 read-config-requires : tie.Need-read-config-requires
 read-config-requires c κs = search needs
@@ -28,7 +28,7 @@ returns-2 : tie.Need-returns-2
 unfolding step readConfig rowsOf wordsOf blocks
 returns-2 c =
     rw (passed (shapedOf (c .before .before .before .before .before .before .before .before .args .d)) (c .before .before .before .before .before .before .shaped .result) (c .before .before .before .before .before .before .shaped .ensures) (c .before .before .before .before .before .if1 .left))
-    (record { answered = refl; recorded = refl; marked = refl; mapped = refl; left = c .before .before .read-config .ensures })
+    (record { answered = refl; told = refl; recorded = refl; marked = refl; mapped = refl; left = c .before .before .read-config .ensures })
 
 pub read-config-spec : {M : Type 1} → statement M
 read-config-spec =

@@ -16,13 +16,13 @@ returns : tie.Need-returns
 unfolding step writeConfig rowsOf wordsOf blocks
 returns c =
     rw (refused (shapedOf (c .before .before .before .args .d)) (c .before .shaped .result) (c .before .shaped .ensures) (c .if1 .taken))
-    (record { answered = refl; recorded = refl; marked = refl; mapped = refl; left = refl })
+    (record { answered = refl; told = refl; recorded = refl; marked = refl; mapped = refl; left = refl })
 
 returns-2 : tie.Need-returns-2
 unfolding step writeConfig rowsOf wordsOf blocks
 returns-2 c =
     rw (passed (shapedOf (c .before .before .before .args .d)) (c .before .shaped .result) (c .before .shaped .ensures) (c .if1 .left))
-    (record { answered = refl; recorded = refl; marked = refl; mapped = refl; left = refl })
+    (record { answered = refl; told = refl; recorded = refl; marked = refl; mapped = refl; left = refl })
 
 pub write-config-spec : {M : Type 1} → statement M
 write-config-spec = tie.close (tie.spec shaped-requires returns returns-2)

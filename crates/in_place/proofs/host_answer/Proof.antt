@@ -1,5 +1,5 @@
--- `in_place::host_answer` meets its contract: a walk of its MIR, written by bin/lent. The borrow of the record is opened and stays open over the call; the record is copied out of its cell; each `&mut` slice goes to `device::host_answer` at its own lifetime, share and name, for good; the record that it returned is stored whole into the cell, and the borrow is closed at it.
--- All that the proof knows of `device::host_answer` is that it meets its contract. Nothing here names a field of `Device`.
+-- `in_place::host_answer` meets its contract: a walk of its MIR, written by bin/lent. The borrow of the record is opened and stays open over the call; the record is copied out of its cell; each `&mut` slice goes to `serving::host_answer` at its own lifetime, share and name, for good; the record that it returned is stored whole into the cell, and the borrow is closed at it.
+-- All that the proof knows of `serving::host_answer` is that it meets its contract. Nothing here names a field of `Device`.
 -- Assumes nothing.
 use mathlib.Core.Path.{_≡_, refl, ap}
 use mathlib.Core.Bool.{Bool}
@@ -60,10 +60,10 @@ use Rattle.step.proofs.Answered as S
 use Rattle.step.proofs.Answered.Laws as S′
 use Rattle.step.proofs.Answer as N
 use Rattle.step.proofs.Answer.Laws as N′
-use Rattle.device.proofs.host_answer as g
-use Rattle.device.proofs.host_answer.Symbol as g-def
-use Rattle.device.proofs.host_answer.Symbol.{name as #g}
-use Rattle.device.proofs.host_answer.Met as g-thm
+use Rattle.serving.proofs.host_answer as g
+use Rattle.serving.proofs.host_answer.Symbol as g-def
+use Rattle.serving.proofs.host_answer.Symbol.{name as #g}
+use Rattle.serving.proofs.host_answer.Met as g-thm
 use Rattle.in_place.proofs.host_answer.Key.{name as #f}
 use Rattle.in_place.proofs.host_answer as f
 use Rattle.in_place.proofs.host_answer.Statement as stated
@@ -184,4 +184,4 @@ host-answer-spec 𝓤 H 𝓜 𝓖 𝓡 =
     entered 𝓤 H (tripleOf 𝓤 H (𝓖 .A) f.signature (f.spec 𝓤 H (𝓖 .A) (𝓜 .mem) (𝓡 .run)))
     (tables 𝓤 H 𝓜 𝓡 code.env .C) (tables 𝓤 H 𝓜 𝓡 code.env .Λ) #f code.function (code.unfolded 𝓤 H 𝓜 𝓡)
     (meets 𝓤 H (𝓖 .A) (givenOf 𝓤 H 𝓜 𝓖) (𝓜 .mem) (𝓡 .run) (tablesOf 𝓤 H 𝓜 (tables 𝓤 H 𝓜 𝓡 code.env))
-    (cited 𝓤 H (Callee 𝓤 H (𝓖 .A) (𝓜 .mem) (𝓡 .run)) 𝓜 𝓡 code.env #g g-def.routine code.calls-device·host-answer (g-thm.met 𝓤 H 𝓜 𝓖 𝓡)))
+    (cited 𝓤 H (Callee 𝓤 H (𝓖 .A) (𝓜 .mem) (𝓡 .run)) 𝓜 𝓡 code.env #g g-def.routine code.calls-serving·host-answer (g-thm.met 𝓤 H 𝓜 𝓖 𝓡)))

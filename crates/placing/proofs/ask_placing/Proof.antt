@@ -1,6 +1,6 @@
 -- `placing::ask_placing` meets its contract. Assumes nothing.
 use mathlib.Core.Path.{ap, sym, _∙_}
-use Rattle.placing.specs.Placing.{answeredBy}
+use Rattle.step.specs.World.{answeredBy}
 use Rattle.placing.proofs.Laws.{placing-several, placing-single}
 use borrow.Author.Needs.{needs}
 use Rattle.placing.proofs.ask_placing.Statement.{statement}

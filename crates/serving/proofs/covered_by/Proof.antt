@@ -1,10 +1,10 @@
--- `placing::covered_by` meets its contract. Assumes nothing.
+-- `serving::covered_by` meets its contract.
 use Prim.Native.Nat.{_+_, _-_}
 use mathlib.Core.Path.{_≡_}
 use native.Mathlib.Omega.{arith}
 use borrow.Author.Needs.{needs}
-use Rattle.placing.proofs.covered_by.Statement.{statement}
-use Rattle.placing.proofs.covered_by.Tie as tie
+use Rattle.serving.proofs.covered_by.Statement.{statement}
+use Rattle.serving.proofs.covered_by.Tie as tie
 
 sub-result : tie.Need-sub-result
 sub-result c = search needs

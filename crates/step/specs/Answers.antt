@@ -1,11 +1,11 @@
--- An answer as nine words: its kind, 01's number, the question (an address, a size, a slot or host address), the response (type and state), the used length, and the reason. Assumes nothing.
+-- 01's number and values of an answer, case by case, as nine words: its kind, the number, the question (an address, a size, a slot or host address), the response (type and state), the used length, and the reason.
 use Prim.Native.Nat.{ℕ}
 use mathlib.Core.List.{List, [], _∷_}
 use lib.ListN.{getD}
 use Rattle.record.specs.declared.HostCall.{HostCall}
 use Rattle.record.specs.declared.HostCall.the-variants.{Create, Discard}
 use Rattle.step.specs.declared.Answer.{Answer}
 use Rattle.step.specs.declared.Answer.the-variants.{Refused, Wants, Sized, Unserved, Served, Done}
 
 -- a question: creation is kind 1, discard kind 2
 abbrev pub questionWords : HostCall → List ℕ

@@ -1,0 +1,30 @@
+-- `serving::created` meets its contract.
+use mathlib.Core.Path.{refl}
+use Rattle.record.proofs.Laws.{shaped-is}
+use borrow.Author.Needs.{needs}
+use Rattle.serving.proofs.created.Statement.{statement}
+use Rattle.serving.proofs.created.Tie as tie
+
+fill-requires : tie.Need-fill-requires
+fill-requires c κs = search needs
+
+sized-requires : tie.Need-sized-requires
+sized-requires c κs = search needs
+
+pending-to-requires : tie.Need-pending-to-requires
+pending-to-requires c κs = search needs
+
+same-length : tie.Need-same-length
+same-length c = search needs
+
+returns : tie.Need-returns
+returns c =
+    let b = c .before .before .before .before .before .before .before in
+    record {
+      answers = simp (c .pending-to .ensures, c .before .sized .ensures, shaped-is (b .args .d) (b .pre) .block-size);
+      mapped = c .before .before .before .before .fill .ensures;
+    }
+
+pub created-spec : {M : Type 1} → statement M
+created-spec =
+    tie.close (tie.spec fill-requires sized-requires pending-to-requires same-length returns)
