@@ -13,6 +13,7 @@ use Rattle.making.specs.declared.Node.{Node}
 use Rattle.making.specs.declared.Node.the-variants.{None, Number}
 use Rattle.making.specs.declared.Made.{Made}
 use Rattle.making.specs.declared.Made.the-variants.{Device as MadeDevice, Refused}
+use Rattle.making.specs.Made.{madeNumber}
 use Rattle.step.specs.declared.Answer.the-variants.{Refused as RefusedWith}
 use Rattle.step.specs.World.{Outcome}
 use Rattle.words.specs.declared.Decoded.{Decoded}
@@ -23,11 +24,6 @@ use Rattle.step.specs.Answers.{answerWords, numberOf}
 -- ---- making
 abbrev pub nodeOf : (given : Bool) (node : ℕ) → Node
 nodeOf given node = cond given (Number node) None
-
--- 01's number of a device that was made or refused
-unfoldable pub madeNumber : Made → ℕ
-madeNumber (MadeDevice d) = 0
-madeNumber (Refused number) = number
 
 -- a record is written where one was made
 unfoldable pub madeWords : List ℕ → Made → List ℕ

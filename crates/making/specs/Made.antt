@@ -1,6 +1,7 @@
 -- What making a device ends in (01, "Making and placing" and the numbers 2 and 1).
 use Prim.Native.Nat.{ℕ, _*_, _%_}
 use mathlib.Core.Bool.{Bool, true, false, cond, not, _&&_, _||_}
+use mathlib.Core.Path.{_≡_}
 use lib.Dec.{ltb, eqb}
 use Rattle.units.specs.Numbers.{mapRegion, alignmentOf, capacityOf}
 use Rattle.wire.specs.Layout.{newConfig}
@@ -45,3 +46,13 @@ made capacity requested several node boot =
     cond (ltb 1048576 capacity) (Refused 2)
     (cond (eqb capacity 0 || requestedBad requested region) (Refused 1)
     (MadeDevice (newDevice region (requested * 1048576) alignment several node)))
+
+-- 01's number of a device that was made or refused
+unfoldable pub madeNumber : Made → ℕ
+madeNumber (MadeDevice d) = 0
+madeNumber (Refused number) = number
+
+-- what code promises: the device or the refusal is that of `made`, with 01's number
+pub record Makes (m r : Made) : Type 0 where
+  pub makes : r ≡ m
+  pub numbered : madeNumber r ≡ madeNumber m
