@@ -1,2 +1,1 @@
 mod Lent
-pub mod Laws

@@ -53,6 +53,6 @@ madeNumber (MadeDevice d) = 0
 madeNumber (Refused number) = number
 
 -- what code promises: the device or the refusal is that of `made`, with 01's number
-pub record Makes (m r : Made) : Type 0 where
-  pub makes : r ≡ m
+pub record MadeAs (m r : Made) : Type 0 where
+  pub same : r ≡ m
   pub numbered : madeNumber r ≡ madeNumber m

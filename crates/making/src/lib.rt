@@ -11,7 +11,7 @@ use wire::VirtioMemConfig;
 ghost use mathlib.Core.Path.{_≡_};
 ghost use Prim.Native.Nat.{_≤_};
 ghost use Rattle.units.specs.Numbers.{capacityOf};
-ghost use Rattle.making.specs.Made.{requestedBad, nodeNumber, isGiven, newDevice, made, Makes};
+ghost use Rattle.making.specs.Made.{requestedBad, nodeNumber, isGiven, newDevice, made, MadeAs};
 
 // The largest capacity: 1 TiB.
 const MAX_CAPACITY_MIB: u64 = 1048576;
@@ -93,7 +93,7 @@ impl Mem {
         node: Node,
         boot: u64,
     ) -> Made
-        ensures { λ r. ⌜ Makes (made «capacity_mib» «requested_mib» «multi_region» node boot) r ⌝ }
+        ensures { λ r. ⌜ MadeAs (made «capacity_mib» «requested_mib» «multi_region» node boot) r ⌝ }
     {
         if MAX_CAPACITY_MIB < capacity_mib {
             return Made::Refused(2);

@@ -4,3 +4,4 @@ pub mod Entry
 pub mod InTable
 pub mod Behind
 pub mod Edges
+pub mod Once

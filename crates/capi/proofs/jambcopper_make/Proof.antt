@@ -29,7 +29,7 @@ returns-2 : tie.Need-returns-2
 returns-2 c =
     let a = c .before .before .before .before .before .before .before .args in
     made-refused _ _ _ (c .before .before .before .before .before .if1 .left) _
-    (c .before .before .before .new .ensures .makes
+    (c .before .before .before .new .ensures .same
     ∙ ap (λ (n : Node). made (a .capacity-mib) (a .requested-mib) (a .multi-region) n (a .boot)) (c .before .before .before .before .node-of .ensures))
     (c .before .number .given .1)
 
@@ -40,7 +40,7 @@ returns-3 : tie.Need-returns-3
 returns-3 c =
     let a = c .before .before .before .before .before .before .before .before .before .before .before .args in
     made-device _ _ _ (c .before .before .before .before .before .before .before .before .before .if1 .left) _
-    (c .before .before .before .before .before .before .before .new .ensures .makes
+    (c .before .before .before .before .before .before .before .new .ensures .same
     ∙ ap (λ (n : Node). made (a .capacity-mib) (a .requested-mib) (a .multi-region) n (a .boot)) (c .before .before .before .before .before .before .before .before .node-of .ensures))
     (c .before .before .before .before .before .d .given .1)
     _

@@ -5,7 +5,7 @@ use native.Mathlib.Omega.{arith}
 use borrow.Author.Tests.{lt-ltb, le-ltb, eq-eqb, ne-eqb}
 use Rattle.record.proofs.Laws.{aligned}
 use Rattle.making.specs.declared.Made.{Made}
-use Rattle.making.specs.Made.{made, madeNumber, Makes}
+use Rattle.making.specs.Made.{made, madeNumber, MadeAs}
 use Rattle.making.proofs.Asked.{asked-is}
 use Rattle.making.proofs.Newly.{alignment-ok}
 use borrow.Author.Needs.{needs}
@@ -13,8 +13,8 @@ use Rattle.making.proofs.Mem.new.Statement.{statement}
 use Rattle.making.proofs.Mem.new.Tie as tie
 
 -- the number goes with the device or the refusal
-as-made : {m r : Made} → r ≡ m → Makes m r
-as-made e = record { makes = e; numbered = ap madeNumber e }
+as-made : {m r : Made} → r ≡ m → MadeAs m r
+as-made e = record { same = e; numbered = ap madeNumber e }
 
 returns : tie.Need-returns
 unfolding made

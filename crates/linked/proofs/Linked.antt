@@ -1,0 +1,165 @@
+-- A run of the exported functions is a run of the definition: from making on, whatever is lent besides what is held. So what holds of every run of the definition holds of what a program that links the library has in hand; demand 3 first.
+use Prim.Native.Nat.{ℕ, _+_, _≤_}
+use mathlib.Core.Path.{_≡_, refl, ap, sym, _∙_}
+use mathlib.Core.Bool.{Bool, true, false, _||_}
+use mathlib.Core.List.{List, [], _∷_}
+use native.Mathlib.Omega.{arith}
+use lib.Dec.{leb, ltb, eqb}
+use lib.ListN.{length}
+use borrow.Author.Tests.{leb-true}
+use Rattle.units.specs.Numbers.{alignmentOf, capacityOf}
+use Rattle.units.proofs.Tests.{by-test}
+use Rattle.bitmap.specs.Blocks.{blocks}
+use Rattle.rows.specs.Rows.{rowsOf}
+use Rattle.little_endian.specs.Bytes.{put}
+use Rattle.record.specs.declared.Device.{Device}
+use Rattle.step.specs.World.{World, Call}
+use Rattle.step.specs.Step.{step}
+use Rattle.making.specs.declared.Node.{Node}
+use Rattle.making.specs.declared.Made.{Made}
+use Rattle.making.specs.declared.Made.the-variants.{Device as MadeDevice}
+use Rattle.making.specs.Made.{nodeNumber, requestedBad, made, madeNumber}
+use Rattle.words.specs.declared.Decoded.the-variants.{Is}
+use Rattle.words.specs.Record.{wordsOf, decodedOf}
+use Rattle.words.proofs.Laws.{encoded-decodes}
+use Rattle.capi.specs.Exports.{nodeOf, madeWords}
+use Rattle.history.specs.History.{Story, next, after, Fresh, begun, Told}
+use Rattle.history.specs.Rules.{InEveryRun, takenIn, waits, KeepsShape, Never12, UsableNeverShrinks, PlugWithinRequested, SizeChangeTouchesNothing, LoweringAsksNothing, WholeOrNotAtAll, PendingStays, AsksWhatIsDue}
+use Rattle.history.proofs.Cases.{by-cond}
+use Rattle.history.proofs.Demand3.{demand-3}
+use Rattle.history.proofs.KeepsShape.{keeps-shape}
+use Rattle.history.proofs.Sizes.{never-12, usable-never-shrinks, plug-within-requested}
+use Rattle.history.proofs.SizeChange.{size-change-touches-nothing, lowering-asks-nothing}
+use Rattle.history.proofs.Whole.{whole-or-not-at-all}
+use Rattle.history.proofs.HostCalls.{each-asked-answered, pending-stays, asks-what-is-due}
+use Rattle.history.proofs.Newly.{made-fresh}
+use Rattle.linked.specs.Runs.{Use, callOf, Held, leaves, One, Run, heldAfter, callsOf, Making, madeBy, Makes, first, Means, inHand, Steps, Linked, storyInHand, InEveryLinkedRun, RulesInHand}
+use Rattle.linked.proofs.Steps.{Tells, in-hand, one-goes}
+
+-- ---- a call on what is held is a step of the world in hand
+pub steps-on : (h : Held) (w : World) → Means h w → (u : Use) → One h u → Steps h u
+steps-on h w m u one =
+    let g = one-goes h w m u one in
+    let t : Tells (inHand h) u = rw (in-hand h w m) (g .0) in
+    record {
+      numbered = t .numbered;
+      told = t .told;
+      left = t .left;
+      goes-on = in-hand (leaves h u) (step w (callOf u) .world) (g .1) ∙ ap (λ (v : World). step v (callOf u) .world) (sym (in-hand h w m));
+    }
+
+-- ---- over any run
+always-means : (h : Held) (s : Story) (us : List Use) → Means h (s .world) → Run h us → Means (heldAfter h us) (after s (callsOf us) .world)
+unfolding Run heldAfter callsOf after next
+always-means h s [] m run = m
+always-means h s (u ∷ us) m run = always-means (leaves h u) (next s (callOf u)) us (one-goes h (s .world) m u (run .0) .1) (run .1)
+
+-- ---- making
+-- a made device, with its node
+pub record IsMade (m : Made) (node : ℕ) : Type 0 where
+  pub device : Device
+  pub is-made : m ≡ MadeDevice device
+  pub node-is : device .config .«node_id» ≡ node
+
+-- a device is refused with 1 or 2
+pub made-at-0 : (capacity requested : ℕ) (several : Bool) (node : Node) (boot : ℕ) → madeNumber (made capacity requested several node boot) ≡ 0 → IsMade (made capacity requested several node boot) (nodeNumber node)
+unfolding made madeNumber
+made-at-0 capacity requested several node boot =
+    let region = capacityOf capacity (alignmentOf boot) in
+    by-cond (λ (m : Made). madeNumber m ≡ 0 → IsMade m (nodeNumber node)) (ltb 1048576 capacity) _ _ (λ _ e. absurd (omega arith))
+    (λ _. by-cond (λ (m : Made). madeNumber m ≡ 0 → IsMade m (nodeNumber node)) (eqb capacity 0 || requestedBad requested region) _ _ (λ _ e. absurd (omega arith))
+    (λ _ _. record { device = _; is-made = refl; node-is = refl }))
+
+node-within : (given : Bool) (node : ℕ) → node ≤ 65535 → nodeNumber (nodeOf given node) ≤ 65535
+node-within true node h = h
+node-within false node h = omega arith
+
+-- ---- the run of a device whose record the words are
+pub at-first : (words : List ℕ) (d : Device) → decodedOf words ≡ Is d → Means (first words) (begun d .world)
+unfolding blocks rowsOf
+at-first words d is = record { decodes = is; marked = refl; mapped = refl }
+
+module _ (words : List ℕ) (d : Device) (fresh : Fresh d) (is : decodedOf words ≡ Is d) (us : List Use) (run : Run (first words) us) where
+  -- what is held after a run of the exports means the world after the run of their calls
+  pub run-means : Means (heldAfter (first words) us) (after (begun d) (callsOf us) .world)
+  run-means = always-means (first words) (begun d) us (at-first words d is) run
+
+  pub run-steps : (u : Use) → One (heldAfter (first words) us) u → Steps (heldAfter (first words) us) u
+  run-steps u one = steps-on (heldAfter (first words) us) (after (begun d) (callsOf us) .world) run-means u one
+
+  run-in-hand : storyInHand (heldAfter (first words) us) (after (begun d) (callsOf us)) ≡ after (begun d) (callsOf us)
+  run-in-hand = let s = after (begun d) (callsOf us) in ap (λ (w : World). record { world = w; «open» = s .«open»; events = s .events }) (in-hand (heldAfter (first words) us) (s .world) run-means)
+
+  pub demand-3-in-hand : Told (inHand (heldAfter (first words) us)) (after (begun d) (callsOf us) .events)
+  demand-3-in-hand = rw (in-hand (heldAfter (first words) us) (after (begun d) (callsOf us) .world) run-means) (demand-3 d fresh (callsOf us))
+
+  -- what holds of every run of the definition holds in hand
+  pub rule-in-hand : (P : Story → Call → Type 0) → InEveryRun P → (u : Use) → P (storyInHand (heldAfter (first words) us) (after (begun d) (callsOf us))) (callOf u)
+  rule-in-hand P rule u = rw run-in-hand (rule d fresh (callsOf us) (callOf u))
+
+-- ---- from making on
+module _ (m : Making) (words′ : List ℕ) (makes : Makes m words′) where
+  -- there was room for a record
+  room : leb 15 (length (m .words)) ≡ true
+  room =
+      by-test (leb 15 (length (m .words))) (λ t. t)
+      (λ t. let z : 0 ≡ 12 = rw t at (makes .promised .numbered) in absurd (omega arith))
+
+  is-made-at-0 : IsMade (madeBy m) (nodeNumber (nodeOf (m .given) (m .node)))
+  is-made-at-0 = made-at-0 (m .capacity) (m .requested) (m .several) (nodeOf (m .given) (m .node)) (m .boot) (sym (rw room at (makes .promised .numbered)))
+
+  module _ (d : Device) (e : madeBy m ≡ MadeDevice d) where
+    pub is-fresh : Fresh d
+    is-fresh = made-fresh (m .capacity) (m .requested) (m .several) (nodeOf (m .given) (m .node)) (m .boot) d e
+
+    -- the words that making left are its record
+    made-words : words′ ≡ put (m .words) 0 (wordsOf d)
+    unfolding madeWords
+    made-words = rw (room, e) at (makes .promised .recorded)
+
+    node-small : d .config .«node_id» ≤ 65535
+    node-small =
+        let i = is-made-at-0 in
+        let q : MadeDevice (i .device) ≡ MadeDevice d = sym (i .is-made) ∙ e in
+        let same : i .device ≡ d = cc in
+        rw (← same, i .node-is) (node-within (m .given) (m .node) (makes .node-fits))
+
+    pub made-decodes : decodedOf words′ ≡ Is d
+    made-decodes = ap decodedOf made-words ∙ encoded-decodes d (m .words) node-small (leb-true 15 (length (m .words)) room)
+
+  pub linked : Linked m words′
+  linked =
+      let d = is-made-at-0 .device in
+      let e = is-made-at-0 .is-made in
+      let fresh = is-fresh d e in
+      let is = made-decodes d e in
+      record {
+        device = d;
+        is-made = e;
+        means = λ us run. run-means words′ d fresh is us run;
+        steps = λ us run u one. run-steps words′ d fresh is us run u one;
+        demand-3 = λ us run. demand-3-in-hand words′ d fresh is us run;
+      }
+
+-- the rule's sentences, and all else that holds of every run of the definition
+pub linked-rule : (P : Story → Call → Type 0) → InEveryRun P → InEveryLinkedRun P
+linked-rule P rule m words′ makes d e us run u = rule-in-hand words′ d (is-fresh m words′ makes d e) (made-decodes m words′ makes d e) us run P rule u
+
+pub rules-in-hand : RulesInHand
+rules-in-hand =
+    record {
+      keeps-shape = linked-rule KeepsShape keeps-shape;
+      never-12 = linked-rule Never12 never-12;
+      usable-never-shrinks = linked-rule UsableNeverShrinks usable-never-shrinks;
+      plug-within-requested = linked-rule PlugWithinRequested plug-within-requested;
+      size-change-touches-nothing = linked-rule SizeChangeTouchesNothing size-change-touches-nothing;
+      lowering-asks-nothing = linked-rule LoweringAsksNothing lowering-asks-nothing;
+      whole-or-not-at-all = linked-rule WholeOrNotAtAll whole-or-not-at-all;
+      pending-stays = linked-rule PendingStays pending-stays;
+      asks-what-is-due = linked-rule AsksWhatIsDue asks-what-is-due;
+      each-asked-answered = λ m words′ makes d e us run.
+          let fresh = is-fresh m words′ makes d e in
+          let means = run-means words′ d fresh (made-decodes m words′ makes d e) us run in
+          let same = in-hand (heldAfter (first words′) us) (after (begun d) (callsOf us) .world) means in
+          each-asked-answered d fresh (callsOf us) ∙ ap (λ (w : World). takenIn (begun d .world) (callsOf us) + waits (w .device .pending)) (sym same);
+    }
