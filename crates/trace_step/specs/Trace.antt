@@ -1,13 +1,9 @@
 -- A trace's ops as calls of the device, and its answers as house lines (01, "Trace lines").
 use Prim.Native.Nat.{ℕ}
-use mathlib.Core.Path.{_≡_}
 use mathlib.Core.List.{List, []}
-use Rattle.bitmap.specs.Blocks.{blocks}
-use Rattle.rows.specs.Rows.{written}
 use Rattle.little_endian.specs.Bytes.{value, part, put, littleEndian}
 use Rattle.record.specs.declared.Device.{Device}
 use Rattle.record.specs.declared.HostCall.the-variants.{Create, Discard}
-use Rattle.step.specs.declared.Answered.{Answered}
 use Rattle.step.specs.declared.Answer.{Answer}
 use Rattle.step.specs.declared.Answer.the-variants.{Refused, Wants, Sized, Unserved, Served, Done}
 use Rattle.step.specs.World.{World, Call, SetRequestedSize, Request, HostAnswer, Outcome}
@@ -48,13 +44,11 @@ bytesAfter (State addr blocks) mem o = o .bytes
 bytesAfter UnplugAll mem o = o .bytes
 bytesAfter (Size mib) mem o = mem
 
--- an op is applied: the answer, the record, the bitmap, the table and guest memory are those of its call
-pub record Applied (op : Op) (w : World) (mem : List ℕ) (s : Answered) (bitmap table table′ mem′ : List ℕ) : Type 0 where
-  pub answered : s .answer ≡ step w (callOf op mem) .answer
-  pub recorded : s .device ≡ step w (callOf op mem) .world .device
-  pub marked : blocks bitmap ≡ step w (callOf op mem) .world .blocks
-  pub mapped : table′ ≡ written table (step w (callOf op mem) .world .rows)
-  pub left : mem′ ≡ bytesAfter op mem (step w (callOf op mem))
+-- an op is applied: the outcome of its call, with guest memory as it is then
+abbrev pub applied : Op → World → (mem : List ℕ) → Outcome
+applied op w mem =
+    let o = step w (callOf op mem) in
+    record { world = o .world; answer = o .answer; bytes = bytesAfter op mem o }
 
 -- the line of an answer: resp and state are read out of the response bytes
 unfoldable pub textOf : Answer → Device → List ℕ → List ℕ

@@ -21,7 +21,7 @@ ghost use mathlib.Core.Path.{_≡_};
 ghost use Rattle.text.specs.Putting.{Put};
 ghost use Rattle.step.specs.World.{worldOf, Meets};
 ghost use Rattle.step.specs.Step.{step};
-ghost use Rattle.trace_step.specs.Trace.{chained, asked, requestOf, Applied, textOf};
+ghost use Rattle.trace_step.specs.Trace.{chained, asked, requestOf, applied, textOf};
 
 // Lays the two descriptors of every chain.
 fn lay_chain(mem: &mut [u8])
@@ -65,7 +65,7 @@ fn guest_asks(
 
 // Applies an op to the device.
 pub fn apply(d: Device, bitmap: &mut [u8], table: &mut [u64], mem: &mut [u8], op: Op) -> Answered
-    ensures { λ r. ⌜ Applied op (worldOf d (now (bitmap .entry)) (now (table .entry))) (now (mem .entry)) r (now (bitmap .exit)) (now (table .entry)) (now (table .exit)) (now (mem .exit)) ⌝ }
+    ensures { λ r. ⌜ Meets (applied op (worldOf d (now (bitmap .entry)) (now (table .entry))) (now (mem .entry))) r (now (bitmap .exit)) (now (table .entry)) (now (table .exit)) (now (mem .exit)) ⌝ }
 {
     match op {
         Op::Host { ok, addr } => host_answer(d, bitmap, table, mem, GuestAddr(0), ok, addr),

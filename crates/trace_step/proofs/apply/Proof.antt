@@ -1,4 +1,4 @@
--- `trace_step::apply` meets its contract: each op is one call, and its promise is the call's. Assumes nothing.
+-- `trace_step::apply` meets its contract: each op is one call, and its promise is the call's.
 use mathlib.Core.Path.{refl}
 use Rattle.trace_step.specs.Trace.{callOf, bytesAfter}
 use borrow.Author.Needs.{needs}
@@ -55,7 +55,7 @@ unfolding callOf bytesAfter
 returns c =
     let m = c .before .before .before .before .before .before .host-answer .ensures in
     rw (c .before .before .before .before .before .before .before .before .before .before .before .op .given .1)
-    (record { answered = m .answered; recorded = m .recorded; marked = m .marked; mapped = m .mapped; left = m .left })
+    m
 
 same-length-4 : tie.Need-same-length-4
 same-length-4 c = search needs
@@ -71,7 +71,7 @@ unfolding callOf bytesAfter
 returns-2 c =
     let m = c .before .before .before .before .guest-asks .ensures in
     rw (c .before .before .before .before .before .before .before .before .before .op2 .given .1)
-    (record { answered = m .answered; recorded = m .recorded; marked = m .marked; mapped = m .mapped; left = m .left })
+    m
 
 same-length-7 : tie.Need-same-length-7
 same-length-7 c = search needs
@@ -87,7 +87,7 @@ unfolding callOf bytesAfter
 returns-3 c =
     let m = c .before .before .before .before .guest-asks2 .ensures in
     rw (c .before .before .before .before .before .before .before .before .before .op3 .given .1)
-    (record { answered = m .answered; recorded = m .recorded; marked = m .marked; mapped = m .mapped; left = m .left })
+    m
 
 same-length-10 : tie.Need-same-length-10
 same-length-10 c = search needs
@@ -103,7 +103,7 @@ unfolding callOf bytesAfter
 returns-4 c =
     let m = c .before .before .before .before .guest-asks3 .ensures in
     rw (c .before .before .before .before .before .before .before .before .before .op4 .given .1)
-    (record { answered = m .answered; recorded = m .recorded; marked = m .marked; mapped = m .mapped; left = m .left })
+    m
 
 same-length-13 : tie.Need-same-length-13
 same-length-13 c = search needs
@@ -119,7 +119,7 @@ unfolding callOf bytesAfter
 returns-5 c =
     let m = c .before .before .before .before .guest-asks4 .ensures in
     rw (c .before .before .before .before .before .before .before .before .enum-told .given .1)
-    (record { answered = m .answered; recorded = m .recorded; marked = m .marked; mapped = m .mapped; left = m .left })
+    m
 
 same-length-16 : tie.Need-same-length-16
 same-length-16 c = search needs
@@ -132,7 +132,7 @@ unfolding callOf bytesAfter
 returns-6 c =
     let m = c .set-requested-size .ensures in
     rw (c .before .before .before .before .op5 .given .1)
-    (record { answered = m .answered; recorded = m .recorded; marked = m .marked; mapped = m .mapped; left = refl })
+    (record { answered = m .answered; told = m .told; recorded = m .recorded; marked = m .marked; mapped = m .mapped; left = refl })
 
 pub apply-spec : {M : Type 1} → statement M
 apply-spec =
