@@ -2,15 +2,15 @@
 //! A proved virtio-mem device.
 //!
 //! [`Device`] keeps the device's record, its bitmap and its map table, and lends them to the proved functions of the
-//! static library. Its methods are named as in mem.rs of dbs-virtio-devices. It never calls back: where the host must
-//! create or discard memory, a call answers [`Answer::Wants`], and the host answers by [`Device::host_answer`].
+//! static library, whose names its methods have. It never calls back: where the host must create or discard memory, a
+//! call answers [`Answer::Wants`], and the host answers by [`Device::host_answer`].
 //!
 //! ```
 //! use jambcopper::{Answer, Device, Error, HostAnswer, HostCall};
 //!
 //! // 256 MiB in one region at 4 GiB, of which the guest may have 16 MiB; the boot memory is 1 GiB.
 //! let mut device = Device::new(256, 16, false, None, 1 << 30)?;
-//! let asked = device.set_resource(1 << 32, 256 << 20, &[1])?;
+//! let asked = device.place(1 << 32, 256 << 20, &[1])?;
 //! assert_eq!(asked, Answer::Wants(HostCall::Create { guest: 1 << 32, size: 256 << 20, slot: 1 }));
 //!
 //! // The host has mapped the memory, and says where.
@@ -236,7 +236,7 @@ impl Device {
     }
 
     /// Places the device at a range of guest addresses, with a memory slot for each map region.
-    pub fn set_resource(&mut self, start: u64, size: u64, slots: &[u32]) -> Result<Answer, Error> {
+    pub fn place(&mut self, start: u64, size: u64, slots: &[u32]) -> Result<Answer, Error> {
         self.told(|device, answer| device.place(start, size, slots, answer))
     }
 
@@ -247,7 +247,7 @@ impl Device {
 
     /// Serves one chain of the guest's queue: `mem` is guest memory from the guest address `base` on, `descriptors` the
     /// guest address of the table of 128 descriptors, and `head` the chain's first.
-    pub fn process_queue(
+    pub fn request(
         &mut self,
         mem: &mut [u8],
         base: u64,
@@ -340,7 +340,7 @@ impl Device {
         self.record[7]
     }
 
-    /// How many map regions there are: so many slots does [`Device::set_resource`] take.
+    /// How many map regions there are: so many slots does [`Device::place`] take.
     pub fn map_regions(&self) -> usize {
         if self.record[8] == 1 {
             self.region_size().div_ceil(MAP_REGION_SIZE) as usize

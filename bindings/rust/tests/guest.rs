@@ -31,7 +31,7 @@ fn chain(request_type: u16, addr: u64, blocks: u16) -> Vec<u8> {
 }
 
 fn ask(device: &mut Device, mem: &mut [u8]) -> Answer {
-    device.process_queue(mem, BASE, BASE, 0).unwrap()
+    device.request(mem, BASE, BASE, 0).unwrap()
 }
 
 fn served(resp_type: u16, state: u16) -> Answer {
@@ -53,7 +53,7 @@ fn discard(block: u64) -> Answer {
 
 fn placed() -> Device {
     let mut device = Device::new(256, 16, false, None, 1 << 30).unwrap();
-    device.set_resource(START, 256 << 20, &[1]).unwrap();
+    device.place(START, 256 << 20, &[1]).unwrap();
     device
         .host_answer(&mut [], 0, HostAnswer::Created(HOST))
         .unwrap();
@@ -113,7 +113,7 @@ fn several_regions_are_created_as_they_are_needed() {
         slot: 7,
     };
     assert_eq!(
-        device.set_resource(START, 8 << 30, &[7, 8, 9, 10]),
+        device.place(START, 8 << 30, &[7, 8, 9, 10]),
         Ok(Answer::Wants(first))
     );
     assert_eq!(
@@ -162,9 +162,9 @@ fn refusals_change_nothing() {
     let mut device = Device::new(256, 16, false, None, 0).unwrap();
     let before = device.clone();
     assert_eq!(device.set_requested_size(4), Err(Error::NotPlaced));
-    assert_eq!(device.set_resource(START, 1, &[1]), Err(Error::BadRange));
+    assert_eq!(device.place(START, 1, &[1]), Err(Error::BadRange));
     assert_eq!(
-        device.set_resource(START + 1, 256 << 20, &[1]),
+        device.place(START + 1, 256 << 20, &[1]),
         Err(Error::BadStart)
     );
     assert_eq!(
@@ -172,12 +172,9 @@ fn refusals_change_nothing() {
         Err(Error::NotPending)
     );
     assert_eq!(device, before);
+    assert_eq!(device.request(&mut [], 0, 0, 0), Err(Error::NotPlaced));
     assert_eq!(
-        device.process_queue(&mut [], 0, 0, 0),
-        Err(Error::NotPlaced)
-    );
-    assert_eq!(
-        placed().process_queue(&mut [], 0, 0, 0),
+        placed().request(&mut [], 0, 0, 0),
         Ok(Answer::Unserved { reason: 21 })
     );
 }
