@@ -37,7 +37,8 @@ pub const BLOCK_SIZE: u64 = 4 << 20;
 /// The map region: what one row of the map table maps, where a device has several.
 pub const MAP_REGION_SIZE: u64 = 2 << 30;
 
-/// Why a call is refused. All but [`Error::CreationFailed`] change nothing.
+/// Why a call is refused. All but [`Error::CreationFailed`] change nothing. As a number (`as u64`) an error is the number
+/// that the library returns, but for [`Error::WrongAnswer`], which this crate finds itself.
 #[derive(Clone, Copy, Debug, PartialEq, Eq, Hash)]
 #[repr(u64)]
 pub enum Error {
@@ -65,6 +66,10 @@ pub enum Error {
     ShortTable = 11,
     /// The record is not of the stated shape, or an otherwise legal unplug is larger than the plugged size.
     BadRecord = 12,
+    /// The host's answer is to another kind of question than the pending one: [`HostAnswer::Discarded`] to a creation, or
+    /// [`HostAnswer::Created`] to a discard. The call stays pending. The library has no number for it, since it is told
+    /// only whether the host did what was asked.
+    WrongAnswer = u64::MAX,
 }
 
 impl Error {
@@ -106,6 +111,9 @@ impl fmt::Display for Error {
             Error::CreationFailed => "the host could not create the memory",
             Error::ShortTable => "bitmap or map table too short",
             Error::BadRecord => "no record of a device, or an unplug of more than is plugged",
+            Error::WrongAnswer => {
+                return f.write_str("an answer to another kind of question than the pending one")
+            }
         };
         write!(f, "{what} ({})", *self as u64)
     }
@@ -139,11 +147,11 @@ pub enum HostCall {
 /// What the host answers.
 #[derive(Clone, Copy, Debug, PartialEq, Eq, Hash)]
 pub enum HostAnswer {
-    /// The memory is mapped, from this host address on.
+    /// To [`HostCall::Create`]: the memory is mapped, from this host address on.
     Created(u64),
-    /// The memory is given back.
+    /// To [`HostCall::Discard`]: the memory is given back.
     Discarded,
-    /// The host could not.
+    /// To either: the host could not.
     Failed,
 }
 
@@ -260,16 +268,20 @@ impl Device {
     /// The host's answer to what it was asked. Guest memory is for the response to an unplug; a creation does not look
     /// at it. Each block of an unplug-all is unplugged, and its size taken off the plugged size, as its discard is
     /// answered; where a discard fails the request ends with ERROR, and the blocks before it stay unplugged.
+    ///
+    /// An answer to another kind of question than the pending one is [`Error::WrongAnswer`], and the call stays pending.
     pub fn host_answer(
         &mut self,
         mem: &mut [u8],
         base: u64,
         told: HostAnswer,
     ) -> Result<Answer, Error> {
-        let (ok, host) = match told {
-            HostAnswer::Created(host) => (true, host),
-            HostAnswer::Discarded => (true, 0),
-            HostAnswer::Failed => (false, 0),
+        let (ok, host) = match (told, self.record[11]) {
+            (HostAnswer::Created(_), sys::PENDING_DISCARD | sys::PENDING_DISCARD_ONE)
+            | (HostAnswer::Discarded, sys::PENDING_CREATE) => return Err(Error::WrongAnswer),
+            (HostAnswer::Created(host), _) => (true, host),
+            (HostAnswer::Discarded, _) => (true, 0),
+            (HostAnswer::Failed, _) => (false, 0),
         };
         self.told(|device, answer| device.host_answer(mem, base, ok, host, answer))
     }
@@ -356,7 +368,7 @@ impl Device {
 
     /// Whether a host call is pending.
     pub fn is_pending(&self) -> bool {
-        self.record[11] != 0
+        self.record[11] != sys::PENDING_NOTHING
     }
 
     /// The plugged blocks: block 8j+k is bit k of byte j.

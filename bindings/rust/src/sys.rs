@@ -5,6 +5,12 @@
 pub const RECORD_WORDS: usize = 15;
 pub const ANSWER_WORDS: usize = 9;
 
+/// The kinds of a pending host call, word 11 of the record.
+pub const PENDING_NOTHING: u64 = 0;
+pub const PENDING_CREATE: u64 = 1;
+pub const PENDING_DISCARD: u64 = 2;
+pub const PENDING_DISCARD_ONE: u64 = 3;
+
 /// The functions as C has them.
 mod c {
     extern "C" {

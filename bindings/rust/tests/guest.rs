@@ -10,6 +10,7 @@ const START: u64 = 4_294_967_296;
 const HOST: u64 = 140_737_488_355_328;
 
 const PLUG: u16 = 0;
+const UNPLUG: u16 = 1;
 const UNPLUG_ALL: u16 = 2;
 const STATE: u16 = 3;
 
@@ -176,5 +177,40 @@ fn refusals_change_nothing() {
     assert_eq!(
         placed().request(&mut [], 0, 0, 0),
         Ok(Answer::Unserved { reason: 21 })
+    );
+}
+
+/// The answer is refused, and the device and the guest's bytes are as before.
+fn refuses(device: &mut Device, mem: &mut [u8], told: HostAnswer) {
+    let before = (device.clone(), mem.to_vec());
+    assert_eq!(device.host_answer(mem, BASE, told), Err(Error::WrongAnswer));
+    assert_eq!((&*device, &*mem), (&before.0, &before.1[..]));
+}
+
+#[test]
+fn an_answer_to_another_question_is_refused() {
+    let mut device = Device::new(256, 16, false, None, 1 << 30).unwrap();
+    device.place(START, 256 << 20, &[1]).unwrap();
+    refuses(&mut device, &mut [], HostAnswer::Discarded);
+    assert_eq!(
+        device.host_answer(&mut [], 0, HostAnswer::Created(HOST)),
+        Ok(Answer::Sized)
+    );
+
+    ask(&mut device, &mut chain(PLUG, START, 2));
+    for (request_type, blocks) in [(UNPLUG, 1), (UNPLUG_ALL, 0)] {
+        let mut mem = chain(request_type, START, blocks);
+        assert!(matches!(ask(&mut device, &mut mem), Answer::Wants(_)));
+        refuses(&mut device, &mut mem, HostAnswer::Created(HOST));
+        assert_eq!(
+            device.host_answer(&mut mem, BASE, HostAnswer::Discarded),
+            Ok(served(0, 0))
+        );
+    }
+    assert_eq!((device.plugged_size(), device.bitmap()[0]), (0, 0));
+
+    assert_eq!(
+        Error::WrongAnswer.to_string(),
+        "an answer to another kind of question than the pending one"
     );
 }
