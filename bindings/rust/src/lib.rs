@@ -29,7 +29,13 @@ use std::fmt;
 
 mod sys;
 
-use sys::{Lent, ANSWER_WORDS, RECORD_WORDS};
+use sys::{Lent, ANSWER_WORDS};
+
+/// The words of a record. `bindings/c/jambcopper.h` says what each one is.
+pub const RECORD_WORDS: usize = sys::RECORD_WORDS;
+
+/// The words of a row of the map table: its memory slot, whether it is mapped (0 no, else yes), and its host address.
+pub const ROW_WORDS: usize = 3;
 
 /// The block: what is plugged and unplugged.
 pub const BLOCK_SIZE: u64 = 4 << 20;
@@ -238,8 +244,37 @@ impl Device {
             bitmap: Vec::new(),
             table: Vec::new(),
         };
-        device.bitmap = vec![0; device.region_size().div_ceil(8 * BLOCK_SIZE) as usize];
-        device.table = vec![0; 3 * device.map_regions()];
+        device.bitmap = vec![0; device.bitmap_bytes()];
+        device.table = vec![0; ROW_WORDS * device.map_regions()];
+        Ok(device)
+    }
+
+    /// Makes a device of the parts that [`Device::record`], [`Device::bitmap`] and [`Device::table`] give. So a host can
+    /// restart: it saves the parts after a call, makes the device of them again and goes on, with a pending host call
+    /// too. What the host was asked is not among the parts, so a host that has not answered yet keeps the [`HostCall`]
+    /// beside them. Where memory lies at another host address than before, that address is put into its row, the third
+    /// word, first.
+    ///
+    /// [`Error::BadRecord`] where the words are no record of the stated shape, then [`Error::ShortTable`] where the
+    /// bitmap has fewer bytes than the region needs, one for 8 blocks, or the table fewer rows than there are map
+    /// regions. Other contents are taken as they are; what lies behind the need is kept, and never touched.
+    pub fn from_parts(
+        record: &[u64; RECORD_WORDS],
+        bitmap: &[u8],
+        table: &[u64],
+    ) -> Result<Device, Error> {
+        // A config read that reads nothing: the library tests the record, and changes nothing.
+        Error::check(sys::read_config(record, 0, &mut []))?;
+        let device = Device {
+            record: *record,
+            bitmap: bitmap.to_vec(),
+            table: table.to_vec(),
+        };
+        let short =
+            bitmap.len() < device.bitmap_bytes() || table.len() / ROW_WORDS < device.map_regions();
+        if short {
+            return Err(Error::ShortTable);
+        }
         Ok(device)
     }
 
@@ -371,9 +406,24 @@ impl Device {
         self.record[11] != sys::PENDING_NOTHING
     }
 
+    /// The record, to save: see [`Device::from_parts`].
+    pub fn record(&self) -> &[u64; RECORD_WORDS] {
+        &self.record
+    }
+
     /// The plugged blocks: block 8j+k is bit k of byte j.
     pub fn bitmap(&self) -> &[u8] {
         &self.bitmap
+    }
+
+    /// The map table, [`ROW_WORDS`] words a row.
+    pub fn table(&self) -> &[u64] {
+        &self.table
+    }
+
+    /// How many bytes of bitmap the region needs.
+    fn bitmap_bytes(&self) -> usize {
+        self.region_size().div_ceil(8 * BLOCK_SIZE) as usize
     }
 }
 

@@ -1,7 +1,9 @@
 // SPDX-License-Identifier: Apache-2.0 AND BSD-3-Clause
-//! A guest over the static library: the whole example of 01, and the refusals at the binding's edge.
+//! A guest over the static library: the whole example of 01, the refusals at the binding's edge, and a restart.
 
-use jambcopper::{Answer, Device, Error, HostAnswer, HostCall, BLOCK_SIZE};
+use jambcopper::{
+    Answer, Device, Error, HostAnswer, HostCall, BLOCK_SIZE, RECORD_WORDS, ROW_WORDS,
+};
 
 const BASE: u64 = 0x4000_0000;
 const REQUEST: usize = 2048;
@@ -213,4 +215,145 @@ fn an_answer_to_another_question_is_refused() {
         Error::WrongAnswer.to_string(),
         "an answer to another kind of question than the pending one"
     );
+}
+
+/// The device made again of its parts.
+fn again(device: &Device) -> Device {
+    let made = Device::from_parts(device.record(), device.bitmap(), device.table()).unwrap();
+    assert_eq!(&made, device);
+    made
+}
+
+#[test]
+fn a_host_restarts_in_the_middle_of_an_unplug_all() {
+    // Not placed yet, and with the creation of its placing pending.
+    let mut device = again(&Device::new(256, 16, false, None, 1 << 30).unwrap());
+    device.place(START, 256 << 20, &[1]).unwrap();
+    let mut device = again(&device);
+    assert!(device.is_pending() && !device.is_placed());
+    device
+        .host_answer(&mut [], 0, HostAnswer::Created(HOST))
+        .unwrap();
+    assert_eq!(device.table(), [1, 1, HOST]);
+
+    // Three blocks: one is discarded, the second is asked for, and the host restarts.
+    ask(&mut device, &mut chain(PLUG, START, 3));
+    let mut mem = chain(UNPLUG_ALL, 0, 0);
+    ask(&mut device, &mut mem);
+    let asked = device.host_answer(&mut mem, BASE, HostAnswer::Discarded);
+    assert_eq!(asked, Ok(discard(1)));
+    let mut one = device.clone();
+    let mut other = again(&device);
+    drop(device);
+
+    // Both go on alike.
+    assert_eq!(other.set_requested_size(20), Err(Error::Pending));
+    let ends = |device: &mut Device| {
+        let mut mem = mem.clone();
+        let next = device.host_answer(&mut mem, BASE, HostAnswer::Discarded);
+        assert_eq!(next, Ok(discard(2)));
+        let end = device.host_answer(&mut mem, BASE, HostAnswer::Discarded);
+        assert_eq!(end, Ok(served(0, 0)));
+        mem
+    };
+    assert_eq!(ends(&mut one), ends(&mut other));
+    assert_eq!(one, other);
+    assert_eq!((other.plugged_size(), other.bitmap()[0]), (0, 0));
+}
+
+#[test]
+fn a_restarted_host_has_its_memory_elsewhere() {
+    let mut device = placed();
+    ask(&mut device, &mut chain(PLUG, START, 1));
+    let mut table = device.table().to_vec();
+    table[2] = HOST + (1 << 40);
+    let mut device = Device::from_parts(device.record(), device.bitmap(), &table).unwrap();
+    assert_eq!(
+        ask(&mut device, &mut chain(UNPLUG, START, 1)),
+        Answer::Wants(HostCall::Discard {
+            offset: 0,
+            size: BLOCK_SIZE,
+            host: HOST + (1 << 40),
+        })
+    );
+}
+
+#[test]
+fn parts_that_do_not_fit_are_refused() {
+    let device = placed();
+    let (record, bitmap, table) = (device.record(), device.bitmap(), device.table());
+    assert_eq!((bitmap.len(), table.len()), (8, ROW_WORDS));
+
+    // 12: words that are no record, or none of the shape; before 11.
+    let with = |words: &[(usize, u64)]| {
+        let mut record = *record;
+        for &(at, word) in words {
+            record[at] = word;
+        }
+        record
+    };
+    let no_records = [
+        [0; RECORD_WORDS],
+        with(&[(0, BLOCK_SIZE + 1)]),        // another block size
+        with(&[(3, 256 << 20 | 1)]),         // a region that is no multiple
+        with(&[(8, 2)]),                     // a flag of 2
+        with(&[(12, 1)]),                    // a first row with nothing pending
+        with(&[(11, 4)]),                    // a kind that is none
+        with(&[(11, 1), (12, 1), (13, 0)]),  // a creation from row 1 to row 0
+        with(&[(11, 2), (12, 65), (13, 0)]), // a discard of no blocks from behind the region on
+        with(&[(11, 2), (12, 0), (13, 1)]),  // an unplug of more than is plugged
+        with(&[(11, 3), (12, 64)]),          // a block behind the region
+    ];
+    for record in no_records {
+        assert_eq!(
+            Device::from_parts(&record, bitmap, table),
+            Err(Error::BadRecord)
+        );
+        assert_eq!(Device::from_parts(&record, &[], &[]), Err(Error::BadRecord));
+    }
+    // A discard of no blocks at the region's end is of the shape.
+    let at_the_end = with(&[(11, 2), (12, 64), (13, 0)]);
+    assert!(Device::from_parts(&at_the_end, bitmap, table).is_ok());
+
+    // 11: a byte too few, a word too few.
+    let short = [(&bitmap[..7], table), (bitmap, &table[..2])];
+    for (bitmap, table) in short {
+        assert_eq!(
+            Device::from_parts(record, bitmap, table),
+            Err(Error::ShortTable)
+        );
+    }
+    // Several regions: a row for each of two, 2,304 MiB.
+    let several = Device::new(2304, 16, true, None, 1 << 30).unwrap();
+    let (record, bitmap, table) = (several.record(), several.bitmap(), several.table());
+    assert_eq!((bitmap.len(), table.len()), (72, 2 * ROW_WORDS));
+    assert_eq!(
+        Device::from_parts(record, bitmap, &table[..2 * ROW_WORDS - 1]),
+        Err(Error::ShortTable)
+    );
+    assert_eq!(
+        Device::from_parts(record, bitmap, table),
+        Ok(several.clone())
+    );
+}
+
+#[test]
+fn longer_parts_are_kept_whole() {
+    let device = placed();
+    let bitmap = [device.bitmap(), &[0xa5; 3]].concat();
+    let table = [device.table(), &[7; ROW_WORDS + 1]].concat();
+    let mut device = Device::from_parts(device.record(), &bitmap, &table).unwrap();
+    assert_eq!((device.bitmap(), device.table()), (&bitmap[..], &table[..]));
+
+    // All that the device does leaves what lies behind the need as it was.
+    ask(&mut device, &mut chain(PLUG, START, 4));
+    let mut mem = chain(UNPLUG_ALL, 0, 0);
+    let mut answer = ask(&mut device, &mut mem);
+    while answer != served(0, 0) {
+        answer = device
+            .host_answer(&mut mem, BASE, HostAnswer::Discarded)
+            .unwrap();
+    }
+    assert_eq!((device.bitmap(), device.table()), (&bitmap[..], &table[..]));
+    again(&device);
 }
