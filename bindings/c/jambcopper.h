@@ -11,11 +11,16 @@
  * Any contents are allowed, every one of them: words that are no record are refused with 12, and a table
  * that is too short with 11. Two slices of one call must not overlap, and a pointer is never NULL.
  *
+ * What is lent must not change during a call, by anyone but the call. For guest memory that means: no vCPU writes the
+ * slice before the call returns. A call may read a byte twice, and what is proved of it does not hold where the byte
+ * has changed in between.
+ *
  * A call never calls back. Where the host must do something, the call asks a question in its answer, the record
  * holds it as pending, and the host answers it by jambcopper_host_answer. Until then only jambcopper_host_answer,
  * jambcopper_read_config and jambcopper_write_config are served; the others are refused with 7.
  *
- * Each function returns the number of its refusal, or 0. All but 0 and 10 change nothing.
+ * Each function returns the number of its refusal, or 0. A refused call changes nothing but the answer, which is
+ * written in any case, where the function takes one; after 10 alone more has changed, and the numbers below say what.
  */
 #ifndef JAMBCOPPER_H
 #define JAMBCOPPER_H
@@ -51,7 +56,7 @@ extern "C" {
 #define JAMBCOPPER_RECORD_WORDS 15
 #define JAMBCOPPER_RECORD_BLOCK_SIZE 0     /* bytes; always 4 MiB */
 #define JAMBCOPPER_RECORD_NODE_ID 1        /* below 65536; 0 where no node was given */
-#define JAMBCOPPER_RECORD_START 2          /* guest address of the region; 0 until it is placed */
+#define JAMBCOPPER_RECORD_START 2          /* guest address of the region: 0 when made; a failed placing leaves it */
 #define JAMBCOPPER_RECORD_REGION_SIZE 3    /* bytes */
 #define JAMBCOPPER_RECORD_USABLE_SIZE 4    /* bytes from the start on that the guest may plug; never shrinks */
 #define JAMBCOPPER_RECORD_PLUGGED_SIZE 5   /* bytes */
@@ -91,7 +96,13 @@ extern "C" {
 #define JAMBCOPPER_KIND_UNSERVED 4 /* the chain is no request: it is used with length 0 */
 #define JAMBCOPPER_KIND_SERVED 5   /* the request has ended: the chain is used with the length */
 
-/* ---- the numbers. Order of the tests: 12 (record), 7 or 8, 5 or 6, 11, then 2, 1, 3, 4, 9. */
+/* ---- the numbers. Order of the tests: 12 (record), 7 or 8, 5 or 6, 11, then 2, 1, 3, 4, 9.
+ *
+ * 10 ends the call that asked for the creation, and leaves what that call has written:
+ *   - a size change: the new requested size stands; the usable size and the map table do not change;
+ *   - placing: the device is not placed; the start that was given, the rows and the bitmap stay as placing wrote them.
+ *     Placing may be tried again.
+ */
 
 #define JAMBCOPPER_DONE 0            /* not refused */
 #define JAMBCOPPER_BAD_SIZE 1        /* capacity 0, requested above the region, or requested not a multiple of 4 MiB */
@@ -103,7 +114,7 @@ extern "C" {
 #define JAMBCOPPER_PENDING 7         /* a host call is pending */
 #define JAMBCOPPER_NOT_PENDING 8     /* a host answer while no host call is pending */
 #define JAMBCOPPER_BAD_HOST 9        /* the host address, plus the size asked, passes 2^64 - 1; the call stays pending */
-#define JAMBCOPPER_CREATION_FAILED 10 /* the host could not create; nothing is pending any more */
+#define JAMBCOPPER_CREATION_FAILED 10 /* the host could not create; nothing is pending any more: see above */
 #define JAMBCOPPER_SHORT_TABLE 11    /* bitmap or map table too short */
 #define JAMBCOPPER_BAD_RECORD 12     /* the words are no record, or an unplug is larger than the plugged size */
 
@@ -121,7 +132,7 @@ extern "C" {
 /* ---- the calls */
 
 /*
- * Makes a device: writes its record, not placed yet. 1, 2, or 12 where the slice has no room for a record.
+ * Makes a device: writes its record, not placed yet. 12 where the slice has no room for a record, 2, 1.
  *   capacity_mib, requested_mib  sizes in MiB
  *   multi_region                 several map regions; kept only if the region exceeds 2 GiB
  *   node_given, node             the NUMA node, if there is one; node is not looked at otherwise
@@ -144,6 +155,8 @@ uint64_t jambcopper_place(uint64_t *record, size_t record_words, uint8_t *bitmap
 /*
  * Changes the requested size, to a number of MiB. The usable size grows with it, which may ask for a creation.
  * 12, 7, 5, 11, 1. Answer: refused, create, or sized.
+ * The guest reads both sizes in its config, and the host must tell it that they have changed, by a configuration change
+ * notification: where the answer is sized, now; where it is create, when that is answered, also where it failed (10).
  */
 uint64_t jambcopper_set_requested_size(uint64_t *record, size_t record_words, const uint8_t *bitmap, size_t bitmap_bytes,
                                        const uint64_t *table, size_t table_words, uint64_t requested_mib,
@@ -152,7 +165,7 @@ uint64_t jambcopper_set_requested_size(uint64_t *record, size_t record_words, co
 /*
  * Serves one chain of the guest's queue. 12, 7, 5, 11; and 12 for an otherwise legal unplug that is larger than the
  * plugged size.
- *   mem, base    guest memory, and the guest address of its first byte
+ *   mem, base    guest memory, which no vCPU writes during the call, and the guest address of its first byte
  *   descriptors  guest address of the table of 128 descriptors
  *   head         index of the chain's first descriptor
  * Answer: refused, discard, unserved, or served. The response is written to guest memory; the chain is then to be put
@@ -164,7 +177,7 @@ uint64_t jambcopper_request(uint64_t *record, size_t record_words, uint8_t *bitm
 
 /*
  * The host's answer to the question that is pending. 12, 8, 11, 9, 10.
- *   mem, base  guest memory, for the response to an unplug; a creation does not look at it
+ *   mem, base  guest memory, as for a request, for the response to an unplug; a creation does not look at it
  *   ok         whether the host did what was asked
  *   host       creation: the host address of the memory; a discard does not look at it
  * Answer: refused, sized (creation), served (discard), or discard: the next block of an unplug-all. Each block of one

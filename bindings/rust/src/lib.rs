@@ -22,6 +22,17 @@
 //! assert_eq!(Error::BadSize as u64, 1);
 //! # Ok::<(), Error>(())
 //! ```
+//!
+//! # Guest memory must not change during a call
+//!
+//! [`Device::request`] and [`Device::host_answer`] are lent guest memory as a slice. No vCPU may write that memory
+//! before the call returns: a call may read a byte twice, and what is proved of it does not hold where the byte has
+//! changed in between. It would break Rust's own rule for a `&mut` slice too.
+//!
+//! # What the host must do
+//!
+//! Beside answering, it puts each chain that has ended on the used ring with the length of the answer, and tells the
+//! guest that its config has changed when a size change has ended ([`Device::set_requested_size`]).
 
 #![warn(missing_docs)]
 
@@ -43,8 +54,8 @@ pub const BLOCK_SIZE: u64 = 4 << 20;
 /// The map region: what one row of the map table maps, where a device has several.
 pub const MAP_REGION_SIZE: u64 = 2 << 30;
 
-/// Why a call is refused. All but [`Error::CreationFailed`] change nothing. As a number (`as u64`) an error is the number
-/// that the library returns, but for [`Error::WrongAnswer`], which this crate finds itself.
+/// Why a call is refused. All but [`Error::CreationFailed`] change nothing. As a number (`as u64`) an error is the
+/// number that the library returns, but for [`Error::WrongAnswer`], which this crate finds itself.
 #[derive(Clone, Copy, Debug, PartialEq, Eq, Hash)]
 #[repr(u64)]
 pub enum Error {
@@ -66,15 +77,16 @@ pub enum Error {
     NotPending = 8,
     /// The host address, plus the size asked, passes 2^64 - 1. The call stays pending.
     BadHost = 9,
-    /// The host could not create. Nothing is pending any more.
+    /// The host could not create. Nothing is pending any more. [`Device::set_requested_size`] and [`Device::place`] say
+    /// what they leave then.
     CreationFailed = 10,
     /// The bitmap or the map table is too short.
     ShortTable = 11,
     /// The record is not of the stated shape, or an otherwise legal unplug is larger than the plugged size.
     BadRecord = 12,
-    /// The host's answer is to another kind of question than the pending one: [`HostAnswer::Discarded`] to a creation, or
-    /// [`HostAnswer::Created`] to a discard. The call stays pending. The library has no number for it, since it is told
-    /// only whether the host did what was asked.
+    /// The host's answer is to another kind of question than the pending one: [`HostAnswer::Discarded`] to a creation,
+    /// or [`HostAnswer::Created`] to a discard. The call stays pending. The library has no number for it, since it is
+    /// told only whether the host did what was asked.
     WrongAnswer = u64::MAX,
 }
 
@@ -220,8 +232,8 @@ pub struct Device {
 }
 
 impl Device {
-    /// Makes a device from sizes in MiB; `boot` is the boot memory's size in bytes, which decides the alignment. Several
-    /// regions are kept only if the region exceeds 2 GiB.
+    /// Makes a device from sizes in MiB; `boot` is the boot memory's size in bytes, which decides the alignment.
+    /// Several regions are kept only if the region exceeds 2 GiB.
     pub fn new(
         capacity_mib: u64,
         requested_mib: u64,
@@ -249,11 +261,11 @@ impl Device {
         Ok(device)
     }
 
-    /// Makes a device of the parts that [`Device::record`], [`Device::bitmap`] and [`Device::table`] give. So a host can
-    /// restart: it saves the parts after a call, makes the device of them again and goes on, with a pending host call
-    /// too. What the host was asked is not among the parts, so a host that has not answered yet keeps the [`HostCall`]
-    /// beside them. Where memory lies at another host address than before, that address is put into its row, the third
-    /// word, first.
+    /// Makes a device of the parts that [`Device::record`], [`Device::bitmap`] and [`Device::table`] give. So a host
+    /// can restart: it saves the parts after a call, makes the device of them again and goes on, with a pending host
+    /// call too. What the host was asked is not among the parts, so a host that has not answered yet keeps the
+    /// [`HostCall`] beside them. Where memory lies at another host address than before, that address is put into its
+    /// row, the third word, first.
     ///
     /// [`Error::BadRecord`] where the words are no record of the stated shape, then [`Error::ShortTable`] where the
     /// bitmap has fewer bytes than the region needs, one for 8 blocks, or the table fewer rows than there are map
@@ -278,18 +290,29 @@ impl Device {
         Ok(device)
     }
 
-    /// Places the device at a range of guest addresses, with a memory slot for each map region.
+    /// Places the device at a range of guest addresses, with a memory slot for each map region. The bitmap is cleared,
+    /// the rows are written, and the creation that must be first is asked for, if there is one.
+    ///
+    /// Where that creation fails ([`Error::CreationFailed`]) the device is not placed; the start that was given, the
+    /// rows and the bitmap stay as placing wrote them, and placing may be tried again.
     pub fn place(&mut self, start: u64, size: u64, slots: &[u32]) -> Result<Answer, Error> {
         self.told(|device, answer| device.place(start, size, slots, answer))
     }
 
-    /// Changes the requested size, in MiB.
+    /// Changes the requested size, in MiB. The usable size grows with it, which may ask for a creation. Where that
+    /// fails ([`Error::CreationFailed`]) the new requested size stands, and the usable size and the map table do not
+    /// change.
+    ///
+    /// The guest reads both sizes in its config, and the host must tell it that they have changed, by a configuration
+    /// change notification: where the answer is [`Answer::Sized`], now; where it is [`Answer::Wants`], when that is
+    /// answered, also where it failed.
     pub fn set_requested_size(&mut self, requested_mib: u64) -> Result<Answer, Error> {
         self.told(|device, answer| device.set_requested_size(requested_mib, answer))
     }
 
     /// Serves one chain of the guest's queue: `mem` is guest memory from the guest address `base` on, `descriptors` the
-    /// guest address of the table of 128 descriptors, and `head` the chain's first.
+    /// guest address of the table of 128 descriptors, and `head` the chain's first. No vCPU may write `mem` during the
+    /// call.
     pub fn request(
         &mut self,
         mem: &mut [u8],
@@ -300,11 +323,13 @@ impl Device {
         self.told(|device, answer| device.request(mem, base, descriptors, head, answer))
     }
 
-    /// The host's answer to what it was asked. Guest memory is for the response to an unplug; a creation does not look
-    /// at it. Each block of an unplug-all is unplugged, and its size taken off the plugged size, as its discard is
-    /// answered; where a discard fails the request ends with ERROR, and the blocks before it stay unplugged.
+    /// The host's answer to what it was asked. Guest memory, which no vCPU may write during the call, is for the
+    /// response to an unplug; a creation does not look at it. Each block of an unplug-all is unplugged, and its size
+    /// taken off the plugged size, as its discard is answered; where a discard fails the request ends with ERROR, and
+    /// the blocks before it stay unplugged.
     ///
-    /// An answer to another kind of question than the pending one is [`Error::WrongAnswer`], and the call stays pending.
+    /// An answer to another kind of question than the pending one is [`Error::WrongAnswer`], and the call stays
+    /// pending.
     pub fn host_answer(
         &mut self,
         mem: &mut [u8],
@@ -357,7 +382,8 @@ impl Device {
         }
     }
 
-    /// The guest address of the region; 0 until it is placed.
+    /// The guest address of the region: 0 when made, then as [`Device::place`] wrote it, also where its creation has
+    /// failed. [`Device::is_placed`] says whether the device is placed.
     pub fn start(&self) -> u64 {
         self.record[2]
     }

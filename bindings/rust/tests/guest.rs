@@ -128,12 +128,48 @@ fn several_regions_are_created_as_they_are_needed() {
         size: 2 << 30,
         slot: 8,
     };
+    let before = device.clone();
     assert_eq!(device.set_requested_size(1792), Ok(Answer::Wants(second)));
     assert_eq!(
         device.host_answer(&mut [], 0, HostAnswer::Failed),
         Err(Error::CreationFailed)
     );
     assert!(!device.is_pending());
+    // The new requested size stands; usable size and map do not change.
+    assert_eq!(device.requested_size(), 1792 << 20);
+    assert_eq!(
+        (device.usable_size(), device.table(), device.bitmap()),
+        (before.usable_size(), before.table(), before.bitmap())
+    );
+}
+
+#[test]
+fn a_placing_that_failed_is_tried_again() {
+    let mut device = Device::new(256, 16, false, None, 1 << 30).unwrap();
+    assert_eq!((device.start(), device.is_placed()), (0, false));
+    device.place(START, 256 << 20, &[1]).unwrap();
+    assert_eq!(
+        device.host_answer(&mut [], 0, HostAnswer::Failed),
+        Err(Error::CreationFailed)
+    );
+    // Not placed; the start, the row and the bitmap are as placing wrote them.
+    assert_eq!(
+        (device.start(), device.is_placed(), device.is_pending()),
+        (START, false, false)
+    );
+    assert_eq!(
+        (device.table(), device.bitmap()),
+        (&[1, 0, 0][..], &[0; 8][..])
+    );
+    assert_eq!(device.usable_size(), 0);
+
+    device.place(2 * START, 256 << 20, &[9]).unwrap();
+    assert_eq!(
+        device.host_answer(&mut [], 0, HostAnswer::Created(HOST)),
+        Ok(Answer::Sized)
+    );
+    assert_eq!((device.start(), device.is_placed()), (2 * START, true));
+    assert_eq!(device.table(), [9, 1, HOST]);
 }
 
 #[test]
