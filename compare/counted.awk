@@ -1,3 +1,4 @@
+# SPDX-License-Identifier: Apache-2.0 AND BSD-3-Clause
 # Counts the plugged blocks of a trace by its events, and holds the count against what was printed:
 # awk -f fields.awk -f counted.awk INPUT OUTPUT
 # It knows no device, only the lines: an acknowledged plug, an acknowledged unplug, and each discard of an unplug-all that the host

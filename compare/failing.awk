@@ -1,3 +1,4 @@
+# SPDX-License-Identifier: Apache-2.0 AND BSD-3-Clause
 # A random trace whose host often fails: awk -v seed=N -v lines=N -f random.awk -f failing.awk
 # The device has one region of 64 blocks where the seed is odd, and two map regions of 512 blocks, used around their border, where
 # it is even. Nothing is known of the answers, so many lines are refused: requests while the host is asked, and answers that nobody

@@ -1,3 +1,4 @@
+# SPDX-License-Identifier: Apache-2.0 AND BSD-3-Clause
 # The fields of a line, key=value with one space between: for the other programs here, named before them (awk -f fields.awk -f ..).
 function read_fields(line, into,    parts, n, i, at) {
     split("", into)

@@ -1,3 +1,4 @@
+# SPDX-License-Identifier: Apache-2.0 AND BSD-3-Clause
 # Cuts every acknowledged plug of traces whose answers are known:
 # awk -v seed=N -v into=FOLDER -f random.awk -f fields.awk -f parts.awk TRACES
 # A plug of two blocks or more becomes two to six plugs, cut at random places, asked for in their order or in another. FOLDER gets

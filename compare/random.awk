@@ -1,3 +1,4 @@
+# SPDX-License-Identifier: Apache-2.0 AND BSD-3-Clause
 # Random numbers by a seed, for the other programs here, named before them (awk -f random.awk -f ..). The same seed gives the same
 # numbers in every awk.
 function begin_with(seed,    i) {

@@ -1,3 +1,4 @@
+# SPDX-License-Identifier: Apache-2.0 AND BSD-3-Clause
 # Holds a trace's output against a recorded one: awk -f fields.awk -f recorded.awk NAME.qemu OUTPUT
 # Every result line (all but want=) must agree in the fields that the recorded line names by cmp=.
 

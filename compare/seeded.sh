@@ -1,3 +1,4 @@
+# SPDX-License-Identifier: Apache-2.0 AND BSD-3-Clause
 # The arguments of a command about random traces, [SEED [LINES [PROGRAM [ARG..]]]]: sourced with them, it sets `seed`, `lines` and
 # the array `program`, which is the trace program, proved and built where it is not yet, if none is named. `root` is the repository.
 # shellcheck shell=bash disable=SC2034,SC2154 # read and set by the command

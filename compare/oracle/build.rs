@@ -1,3 +1,4 @@
+// SPDX-License-Identifier: Apache-2.0 AND BSD-3-Clause
 //! Finds mem.rs where the variable MEM_RS says, so that none of its text stands in this repository.
 
 use std::env;

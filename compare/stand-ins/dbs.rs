@@ -1,3 +1,4 @@
+// SPDX-License-Identifier: Apache-2.0 AND BSD-3-Clause
 //! Stand-ins for dbs-device, dbs-interrupt, dbs-utils, kvm-ioctls and virtio-bindings: what mem.rs names of them.
 
 pub mod dbs_device {

@@ -1,3 +1,4 @@
+// SPDX-License-Identifier: Apache-2.0 AND BSD-3-Clause
 //! Stand-in for the files around mem.rs in its crate (device.rs and lib.rs): what mem.rs names of them.
 
 use std::any::Any;

@@ -1,3 +1,4 @@
+// SPDX-License-Identifier: Apache-2.0 AND BSD-3-Clause
 //! Stand-in for libc: the two host calls of mem.rs, of which one is asked of the driver.
 
 #![allow(non_camel_case_types, non_upper_case_globals)]

@@ -1,3 +1,4 @@
+// SPDX-License-Identifier: Apache-2.0 AND BSD-3-Clause
 //! Stand-in for log: every message is put together; the last one of debug! is kept, the others dropped.
 
 use std::cell::RefCell;

@@ -1,3 +1,4 @@
+// SPDX-License-Identifier: Apache-2.0 AND BSD-3-Clause
 //! Stand-ins of the crates that mem.rs needs, each no more than mem.rs names of it.
 
 pub mod dbs;

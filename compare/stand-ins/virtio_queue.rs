@@ -1,3 +1,4 @@
+// SPDX-License-Identifier: Apache-2.0 AND BSD-3-Clause
 //! Stand-in for virtio-queue 0.7: a split queue, its available ring and the walk along a chain.
 //!
 //! As in 0.7: an index at or past the table's length ends a chain, an indirect descriptor is

@@ -1,3 +1,4 @@
+// SPDX-License-Identifier: Apache-2.0 AND BSD-3-Clause
 //! One device on each side, given the same calls; what differs after a call is said in words.
 
 use std::cell::RefCell;

@@ -1,3 +1,4 @@
+// SPDX-License-Identifier: Apache-2.0 AND BSD-3-Clause
 //! The proved device as one value, driven through the exports of the static library.
 
 use oracle::rust::{BLOCK, MAP_REGION};

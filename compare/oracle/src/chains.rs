@@ -1,3 +1,4 @@
+// SPDX-License-Identifier: Apache-2.0 AND BSD-3-Clause
 //! One chain in one small guest memory, served by a fresh device of mem.rs; random ones at the edges.
 //!
 //! The device is that of 01's example: 256 MiB at 4 GiB, 16 MiB requested, nothing plugged.

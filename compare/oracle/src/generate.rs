@@ -1,3 +1,4 @@
+// SPDX-License-Identifier: Apache-2.0 AND BSD-3-Clause
 //! Random traces that lean to the edges, written while they drive mem.rs.
 //!
 //! Every trace keeps inside the domain in which 01 departs from mem.rs nowhere: at most 1 TiB, MiB

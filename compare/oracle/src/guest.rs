@@ -1,3 +1,4 @@
+// SPDX-License-Identifier: Apache-2.0 AND BSD-3-Clause
 //! The guest's side: one stretch of memory with the descriptors, and the two rings away from it.
 
 use std::sync::Arc;

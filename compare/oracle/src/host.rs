@@ -1,3 +1,4 @@
+// SPDX-License-Identifier: Apache-2.0 AND BSD-3-Clause
 //! What mem.rs asks of the host, and who answers it.
 
 use std::cell::RefCell;

@@ -1,3 +1,4 @@
+// SPDX-License-Identifier: Apache-2.0 AND BSD-3-Clause
 //! The unchanged mem.rs, taken from where MEM_RS says, and a driver that speaks the house form.
 
 #[path = "../../stand-ins/mod.rs"]

@@ -1,3 +1,4 @@
+// SPDX-License-Identifier: Apache-2.0 AND BSD-3-Clause
 //! Numbers that look random and come again with the same seed (SplitMix64).
 
 pub struct Random(u64);

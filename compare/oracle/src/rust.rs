@@ -1,3 +1,4 @@
+// SPDX-License-Identifier: Apache-2.0 AND BSD-3-Clause
 //! The device of mem.rs as one value: made, placed, asked, and looked into.
 
 use std::sync::{Arc, Mutex};

@@ -1,3 +1,4 @@
+// SPDX-License-Identifier: Apache-2.0 AND BSD-3-Clause
 //! Traces in the house form: lines to values and back, and a device that is driven by them.
 
 use std::cell::RefCell;

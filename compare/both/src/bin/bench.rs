@@ -1,3 +1,4 @@
+// SPDX-License-Identifier: Apache-2.0 AND BSD-3-Clause
 //! mem.rs and the proved device on the same requests, in instructions and in time; see `--help`.
 
 use std::arch::asm;

@@ -1,3 +1,4 @@
+// SPDX-License-Identifier: Apache-2.0 AND BSD-3-Clause
 //! Random runs on mem.rs and the proved device at once; see `--help`.
 
 use std::env;

@@ -1,3 +1,4 @@
+// SPDX-License-Identifier: Apache-2.0 AND BSD-3-Clause
 //! Raw random bytes through every export of the static library; run it under valgrind.
 //!
 //! Each slice is a block of the heap of just its own length, so that memcheck sees a byte read or

@@ -1,3 +1,4 @@
+// SPDX-License-Identifier: Apache-2.0 AND BSD-3-Clause
 //! Holds a program that reads traces against mem.rs; see `--help`.
 
 use std::env;

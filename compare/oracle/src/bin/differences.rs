@@ -1,3 +1,4 @@
+// SPDX-License-Identifier: Apache-2.0 AND BSD-3-Clause
 //! Runs each known difference between mem.rs and the proved device on its smallest input.
 //!
 //! Each asserts what the Rust does; a line says so in words. What rests on a stand-in and

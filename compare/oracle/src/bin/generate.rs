@@ -1,3 +1,4 @@
+// SPDX-License-Identifier: Apache-2.0 AND BSD-3-Clause
 //! Writes random traces and what mem.rs prints for each; see `--help`.
 
 use std::collections::BTreeSet;

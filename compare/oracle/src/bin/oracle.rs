@@ -1,3 +1,4 @@
+// SPDX-License-Identifier: Apache-2.0 AND BSD-3-Clause
 //! Reads a trace on the standard input and prints what the unchanged mem.rs does.
 //!
 //! Ends with 0 when the whole trace was run; with 3, and the reason on the standard error, at the

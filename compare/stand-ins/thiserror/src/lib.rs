@@ -1,3 +1,4 @@
+// SPDX-License-Identifier: Apache-2.0 AND BSD-3-Clause
 //! Stand-in for thiserror: `#[derive(Error)]` for an enum without parameters, shown by its Debug form.
 
 use proc_macro::{TokenStream, TokenTree};

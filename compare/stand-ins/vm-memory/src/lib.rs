@@ -1,3 +1,4 @@
+// SPDX-License-Identifier: Apache-2.0 AND BSD-3-Clause
 //! Stand-in for vm-memory 0.10.0: the part that mem.rs and its driver use, under the same names.
 //!
 //! It keeps two habits of the crate that can be seen from outside: an object that lies partly
