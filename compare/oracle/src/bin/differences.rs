@@ -1,5 +1,6 @@
 // SPDX-License-Identifier: Apache-2.0 AND BSD-3-Clause
-//! Runs each known difference between mem.rs and the proved device on its smallest input.
+//! Runs each known difference between mem.rs and the proved device on its smallest input, and each
+//! point that 01 marks as one although mem.rs in a release build answers the same.
 //!
 //! Each asserts what the Rust does; a line says so in words. What rests on a stand-in and
 //! not on the crate itself is marked: it shows how mem.rs behaves over such a crate, no more.
@@ -10,7 +11,7 @@ use std::rc::Rc;
 
 use oracle::guest::{request, Descriptor, Guest, INDIRECT, NEXT, WRITE};
 use oracle::host::{answering, Answer, Question};
-use oracle::rust::{Rust, BLOCK, ERROR, MAP_REGION, PLUG, UNPLUG, UNPLUG_ALL};
+use oracle::rust::{Rust, BLOCK, ERROR, MAP_REGION, PLUG, STATE, UNPLUG, UNPLUG_ALL};
 
 const GIB: u64 = 1 << 30;
 const MIB: u64 = 1 << 20;
@@ -125,7 +126,10 @@ fn start_past_the_end() -> String {
     assert_eq!(done, Ok(()));
     assert!(device.activate(small_guest()));
     assert_eq!(device.request(PLUG, start, 1).resp, 3);
-    "start 2^64 - 128 MiB with a region of 256 MiB is taken; every plug is ERROR (01: 4)".into()
+    assert_eq!(state(&mut device, 0, 1), (ERROR, 1));
+    "start 2^64 - 128 MiB with a region of 256 MiB is taken; a plug at the start is ERROR, and a \
+     state at address 0 is that of block 32 (01: 4)"
+        .into()
 }
 
 fn rows_past_the_end() -> String {
@@ -244,6 +248,34 @@ fn refused_unplug_all() -> String {
         .into()
 }
 
+/// The response's type and state for a state request.
+fn state(device: &mut Rust, addr: u64, blocks: u16) -> (u16, u16) {
+    let served = device.request(STATE, addr, blocks);
+    (served.resp, served.state)
+}
+
+fn state_of_no_blocks() -> String {
+    let mut device = placed(small_guest());
+    assert_eq!(state(&mut device, 4 * GIB, 0), (ERROR, 0));
+    "state of 0 blocks at the start: ERROR with state 0, plugged, although no block is (01: the same)"
+        .into()
+}
+
+fn state_below_the_start() -> String {
+    let mut device = placed(small_guest());
+    assert_eq!(state(&mut device, 4 * GIB - BLOCK, 1), (ERROR, 0));
+    "state of 1 block below the start: the subtraction wraps past every block, ERROR with state 0 \
+     (01: the same, and nothing wraps)"
+        .into()
+}
+
+fn state_behind_the_region() -> String {
+    let mut device = placed(small_guest());
+    assert_eq!(state(&mut device, 4 * GIB + 256 * MIB, 1), (ERROR, 0));
+    "state of 1 block at the region's end: no block is there, ERROR with state 0 (01: the same)"
+        .into()
+}
+
 fn head_of_128() -> String {
     let mut device = placed(small_guest());
     let panicked = catch_unwind(AssertUnwindSafe(|| device.serve(128)));
@@ -334,6 +366,9 @@ fn main() {
         ("failed-single-placing", failed_single_placing),
         ("host-address-wraps", host_address_wraps),
         ("refused-unplug-all", refused_unplug_all),
+        ("state-of-no-blocks", state_of_no_blocks),
+        ("state-below-the-start", state_below_the_start),
+        ("state-behind-the-region", state_behind_the_region),
         ("head-of-128", head_of_128),
         ("indirect-is-followed", indirect_is_followed),
         ("long-chain", long_chain),
