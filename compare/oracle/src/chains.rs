@@ -2,8 +2,8 @@
 //! One chain in one small guest memory, served by a fresh device of mem.rs; random ones at the edges.
 //!
 //! The device is that of 01's example: 256 MiB at 4 GiB, 16 MiB requested, nothing plugged.
-//! The cases keep where 01 departs from mem.rs nowhere: a table address that is a multiple of 16, a
-//! head below 128, no indirect flag that the walk meets, a response wholly inside or wholly outside.
+//! The cases stay where 01 and mem.rs agree: a table address that is a multiple of 16, a head below
+//! 128, no indirect flag that the walk meets, a response wholly inside or wholly outside.
 
 use std::fmt;
 

@@ -1,10 +1,10 @@
 // SPDX-License-Identifier: Apache-2.0 AND BSD-3-Clause
 //! Random traces that lean to the edges, written while they drive mem.rs.
 //!
-//! Every trace keeps inside the domain in which 01 departs from mem.rs nowhere: at most 1 TiB, MiB
-//! numbers whose bytes are below 2^64, an aligned start whose region (several regions: whose rows)
-//! ends below 2^64, and host addresses whose mappings do too. It ends at the first unplug-all that is
-//! refused, where request 5 of 02 departs.
+//! Every trace stays where 01 and mem.rs agree: at most 1 TiB, MiB numbers whose bytes are below 2^64,
+//! an aligned start whose region (several regions: whose rows) ends below 2^64, and host addresses whose
+//! mappings do too. It ends at the first unplug-all that is refused: behind it request 5 of 02 has other
+//! answers than mem.rs.
 
 use std::cell::RefCell;
 use std::collections::BTreeSet;
