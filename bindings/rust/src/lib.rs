@@ -2,8 +2,8 @@
 //! A proved virtio-mem device.
 //!
 //! [`Device`] keeps the device's record, its bitmap and its map table, and lends them to the proved functions of the
-//! static library, whose names its methods have. It never calls back: where the host must create or discard memory, a
-//! call answers [`Answer::Wants`], and the host answers by [`Device::host_answer`].
+//! static library; its methods are named as those are in `bindings/c/jambcopper.h`. It never calls back: where the host
+//! must create or discard memory, a call answers [`Answer::Wants`], and the host answers by [`Device::host_answer`].
 //!
 //! ```
 //! use jambcopper::{Answer, Device, Error, HostAnswer, HostCall};
