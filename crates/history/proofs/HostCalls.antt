@@ -19,7 +19,7 @@ use Rattle.step.specs.declared.Answer.the-variants.{Refused}
 use Rattle.step.specs.World.{World, Call, Place, SetRequestedSize, Request, HostAnswer, ReadConfig, WriteConfig, Outcome}
 use Rattle.step.specs.Step.{region, usable, several, regionBlocks, regionRows, newUsable}
 use Rattle.history.specs.History.{Event, Story, next, after, begun}
-use Rattle.history.specs.Rules.{InEveryRun, asks, taken, takes, waits, askedIn, takenIn, EachAskedAnswered, PendingStays, due, AsksWhatIsDue}
+use Rattle.history.specs.Rules.{InEveryRun, FromEveryWorld, asks, taken, takes, waits, askedIn, takenIn, EachAskedAnswered, PendingStays, due, AsksWhatIsDue}
 use Rattle.record.proofs.Laws.{Parts}
 use Rattle.history.proofs.Shaped.{clash}
 use Rattle.history.proofs.Invariant.{Inv, Asked}
@@ -98,7 +98,7 @@ idle-nothing (Discard first count status) e = clash e refl
 idle-nothing (DiscardOne block status) e = clash e refl
 
 abbrev Stays : World → Call → Outcome → List Event → Type 0
-Stays w c o new = asks (o .answer) ≡ 0 → takes c (o .answer) ≡ 0 → o .world .device .pending ≡ w .device .pending
+Stays w c o new = PendingStays w c o
 
 stays : (w : World) → Endings w (Stays w)
 unfolding asks takes taken
@@ -131,9 +131,8 @@ stays w =
       place-asks-whole = λ a _ asked _. absurd (omega arith);
     }
 
-pub pending-stays : InEveryRun PendingStays
-unfolding next
-pending-stays d fresh cs c = let w = after (begun d) cs .world in each-call w (Stays w) (stays w) c
+pub pending-stays : FromEveryWorld PendingStays
+pending-stays w c = each-call w (Stays w) (stays w) c
 
 -- ---- the first row of a creation has no mapping
 unfoldable rowDue : Pending → List MapRow → Bool

@@ -1,5 +1,5 @@
--- The sizes over every run: 12 never appears, an unplug-all takes off what was counted, the usable size never shrinks, and a plug never takes the plugged size past the requested size.
-use Prim.Native.Nat.{ℕ, _+_, _*_, max, _≤_, _<_}
+-- The sizes: 12 never appears in a run, an unplug-all takes off what was counted, the usable size never shrinks, only a size change moves the requested size, and a plug never takes the plugged size past it.
+use Prim.Native.Nat.{ℕ, _+_, _*_, _≤_}
 use mathlib.Core.Path.{_≡_, refl, ap}
 use mathlib.Core.Bool.{Bool, false}
 use mathlib.Core.List.{List}
@@ -11,7 +11,7 @@ use Rattle.step.specs.declared.Answer.the-variants.{Refused, Wants, Sized, Unse
 use Rattle.step.specs.World.{World, Call, Outcome}
 use Rattle.step.specs.Step.{blockSize, usable, plugged, requested, regionBlocks}
 use Rattle.history.specs.History.{Event, next, after, begun}
-use Rattle.history.specs.Rules.{InEveryRun, Never12, DiscardIsCounted, UsableNeverShrinks, PlugWithinRequested}
+use Rattle.history.specs.Rules.{InEveryRun, FromEveryWorld, Never12, DiscardIsCounted, UsableNeverShrinks, isSizeChange, OnlySizeChangeMovesRequested, PlugWithinRequested}
 use Rattle.record.proofs.Laws.{Parts, whole as shaped-when}
 use Rattle.history.proofs.Shaped.{clash}
 use Rattle.history.proofs.Invariant.{Asked, Inv, used-unplugged, used-one}
@@ -84,53 +84,55 @@ discard-is-counted d fresh cs c block status waits =
     let enough = are-counted (blockSize w) (plugged w) 1 _ _ (used-one (regionBlocks w) (w .blocks) block (rw waits at (h .asked))) (h .told .count) in
     omega arith
 
--- ---- the usable size never shrinks, and a plug never takes the plugged size past the requested size
-abbrev Moved : (u n : ℕ) → Call → Outcome → List Event → Type 0
-Moved u n c o new = (u ≤ usable (o .world)) × (n < plugged (o .world) → plugged (o .world) ≤ requested (o .world))
+-- ---- the usable size never shrinks, only a size change moves the requested size, and a plug never takes the plugged size past it
+record Moved (w : World) (c : Call) (o : Outcome) : Type 0 where
+  pub not-shrunk : usable w ≤ usable (o .world)
+  pub requested-kept : OnlySizeChangeMovesRequested w c o
+  pub within : PlugWithinRequested w c o
 
-same : (u n r : ℕ) → (u ≤ u) × (n < n → n ≤ r)
-same u n r = (omega arith, λ more. absurd (omega arith))
+abbrev IsMoved : World → Call → Outcome → List Event → Type 0
+IsMoved w c o new = Moved w c o
 
-grown : (u v n r : ℕ) → (u ≤ max u v) × (n < n → n ≤ r)
-grown u v n r = (omega arith, λ more. absurd (omega arith))
+-- an ending that plugs nothing and leaves the requested size as it is
+calm : (w : World) (c : Call) (o : Outcome) → usable w ≤ usable (o .world) → plugged (o .world) ≤ plugged w → requested (o .world) ≡ requested w → Moved w c o
+calm w c o u p r = record { not-shrunk = u; requested-kept = λ _. r; within = λ more. absurd (omega arith) }
 
-fewer : (u m n r : ℕ) → m ≤ n → (u ≤ u) × (n < m → m ≤ r)
-fewer u m n r l = (omega arith, λ more. absurd (omega arith))
-
-moved : (w : World) → Endings w (Moved (usable w) (plugged w))
+moved : (w : World) → Endings w (IsMoved w)
+unfolding isSizeChange
 moved w =
-    let kept = same (usable w) (plugged w) (requested w) in
     record {
-      refuses = λ c n bytes _ _. kept;
-      reads = λ offset buffer bytes. kept;
-      writes = λ offset buffer. kept;
-      unserves = λ a reason. kept;
-      responds = λ a resp. kept;
-      plugs-range = λ a addr count first offset fits _. (kept .0, λ more. fits);
-      asks-range = λ a addr count first offset host _ _. kept;
-      spoils = λ a addr count first offset _ _. kept;
-      ends-at-once = λ a r. fewer _ _ _ _ (omega arith);
-      asks-first = λ a block offset host r _. kept;
-      stops-at-once = λ a. kept;
-      maps = λ i last a. grown _ _ _ _;
-      create-fails = λ i last a. kept;
-      unplugs-range = λ first count status a. fewer _ _ _ _ (omega arith);
-      discard-fails = λ first count status a. kept;
-      ends-all = λ j status a r. fewer _ _ _ _ (omega arith);
-      asks-next = λ j status a block offset host r _. fewer _ _ _ _ (omega arith);
-      stops-after = λ j status a. fewer _ _ _ _ (omega arith);
-      one-fails = λ j status a. kept;
-      resizes = λ a. grown _ _ _ _;
-      resize-asks = λ a i last size _. same _ _ _;
-      places = λ a. grown _ _ _ _;
-      place-asks = λ a i last size _. kept;
-      place-asks-whole = λ a _. kept;
+      refuses = λ c n bytes _ _. calm w c _ (omega arith) (omega arith) refl;
+      reads = λ offset buffer bytes. calm w _ _ (omega arith) (omega arith) refl;
+      writes = λ offset buffer. calm w _ _ (omega arith) (omega arith) refl;
+      unserves = λ a reason. calm w _ _ (omega arith) (omega arith) refl;
+      responds = λ a resp. calm w _ _ (omega arith) (omega arith) refl;
+      plugs-range = λ a addr count first offset fits _. record { not-shrunk = omega arith; requested-kept = λ _. refl; within = λ more. fits };
+      asks-range = λ a addr count first offset host _ _. calm w _ _ (omega arith) (omega arith) refl;
+      spoils = λ a addr count first offset _ _. calm w _ _ (omega arith) (omega arith) refl;
+      ends-at-once = λ a r. calm w _ _ (omega arith) (omega arith) refl;
+      asks-first = λ a block offset host r _. calm w _ _ (omega arith) (omega arith) refl;
+      stops-at-once = λ a. calm w _ _ (omega arith) (omega arith) refl;
+      maps = λ i last a. calm w _ _ (omega arith) (omega arith) refl;
+      create-fails = λ i last a. calm w _ _ (omega arith) (omega arith) refl;
+      unplugs-range = λ first count status a. calm w _ _ (omega arith) (omega arith) refl;
+      discard-fails = λ first count status a. calm w _ _ (omega arith) (omega arith) refl;
+      ends-all = λ j status a r. calm w _ _ (omega arith) (omega arith) refl;
+      asks-next = λ j status a block offset host r _. calm w _ _ (omega arith) (omega arith) refl;
+      stops-after = λ j status a. calm w _ _ (omega arith) (omega arith) refl;
+      one-fails = λ j status a. calm w _ _ (omega arith) (omega arith) refl;
+      resizes = λ a. record { not-shrunk = omega arith; requested-kept = λ e. clash refl e; within = λ more. absurd (omega arith) };
+      resize-asks = λ a i last size _. record { not-shrunk = omega arith; requested-kept = λ e. clash refl e; within = λ more. absurd (omega arith) };
+      places = λ a. calm w _ _ (omega arith) (omega arith) refl;
+      place-asks = λ a i last size _. calm w _ _ (omega arith) (omega arith) refl;
+      place-asks-whole = λ a _. calm w _ _ (omega arith) (omega arith) refl;
     }
 
 pub usable-never-shrinks : InEveryRun UsableNeverShrinks
 unfolding next
-usable-never-shrinks d fresh cs c = let w = after (begun d) cs .world in each-call w (Moved (usable w) (plugged w)) (moved w) c .0
+usable-never-shrinks d fresh cs c = let w = after (begun d) cs .world in each-call w (IsMoved w) (moved w) c .not-shrunk
 
-pub plug-within-requested : InEveryRun PlugWithinRequested
-unfolding next
-plug-within-requested d fresh cs c = let w = after (begun d) cs .world in each-call w (Moved (usable w) (plugged w)) (moved w) c .1
+pub only-size-change-moves-requested : FromEveryWorld OnlySizeChangeMovesRequested
+only-size-change-moves-requested w c = each-call w (IsMoved w) (moved w) c .requested-kept
+
+pub plug-within-requested : FromEveryWorld PlugWithinRequested
+plug-within-requested w c = each-call w (IsMoved w) (moved w) c .within

@@ -1,4 +1,4 @@
--- The rule of the mission, sentence by sentence: each is what holds of every call c at every point s of every run.
+-- The rule of the mission, sentence by sentence: each is what holds of every call c, at every point s of every run or, where no run is needed, from every world w with the outcome o.
 use Prim.Native.Nat.{ℕ, _+_, _-_, _*_, _≤_, _<_}
 use mathlib.Core.Path.{_≡_}
 use mathlib.Core.Bool.{Bool, true, false, cond, _&&_}
@@ -15,13 +15,17 @@ use Rattle.record.specs.declared.Pending.the-variants.{Nothing, Create, Discard
 use Rattle.record.specs.Shape.{shapedOf}
 use Rattle.step.specs.declared.Answer.{Answer}
 use Rattle.step.specs.declared.Answer.the-variants.{Refused, Wants, Sized, Unserved, Served, Done}
-use Rattle.step.specs.World.{World, Call, Place, SetRequestedSize, Request, HostAnswer, ReadConfig, WriteConfig}
+use Rattle.step.specs.World.{World, Call, Place, SetRequestedSize, Request, HostAnswer, ReadConfig, WriteConfig, Outcome}
 use Rattle.step.specs.Step.{step, blockSize, usable, plugged, requested, newUsable, regionBlocks, Untouched}
 use Rattle.history.specs.History.{Event, PlugAck, UnplugAck, Discarded, UnplugAllAck, eventsOf, Story, next, after, Fresh, begun}
 
 -- of any list of calls from any newly made device, and of any call after them
 abbrev pub InEveryRun : (Story → Call → Type 0) → Type 0
 InEveryRun P = (d : Device) → Fresh d → (cs : List Call) (c : Call) → P (after (begun d) cs) c
+
+-- of any call from any world, whatever led to it
+abbrev pub FromEveryWorld : (World → Call → Outcome → Type 0) → Type 0
+FromEveryWorld P = (w : World) (c : Call) → P w c (step w c)
 
 -- the record keeps its shape
 abbrev pub KeepsShape : Story → Call → Type 0
@@ -35,22 +39,36 @@ Never12 s c = step (s .world) c .answer ≡ Refused 12 → ⊥
 abbrev pub UsableNeverShrinks : Story → Call → Type 0
 UsableNeverShrinks s c = usable (s .world) ≤ usable (next s c .world)
 
--- a plug never takes the plugged size past the requested size: no call that raises it does
-abbrev pub PlugWithinRequested : Story → Call → Type 0
-PlugWithinRequested s c = plugged (s .world) < plugged (next s c .world) → plugged (next s c .world) ≤ requested (next s c .world)
-
 -- "never below 0, which only a spoiled bitmap could bring" (02, request 5): in a run the block that an unplug-all waits for is counted in the plugged size, so nothing is cut off
 abbrev pub DiscardIsCounted : Story → Call → Type 0
 DiscardIsCounted s c = (block : ℕ) (status : GuestAddr) → s .world .device .pending ≡ DiscardOne block status → blockSize (s .world) ≤ plugged (s .world)
 
--- ---- lowering the requested size changes no block and no row, nor does raising it: rows change when the host has answered
-abbrev pub SizeChangeTouchesNothing : Story → Call → Type 0
-SizeChangeTouchesNothing s c = (mib : ℕ) → c ≡ SetRequestedSize mib → Untouched (s .world) (next s c .world)
+-- ---- the requested size is the only lever
+unfoldable pub isSizeChange : Call → Bool
+isSizeChange (Place at size slots blocks rows) = false
+isSizeChange (SetRequestedSize mib) = true
+isSizeChange (Request guest table head) = false
+isSizeChange (HostAnswer guest ok host) = false
+isSizeChange (ReadConfig offset buffer) = false
+isSizeChange (WriteConfig offset buffer) = false
+
+-- only a size change moves it
+abbrev pub OnlySizeChangeMovesRequested : World → Call → Outcome → Type 0
+OnlySizeChangeMovesRequested w c o = isSizeChange c ≡ false → requested (o .world) ≡ requested w
+
+-- a plug never takes the plugged size past it: no call that raises the plugged size does
+abbrev pub PlugWithinRequested : World → Call → Outcome → Type 0
+PlugWithinRequested w c o = plugged w < plugged (o .world) → plugged (o .world) ≤ requested w
+
+-- ---- lowering the requested size takes nothing away by force
+-- it changes no block, no row and no plugged size, nor does raising it: rows change when the host has answered
+abbrev pub SizeChangeTouchesNothing : World → Call → Outcome → Type 0
+SizeChangeTouchesNothing w c o = isSizeChange c ≡ true → Untouched w (o .world)
 
 -- where the usable size is all that the requested size is worth (a creation that failed leaves it behind), lowering leaves it as it is and asks the host for nothing
-abbrev pub LoweringAsksNothing : Story → Call → Type 0
-LoweringAsksNothing s c = (mib : ℕ) → c ≡ SetRequestedSize mib → mib * 1048576 ≤ requested (s .world) → newUsable (s .world) ≤ usable (s .world)
-    → (usable (next s c .world) ≡ usable (s .world)) × (next s c .world .device .pending ≡ s .world .device .pending)
+abbrev pub LoweringAsksNothing : World → Call → Outcome → Type 0
+LoweringAsksNothing w c o = (mib : ℕ) → c ≡ SetRequestedSize mib → mib * 1048576 ≤ requested w → newUsable w ≤ usable w
+    → (usable (o .world) ≡ usable w) × (o .world .device .pending ≡ w .device .pending)
 
 -- ---- every plug and unplug happens whole or not at all
 -- what an event does to the blocks, and to the plugged size of blocks of b bytes
@@ -152,8 +170,8 @@ EachAskedAnswered = (d : Device) → Fresh d → (cs : List Call)
     → askedIn (begun d .world) cs ≡ takenIn (begun d .world) cs + waits (after (begun d) cs .world .device .pending)
 
 -- a pending call stays as it is but where a question is asked or an answer is taken
-abbrev pub PendingStays : Story → Call → Type 0
-PendingStays s c = let a = step (s .world) c .answer in asks a ≡ 0 → takes c a ≡ 0 → next s c .world .device .pending ≡ s .world .device .pending
+abbrev pub PendingStays : World → Call → Outcome → Type 0
+PendingStays w c o = asks (o .answer) ≡ 0 → takes c (o .answer) ≡ 0 → o .world .device .pending ≡ w .device .pending
 
 -- what is asked for is due: the blocks of an unplug are all plugged, the block of an unplug-all is the lowest that is plugged, and the first row of a creation has no mapping; so what the host has done is not asked for again
 unfoldable pub due : Pending → List Bool → List MapRow → (n : ℕ) → Bool
