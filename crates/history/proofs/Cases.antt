@@ -27,13 +27,15 @@ use Rattle.resize.specs.declared.Growth.the-variants.{Asks, Settled}
 use Rattle.resize.specs.Resize.{growthOf}
 use Rattle.change.specs.declared.Change.{Change}
 use Rattle.change.specs.declared.Change.the-variants.{Legal, Outside, WrongState, NoHost}
-use Rattle.change.proofs.Laws.{legal-is}
+use Rattle.change.specs.declared.HostRange.the-variants.{At as HostAt}
+use Rattle.change.specs.Change.{hostOf}
+use Rattle.change.proofs.Laws.{legal-is, legal-whole}
 use Rattle.step.specs.declared.Answer.the-variants.{Done}
 use Rattle.step.specs.World.{World, Guest, Outcome}
 use Rattle.step.specs.Step.{blockSize, region, usable, plugged, requested, start, several, regionBlocks, regionRows, deviceOf}
 use Rattle.step.specs.Step.{refused, unserved, nack, error, served, plugs, asksDiscard, stops, asksOne, endsAll, newUsable, sizes, asksCreate, placed}
 use Rattle.step.specs.Step.{tablesFit, readyRefusal, unplacedRefusal, pendingRefusal, unless, changing, plugAs, plug, unplugAs, oneAs, nextAs, unplugAll, stateResp, serve, resizes, resized, placing, place, setRequestedSize, readConfig, writeConfig}
-use Rattle.record.proofs.Laws.{Parts, parts as shaped-is}
+use Rattle.record.proofs.Laws.{Parts, parts as shaped-is, whole as shaped-when, shaped-is as facts-of}
 use Rattle.history.proofs.Shaped.{size-within, block-is}
 
 module _ {A : Type 0} (P : A → Type 0) where
@@ -126,6 +128,22 @@ lies w addr count wanted first offset host s e =
       state = l .not-wanted;
     }
 
+-- .. its offset, and the host address that its row gives: what a discard of it is asked for with
+pub record Located (w : World) (first count offset host : ℕ) : Type 0 where
+  pub offset-is : offset ≡ bytesOf (blockSize w) first
+  pub host-is : hostOf (several w) (w .rows) offset (bytesOf (blockSize w) count) ≡ HostAt (record { 0 = host })
+
+located : (w : World) (addr count : ℕ) (wanted : Bool) (first : ℕ) (offset : RegionOffset) (host : HostAddr) → Parts (w .device) → changing w addr count wanted ≡ Legal first offset host
+    → Located w first count (offset .0) (host .0)
+located w addr count wanted first offset host s e =
+    let l = legal-is (blockSize w) (start w) (usable w) (several w) addr count wanted (w .blocks) (w .rows) first offset host e in
+    let b = block-is (w .device) s in
+    let facts = facts-of (w .device) (shaped-when (w .device) s) in
+    record {
+      offset-is = legal-whole (blockSize w) (start w) (usable w) (several w) addr count wanted (w .blocks) (w .rows) first offset host (omega arith) (rw b (facts .start-blocks)) l .offset-of;
+      host-is = l .host-at;
+    }
+
 -- ---- plug, unplug, unplug-all, and the kinds of request
 module _ (P : Outcome → Type 0) (w : World) (s : Parts (w .device)) (status : ℕ) (g : Guest) where
   pub plug-cases : (addr count : ℕ)
@@ -143,7 +161,8 @@ module _ (P : Outcome → Type 0) (w : World) (s : Parts (w .device)) (status : 
       go (NoHost part) e h = bad
 
   pub unplug-cases : (addr count : ℕ)
-      → ((first offset host : ℕ) → bytesOf (blockSize w) count ≤ plugged w → Lies w addr count false first offset → P (asksDiscard w first count offset host status g))
+      → ((first offset host : ℕ) → bytesOf (blockSize w) count ≤ plugged w → Lies w addr count false first offset → Located w first count offset host
+      → P (asksDiscard w first count offset host status g))
       → ((first offset : ℕ) → plugged w < bytesOf (blockSize w) count → Lies w addr count false first offset → P (refused 12 w (g .mem)))
       → P (served error status w g) → P (unplugAs (changing w addr count false) w count status g)
   unfolding unplugAs
@@ -154,28 +173,30 @@ module _ (P : Outcome → Type 0) (w : World) (s : Parts (w .device)) (status : 
           let l = lies w addr count false first offset host s e in
           by-cond P (ltb (plugged w) (bytesOf (blockSize w) count)) _ _
           (λ h. spoiled first (offset .0) (ltb-true (plugged w) (bytesOf (blockSize w) count) h) l)
-          (λ h. legal first (offset .0) (host .0) (ltb-false (plugged w) (bytesOf (blockSize w) count) h) l)
+          (λ h. legal first (offset .0) (host .0) (ltb-false (plugged w) (bytesOf (blockSize w) count) h) l (located w addr count false first offset host s e))
       go (Outside part) e = bad
       go WrongState e = bad
       go (NoHost part) e = bad
 
   one-cases : (block : ℕ)
-      → ((offset host : ℕ) → offset ≡ bytesOf (blockSize w) block → P (asksOne w block offset host status g))
+      → ((offset host : ℕ) → Located w block 1 offset host → P (asksOne w block offset host status g))
       → P (stops w status g) → P (oneAs (changing w (start w + bytesOf (blockSize w) block) 1 false) w block status g)
   unfolding oneAs
   one-cases block asks stop = go (changing w (start w + bytesOf (blockSize w) block) 1 false) refl
     where
       go : (c : Change) → changing w (start w + bytesOf (blockSize w) block) 1 false ≡ c → P (oneAs c w block status g)
       go (Legal first offset host) e =
-          let l = lies w (start w + bytesOf (blockSize w) block) 1 false first offset host s e in
-          asks (offset .0) (host .0) (omega (arith, l .offset-is))
+          let addr = start w + bytesOf (blockSize w) block in
+          let l = lies w addr 1 false first offset host s e in
+          let at = located w addr 1 false first offset host s e in
+          asks (offset .0) (host .0) (record { offset-is = omega (arith, l .offset-is); host-is = at .host-is })
       go (Outside part) e = stop
       go WrongState e = stop
       go (NoHost part) e = stop
 
   pub unplug-all-cases : (from : ℕ)
       → (nextSet (w .blocks) from (regionBlocks w) ≡ NoneSet → P (endsAll w status g))
-      → ((block offset host : ℕ) → nextSet (w .blocks) from (regionBlocks w) ≡ At block → offset ≡ bytesOf (blockSize w) block → P (asksOne w block offset host status g))
+      → ((block offset host : ℕ) → nextSet (w .blocks) from (regionBlocks w) ≡ At block → Located w block 1 offset host → P (asksOne w block offset host status g))
       → P (stops w status g) → P (unplugAll w from status g)
   unfolding nextAs
   unplug-all-cases from ends asks stop = go (nextSet (w .blocks) from (regionBlocks w)) refl

@@ -40,14 +40,14 @@ module _ (w : World) (es : List Event) (h : Inv w es) where
   unfolding discarding Asked
   kept =
       record {
-        refuses = λ c n bytes _ _. h;
+        refuses = λ c n _ _. h;
         reads = λ offset buffer bytes. h;
         writes = λ offset buffer. h;
         unserves = λ a reason. h;
         responds = λ a resp. h;
         plugs-range = λ a addr count first offset _ l.
             inv-plugs w es h (a .is-placed) (a .status) (a .guest) (a .entry .is-long) first count (a .entry .is-idle) (l .ends) (l .state);
-        asks-range = λ a addr count first offset host _ l. still w es h _ _ _ _ _ _ (λ q. clash (a .is-placed) q) (l .state);
+        asks-range = λ a addr count first offset host _ l _. still w es h _ _ _ _ _ _ (λ q. clash (a .is-placed) q) (l .state);
         spoils = λ a addr count first offset _ _. h;
         ends-at-once = λ a r. inv-ends w es h (a .is-placed) (a .status) (a .guest) r;
         asks-first = λ a block offset host r _. still w es h _ _ _ _ _ _ (λ q. clash (a .is-placed) q) r;

@@ -21,7 +21,7 @@ use Rattle.step.specs.Step.{region, usable, several, regionBlocks, regionRows, 
 use Rattle.history.specs.History.{Event, Story, next, after, begun}
 use Rattle.history.specs.Rules.{InEveryRun, FromEveryWorld, asks, taken, takes, waits, askedIn, takenIn, EachAskedAnswered, PendingStays, due, AsksWhatIsDue}
 use Rattle.record.proofs.Laws.{Parts}
-use Rattle.history.proofs.Shaped.{clash}
+use Rattle.history.proofs.Shaped.{clash, idle-nothing}
 use Rattle.history.proofs.Invariant.{Inv, Asked}
 use Rattle.history.proofs.Calls.{Grows, resizedBy, placedBy, Endings, each-call}
 use Rattle.history.proofs.Demand3.{invariant, discard-ends}
@@ -53,13 +53,13 @@ unfolding asks takes taken waits
 balanced w =
     let p = w .device .pending in
     record {
-      refuses = λ c n bytes h _. rw (refused-takes c n h);
+      refuses = λ c n h _. rw (refused-takes c n h);
       reads = λ offset buffer bytes. refl;
       writes = λ offset buffer. refl;
       unserves = λ a reason. refl;
       responds = λ a resp. refl;
       plugs-range = λ a addr count first offset _ _. refl;
-      asks-range = λ a addr count first offset host _ _. rw (idle-waits p (a .entry .is-idle));
+      asks-range = λ a addr count first offset host _ _ _. rw (idle-waits p (a .entry .is-idle));
       spoils = λ a addr count first offset _ _. refl;
       ends-at-once = λ a r. rw (idle-waits p (a .entry .is-idle));
       asks-first = λ a block offset host r _. rw (idle-waits p (a .entry .is-idle));
@@ -91,12 +91,6 @@ each-asked-answered d fresh cs =
     omega (arith, always-balanced (begun d) cs)
 
 -- ---- a pending call stays but by a question or an answer
-idle-nothing : (p : Pending) → isIdle p ≡ true → Nothing ≡ p
-idle-nothing Nothing e = refl
-idle-nothing (Create first last) e = clash e refl
-idle-nothing (Discard first count status) e = clash e refl
-idle-nothing (DiscardOne block status) e = clash e refl
-
 abbrev Stays : World → Call → Outcome → List Event → Type 0
 Stays w c o new = PendingStays w c o
 
@@ -105,13 +99,13 @@ unfolding asks takes taken
 stays w =
     let p = w .device .pending in
     record {
-      refuses = λ c n bytes _ _ _ _. refl;
+      refuses = λ c n _ _ _ _. refl;
       reads = λ offset buffer bytes _ _. refl;
       writes = λ offset buffer _ _. refl;
       unserves = λ a reason _ _. refl;
       responds = λ a resp _ _. refl;
       plugs-range = λ a addr count first offset _ _ _ _. refl;
-      asks-range = λ a addr count first offset host _ _ asked _. absurd (omega arith);
+      asks-range = λ a addr count first offset host _ _ _ asked _. absurd (omega arith);
       spoils = λ a addr count first offset _ _ _ _. refl;
       ends-at-once = λ a r _ _. idle-nothing p (a .entry .is-idle);
       asks-first = λ a block offset host r _ asked _. absurd (omega arith);
@@ -166,13 +160,13 @@ row-due : (w : World) → rowDue (w .device .pending) (w .rows) ≡ true → End
 unfolding rowDue
 row-due w h =
     record {
-      refuses = λ c n bytes _ _. h;
+      refuses = λ c n _ _. h;
       reads = λ offset buffer bytes. h;
       writes = λ offset buffer. h;
       unserves = λ a reason. h;
       responds = λ a resp. h;
       plugs-range = λ a addr count first offset _ _. h;
-      asks-range = λ a addr count first offset host _ _. refl;
+      asks-range = λ a addr count first offset host _ _ _. refl;
       spoils = λ a addr count first offset _ _. h;
       ends-at-once = λ a r. refl;
       asks-first = λ a block offset host r _. refl;

@@ -81,7 +81,7 @@ module _ (w : World) (s : Parts (w .device)) where
       let over = awaiting d s Nothing (nothing-ok _ _ _ _) in
       let positive = region-positive (region w) (d .alignment) (s .region) in
       record {
-        refuses = λ c n bytes _ _. s;
+        refuses = λ c n _ _. s;
         reads = λ offset buffer bytes. s;
         writes = λ offset buffer. s;
         unserves = λ a reason. s;
@@ -90,7 +90,7 @@ module _ (w : World) (s : Parts (w .device)) where
             reshaped d s _ _ _ _ (d .placed) (d .pending) (s .start) (s .usable)
             (more-ok (blockSize w) (plugged w) (region w) (s .plugged) count (requested w) within (size-within (blockSize w) (requested w) (region w) (s .requested)))
             (s .requested) (idle-ok (d .pending) _ _ _ _ (a .entry .is-idle));
-        asks-range = λ a addr count first offset host enough l. awaiting d s _ (discard-ok _ _ _ _ first count _ (l .ends) enough);
+        asks-range = λ a addr count first offset host enough l _. awaiting d s _ (discard-ok _ _ _ _ first count _ (l .ends) enough);
         spoils = λ a addr count first offset _ _. s;
         ends-at-once = λ a r. reshaped d s _ _ 0 _ (d .placed) Nothing (s .start) (s .usable) (none-ok _ _) (s .requested) (nothing-ok _ _ _ _);
         asks-first = λ a block offset host r _. awaiting d s _ (one-ok _ _ _ _ block _ (next-at (w .blocks) 0 (regionBlocks w) block r .before-end));

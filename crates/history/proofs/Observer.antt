@@ -17,16 +17,11 @@ use Rattle.record.specs.Shape.{isIdle}
 use Rattle.record.specs.Changes.{requestedTo}
 use Rattle.step.specs.World.{World, Guest, Call, Place, SetRequestedSize, Request, HostAnswer, ReadConfig, WriteConfig, Outcome}
 use Rattle.step.specs.Step.{blockSize, deviceOf, cleared, placed, coveredBy, step, request, hostAnswer}
-use Rattle.history.specs.History.{Open, NoRequest, Unplugging, UnpluggingAll, openedByType, openedByRequest, goesOn, openedBy, askedBy, openAfter}
+use Rattle.history.specs.History.{NoRequest, Unplugging, UnpluggingAll, openedByType, openedByRequest, goesOn, openedBy, askedBy, openAfter}
+unfoldable pub use Rattle.history.specs.Questions.{openOf}
 use Rattle.record.proofs.Laws.{Parts}
 use Rattle.history.proofs.Shaped.{block-is, cleared-shaped, clash}
 use Rattle.history.proofs.Cases.{by-cond, Entered, on-ready, on-unplaced, on-pending, plug-cases, unplug-cases, unplug-all-cases, serve-cases, resized-cases, placing-cases, place-cases, size-cases, read-cases, write-cases}
-
-unfoldable pub openOf : Pending → Open
-openOf Nothing = NoRequest
-openOf (Create first last) = NoRequest
-openOf (Discard first count status) = Unplugging first count
-openOf (DiscardOne block status) = UnpluggingAll block
 
 pub idle-open : (p : Pending) → isIdle p ≡ true → openOf p ≡ NoRequest
 unfolding openOf
@@ -60,12 +55,12 @@ module _ (w : World) where
       serve-cases P w req (status .0) g
       (λ _. plug-cases P w (e .is-shaped) (status .0) g (req .addr .0) (req .«nb_blocks») (λ _ _ _ _. quiet) quiet quiet)
       (λ t₀ t₁. unplug-cases P w (e .is-shaped) (status .0) g (req .addr .0) (req .«nb_blocks»)
-      (λ first offset host _ l. rw (q, t₁, l .first-is))
+      (λ first offset host _ l _. rw (q, t₁, l .first-is))
       (λ _ _ _ _. refl)
       quiet)
       (λ t₀ t₁ t₂. unplug-all-cases P w (e .is-shaped) (status .0) g 0
       (λ _. refl)
-      (λ block offset host _ l. rw (q, t₁) (ap UnpluggingAll (offset-block w block offset (e .is-shaped) l)))
+      (λ block offset host _ l. rw (q, t₁) (ap UnpluggingAll (offset-block w block offset (e .is-shaped) (l .offset-is))))
       refl)
       (λ _ _ _. quiet)
       quiet
@@ -82,7 +77,7 @@ module _ (w : World) where
   sees-host (DiscardOne j status) g true host q e =
       unplug-all-cases (Sees (DiscardOne j status) (HostAnswer g true host)) (cleared w j) (cleared-shaped w j (e .is-shaped)) (status .0) g (j + 1)
       (λ _. refl)
-      (λ block offset _ _ l. ap UnpluggingAll (offset-block w block offset (e .is-shaped) l))
+      (λ block offset _ _ l. ap UnpluggingAll (offset-block w block offset (e .is-shaped) (l .offset-is)))
       refl
   sees-host (DiscardOne j status) g false host q e = refl
 

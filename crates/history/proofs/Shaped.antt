@@ -63,6 +63,13 @@ module _ (d : Device) (s : Parts d) where
   pub awaiting : (p : Pending) → pendingOk p (d .config .«block_size») (d .config .«region_size») (d .«multi_region») (d .config .«plugged_size») ≡ true → Parts (pendingTo p d)
   awaiting p p-fits = reshaped _ _ _ _ (d .placed) p (s .start) (s .usable) (s .plugged) (s .requested) p-fits
 
+-- idle is: nothing is pending
+pub idle-nothing : (p : Pending) → isIdle p ≡ true → Nothing ≡ p
+idle-nothing Nothing e = refl
+idle-nothing (Create first last) e = clash e refl
+idle-nothing (Discard first count status) e = clash e refl
+idle-nothing (DiscardOne block status) e = clash e refl
+
 -- nothing pending is always of the shape
 pub idle-ok : (p : Pending) (b region : ℕ) (several : Bool) (plugged : ℕ) → isIdle p ≡ true → pendingOk p b region several plugged ≡ true
 unfolding pendingOk

@@ -40,13 +40,13 @@ module _ (w : World) (s : Parts (w .device)) (es : List Event) (h : Inv w es) wh
   unfolding is12
   not-12 =
       record {
-        refuses = λ c n bytes _ spoilt. ne-eqb n 12 (λ e. clash (shaped-when (w .device) s) (spoilt e));
+        refuses = λ c n _ spoilt. ne-eqb n 12 (λ e. clash (shaped-when (w .device) s) (spoilt e));
         reads = λ offset buffer bytes. refl;
         writes = λ offset buffer. refl;
         unserves = λ a reason. refl;
         responds = λ a resp. refl;
         plugs-range = λ a addr count first offset _ _. refl;
-        asks-range = λ a addr count first offset host _ _. refl;
+        asks-range = λ a addr count first offset host _ _ _. refl;
         spoils = λ a addr count first offset less l.
             let fewer = used-unplugged (regionBlocks w) (w .blocks) (a .entry .is-long) first count (l .ends) (l .state) in
             let enough = are-counted (blockSize w) (plugged w) count _ _ fewer (h .told .count) in
@@ -101,13 +101,13 @@ moved : (w : World) → Endings w (IsMoved w)
 unfolding isSizeChange
 moved w =
     record {
-      refuses = λ c n bytes _ _. calm w c _ (omega arith) (omega arith) refl;
+      refuses = λ c n _ _. calm w c _ (omega arith) (omega arith) refl;
       reads = λ offset buffer bytes. calm w _ _ (omega arith) (omega arith) refl;
       writes = λ offset buffer. calm w _ _ (omega arith) (omega arith) refl;
       unserves = λ a reason. calm w _ _ (omega arith) (omega arith) refl;
       responds = λ a resp. calm w _ _ (omega arith) (omega arith) refl;
       plugs-range = λ a addr count first offset fits _. record { not-shrunk = omega arith; requested-kept = λ _. refl; within = λ more. fits };
-      asks-range = λ a addr count first offset host _ _. calm w _ _ (omega arith) (omega arith) refl;
+      asks-range = λ a addr count first offset host _ _ _. calm w _ _ (omega arith) (omega arith) refl;
       spoils = λ a addr count first offset _ _. calm w _ _ (omega arith) (omega arith) refl;
       ends-at-once = λ a r. calm w _ _ (omega arith) (omega arith) refl;
       asks-first = λ a block offset host r _. calm w _ _ (omega arith) (omega arith) refl;

@@ -75,13 +75,13 @@ module _ (w : World) (s : Facts (w .device)) where
   unfolding isSized
   config =
       record {
-        refuses = λ c n bytes _ _. quiet w _ refl refl refl (λ _. refl) refl;
+        refuses = λ c n _ _. quiet w _ refl refl refl (λ _. refl) refl;
         reads = λ offset buffer bytes. quiet w _ refl refl refl (λ _. refl) refl;
         writes = λ offset buffer. quiet w _ refl refl refl (λ _. refl) refl;
         unserves = λ a reason. quiet w _ refl refl refl (λ _. refl) refl;
         responds = λ a resp. quiet w _ refl refl refl (λ _. refl) refl;
         plugs-range = λ a addr count first offset _ _. quiet w _ refl refl refl (λ _. refl) refl;
-        asks-range = λ a addr count first offset host _ _. quiet w _ refl refl refl (λ _. refl) refl;
+        asks-range = λ a addr count first offset host _ _ _. quiet w _ refl refl refl (λ _. refl) refl;
         spoils = λ a addr count first offset _ _. quiet w _ refl refl refl (λ _. refl) refl;
         ends-at-once = λ a r. quiet w _ refl refl refl (λ _. refl) refl;
         asks-first = λ a block offset host r _. quiet w _ refl refl refl (λ _. refl) refl;

@@ -53,13 +53,13 @@ module _ (w : World) (es : List Event) (h : Inv w es) where
       let n = regionBlocks w in
       let bs = w .blocks in
       record {
-        refuses = λ c m bytes _ _ _. quiet w _ refl refl;
+        refuses = λ c m _ _ _. quiet w _ refl refl;
         reads = λ offset buffer bytes _. quiet w _ refl refl;
         writes = λ offset buffer _. quiet w _ refl refl;
         unserves = λ a reason _. quiet w _ refl refl;
         responds = λ a resp _. quiet w _ refl refl;
         plugs-range = λ a addr count first offset _ l _. record { blocks-by = refl; size-by = refl; all-could = could-plug n bs first count (l .ends) (l .state) };
-        asks-range = λ a addr count first offset host _ _ _. quiet w _ refl refl;
+        asks-range = λ a addr count first offset host _ _ _ _. quiet w _ refl refl;
         spoils = λ a addr count first offset _ _ _. quiet w _ refl refl;
         ends-at-once = λ a r _. record { blocks-by = refl; size-by = refl; all-could = could-end n bs r };
         asks-first = λ a block offset host r _ _. quiet w _ refl refl;

@@ -1,3 +1,5 @@
 pub mod History
 pub mod Rules
+pub mod Questions
+pub mod Refusals
 pub mod Standard

@@ -6,12 +6,15 @@ use mathlib.Core.List.{List, [], _∷_}
 use lib.Dec.{leb, ltb, eqb}
 use Rattle.units.specs.Numbers.{bytesOf}
 use Rattle.units.specs.declared.GuestAddr.{GuestAddr}
+use Rattle.units.specs.declared.RegionOffset.{RegionOffset}
+use Rattle.units.specs.declared.HostAddr.{HostAddr}
 use Rattle.bitmap.specs.Blocks.{blockAt, allAre, fill}
 use Rattle.rows.specs.declared.MapRow.{MapRow}
 use Rattle.rows.specs.Rows.{rowAt}
 use Rattle.record.specs.declared.Device.{Device}
 use Rattle.record.specs.declared.Pending.{Pending}
 use Rattle.record.specs.declared.Pending.the-variants.{Nothing, Create, Discard, DiscardOne}
+use Rattle.record.specs.declared.HostCall.the-variants.{Discard as DiscardCall}
 use Rattle.record.specs.Shape.{shapedOf}
 use Rattle.step.specs.declared.Answer.{Answer}
 use Rattle.step.specs.declared.Answer.the-variants.{Refused, Wants, Sized, Unserved, Served, Done}
@@ -64,6 +67,14 @@ PlugWithinRequested w c o = plugged w < plugged (o .world) → plugged (o .world
 -- it changes no block, no row and no plugged size, nor does raising it: rows change when the host has answered
 abbrev pub SizeChangeTouchesNothing : World → Call → Outcome → Type 0
 SizeChangeTouchesNothing w c o = isSizeChange c ≡ true → Untouched w (o .world)
+
+-- a call that asks the host for no discard
+abbrev pub DiscardsNothing : World → Call → Type 0
+DiscardsNothing w c = (offset : RegionOffset) (size : ℕ) (host : HostAddr) → step w c .answer ≡ Wants (DiscardCall offset size host) → ⊥
+
+-- so is a size change, whatever its number of MiB
+abbrev pub SizeChangeDiscardsNothing : Type 0
+SizeChangeDiscardsNothing = (w : World) (mib : ℕ) → DiscardsNothing w (SetRequestedSize mib)
 
 -- where the usable size is all that the requested size is worth (a creation that failed leaves it behind), lowering leaves it as it is and asks the host for nothing
 abbrev pub LoweringAsksNothing : World → Call → Outcome → Type 0
