@@ -9,6 +9,7 @@ pub mod Sizes
 pub mod SizeChange
 pub mod Whole
 pub mod HostCalls
+pub mod Questions
 pub mod Example
 pub mod Standard
 pub mod StandardRuns

@@ -1,0 +1,132 @@
+-- The host is asked for exactly what is then pending, and for a discard only by an unplug or an unplug-all; so a size change discards nothing.
+use Prim.Native.Nat.{ℕ, _+_, _*_}
+use mathlib.Core.Path.{_≡_, refl, ap, sym}
+use mathlib.Core.Bool.{Bool, true, false, cond}
+use mathlib.Core.List.{List}
+use native.Mathlib.Omega.{arith}
+use Rattle.units.specs.Numbers.{bytesOf, mapRegion}
+use Rattle.units.specs.declared.GuestAddr.{GuestAddr}
+use Rattle.rows.specs.Rows.{rowAt}
+use Rattle.rows.specs.declared.MapRow.{MapRow}
+use Rattle.record.specs.declared.HostCall.{HostCall}
+use Rattle.record.specs.declared.HostCall.the-variants.{Create as CreateCall, Discard as DiscardCall}
+use Rattle.resize.specs.declared.Growth.the-variants.{Asks, Settled}
+use Rattle.resize.specs.Resize.{growthOf}
+use Rattle.resize.proofs.Laws.{asking}
+use Rattle.change.specs.declared.HostRange.the-variants.{At}
+use Rattle.change.specs.Change.{hostOf}
+use Rattle.step.specs.declared.Answer.{Answer}
+use Rattle.step.specs.declared.Answer.the-variants.{Wants}
+use Rattle.step.specs.World.{World, Call, Outcome}
+use Rattle.step.specs.Step.{blockSize, region, start, several}
+use Rattle.history.specs.History.{Event, after, begun}
+use Rattle.history.specs.Rules.{InEveryRun, FromEveryWorld, DiscardsNothing, SizeChangeDiscardsNothing, asks}
+use Rattle.history.specs.Questions.{IsDiscard, creationDue, IsCreation, WaitsFor, AsksForPending, isUnplug, isUnplugAll, mayDiscard, openOf, OnlyUnplugsDiscard, OnlyOpenUnplugsDiscard, OthersDiscardNothing}
+use Rattle.history.proofs.Shaped.{clash}
+use Rattle.history.proofs.Calls.{Endings, each-call}
+use Rattle.history.proofs.Demand3.{open-is}
+
+-- ---- the questions
+-- an answer that is no question
+pub silent : {A : Type 0} (a : Answer) (call : HostCall) → asks a ≡ 0 → a ≡ Wants call → A
+unfolding asks
+silent a call quiet e = let one : asks a ≡ 1 = ap asks e in absurd (omega arith)
+
+discard-is : (w : World) (first count offset host : ℕ) (call : HostCall) → offset ≡ bytesOf (blockSize w) first
+    → hostOf (several w) (w .rows) offset (bytesOf (blockSize w) count) ≡ At (record { 0 = host })
+    → Wants (DiscardCall (record { 0 = offset }) (bytesOf (blockSize w) count) (record { 0 = host })) ≡ Wants call → IsDiscard w first count call
+discard-is w first count offset host call at maps e =
+    let q : DiscardCall (record { 0 = offset }) (bytesOf (blockSize w) count) (record { 0 = host }) ≡ call = cc in
+    record { host = record { 0 = host }; host-is = rw at at maps; call-is = sym (rw at at q) }
+
+creation-is : (w : World) (i last size : ℕ) (call : HostCall) → creationDue w ≡ Asks i last size
+    → Wants (CreateCall (record { 0 = start w + i * mapRegion }) size (rowAt (w .rows) i .slot)) ≡ Wants call → IsCreation w i last call
+creation-is w i last size call due e = record { size = size; is-due = due; call-is = cc }
+
+-- the growth of the usable size asks only where there are several regions
+grows-due : (several placed : Bool) (region usable new : ℕ) (rows : List MapRow) (i last size : ℕ) → growthOf region several usable new rows ≡ Asks i last size
+    → cond several (growthOf region several usable new rows) (cond placed Settled (Asks 0 0 region)) ≡ Asks i last size
+grows-due true placed region usable new rows i last size g = g
+grows-due false placed region usable new rows i last size g = clash (asking region false usable new rows i last size g .regions) refl
+
+-- ---- each ending
+record Asked (w : World) (c : Call) (o : Outcome) : Type 0 where
+  pub is-pending : AsksForPending w c o
+  pub by-unplug : OnlyUnplugsDiscard w c o
+
+abbrev IsAsked : World → Call → Outcome → List Event → Type 0
+IsAsked w c o new = Asked w c o
+
+quiet : (w : World) (c : Call) (o : Outcome) → asks (o .answer) ≡ 0 → Asked w c o
+quiet w c o none = record { is-pending = λ call e. silent (o .answer) call none e; by-unplug = λ offset size host e. silent (o .answer) _ none e }
+
+creates : (w : World) (c : Call) (o : Outcome) (guest : GuestAddr) (size slot : ℕ) → o .answer ≡ Wants (CreateCall guest size slot) → AsksForPending w c o → Asked w c o
+creates w c o guest size slot is p = record { is-pending = p; by-unplug = λ offset n host e. let z : _≡_ {A = ℕ} 0 1 = cc in absurd (omega arith) }
+
+asked : (w : World) → Endings w (IsAsked w)
+unfolding asks WaitsFor isUnplug isUnplugAll mayDiscard openOf
+asked w =
+    record {
+      refuses = λ c n _ _. quiet w c _ refl;
+      reads = λ offset buffer bytes. quiet w _ _ refl;
+      writes = λ offset buffer. quiet w _ _ refl;
+      unserves = λ a reason. quiet w _ _ refl;
+      responds = λ a resp. quiet w _ _ refl;
+      plugs-range = λ a addr count first offset _ _. quiet w _ _ refl;
+      asks-range = λ a addr count first offset host _ _ at.
+          record {
+            is-pending = λ call e. discard-is _ first count offset host call (at .offset-is) (at .host-is) e;
+            by-unplug = λ _ _ _ _. ap isUnplug (a .of-type);
+          };
+      spoils = λ a addr count first offset _ _. quiet w _ _ refl;
+      ends-at-once = λ a r. quiet w _ _ refl;
+      asks-first = λ a block offset host r at.
+          record {
+            is-pending = λ call e. discard-is _ block 1 offset host call (at .offset-is) (at .host-is) e;
+            by-unplug = λ _ _ _ _. ap isUnplug (a .of-type);
+          };
+      stops-at-once = λ a. quiet w _ _ refl;
+      maps = λ i last a. quiet w _ _ refl;
+      create-fails = λ i last a. quiet w _ _ refl;
+      unplugs-range = λ first count status a. quiet w _ _ refl;
+      discard-fails = λ first count status a. quiet w _ _ refl;
+      ends-all = λ j status a r. quiet w _ _ refl;
+      asks-next = λ j status a block offset host r at.
+          record {
+            is-pending = λ call e. discard-is _ block 1 offset host call (at .offset-is) (at .host-is) e;
+            by-unplug = λ _ _ _ _. ap (λ p. isUnplugAll (openOf p)) (a .waits);
+          };
+      stops-after = λ j status a. quiet w _ _ refl;
+      one-fails = λ j status a. quiet w _ _ refl;
+      resizes = λ a. quiet w _ _ refl;
+      resize-asks = λ a i last size g. creates w _ _ _ _ _ refl (λ call e. creation-is _ i last size call (grows-due (several w) (w .device .placed) _ _ _ _ i last size g) e);
+      places = λ a. quiet w _ _ refl;
+      place-asks = λ a i last size g. creates w _ _ _ _ _ refl (λ call e. creation-is _ i last size call (grows-due (several w) (w .device .placed) _ _ _ _ i last size g) e);
+      place-asks-whole = λ a single. creates w _ _ _ _ _ refl (λ call e. creation-is _ 0 0 (region w) call (rw (single, a .not-placed)) e);
+    }
+
+pub asks-for-pending : FromEveryWorld AsksForPending
+asks-for-pending w c = each-call w (IsAsked w) (asked w) c .is-pending
+
+pub only-unplugs-discard : FromEveryWorld OnlyUnplugsDiscard
+only-unplugs-discard w c = each-call w (IsAsked w) (asked w) c .by-unplug
+
+pub only-open-unplugs-discard : InEveryRun OnlyOpenUnplugsDiscard
+only-open-unplugs-discard d fresh cs c = rw (open-is d fresh cs) at (only-unplugs-discard (after (begun d) cs .world) c)
+
+-- ---- the calls that discard nothing
+never : (w : World) (c : Call) → mayDiscard (openOf (w .device .pending)) c ≡ false → DiscardsNothing w c
+never w c no-discard offset size host e = clash (only-unplugs-discard w c offset size host e) no-discard
+
+pub size-change-discards-nothing : SizeChangeDiscardsNothing
+unfolding mayDiscard
+size-change-discards-nothing w mib = never w _ refl
+
+pub others-discard-nothing : (w : World) → OthersDiscardNothing w
+unfolding mayDiscard
+others-discard-nothing w =
+    record {
+      placing = λ at size slots bs rows. never w _ refl;
+      reading = λ offset buffer. never w _ refl;
+      writing = λ offset buffer. never w _ refl;
+    }
