@@ -10,6 +10,7 @@ pub mod SizeChange
 pub mod Whole
 pub mod HostCalls
 pub mod Questions
+pub mod Refusals
 pub mod Example
 pub mod Standard
 pub mod StandardRuns
