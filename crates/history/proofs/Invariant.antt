@@ -110,6 +110,9 @@ idle-quiet (Create first last) e = refl
 idle-quiet (Discard first count status) e = clash e refl
 idle-quiet (DiscardOne block status) e = clash e refl
 
+plug-count : (b s c a n : ℕ) → n ≡ a + c → s ≡ a * b → s + c * b ≡ n * b
+plug-count b s c a n p q = rw (q, p) (omega arith)
+
 unplug-count : (b s c a n : ℕ) → n + c ≡ a → s ≡ a * b → s - c * b ≡ n * b
 unplug-count b s c a n p q = rw (q, ← p) (omega arith)
 
@@ -126,7 +129,7 @@ module _ (w : World) (es : List Event) (h : Inv w es) (there : w .device .placed
         record {
           told = record {
             bits = λ i l. more (w .blocks) es i (omega arith) (h .told .bits i l) (PlugAck f c) f c true refl refl;
-            count = rw (used-plugged (regionBlocks w) (w .blocks) long f c ends state) (omega (arith, h .told .count));
+            count = plug-count (blockSize w) _ _ _ _ (used-plugged (regionBlocks w) (w .blocks) long f c ends state) (h .told .count);
           };
           early = λ p. clash there p;
           asked = quiet-asks (w .device .pending) _ _ (idle-quiet (w .device .pending) quiet);
