@@ -30,86 +30,86 @@ use Rattle.history.proofs.Demand3.{open-is}
 -- an answer that is no question
 pub silent : {A : Type 0} (a : Answer) (call : HostCall) → asks a ≡ 0 → a ≡ Wants call → A
 unfolding asks
-silent a call quiet e = let one : asks a ≡ 1 = ap asks e in absurd (omega arith)
+silent a call h e = let one : asks a ≡ 1 = ap asks e in absurd (omega arith)
 
-discard-is : (w : World) (first count offset host : ℕ) (call : HostCall) → offset ≡ bytesOf (blockSize w) first
+discard-asked : (w : World) (first count offset host : ℕ) (call : HostCall) → offset ≡ bytesOf (blockSize w) first
     → hostOf (several w) (w .rows) offset (bytesOf (blockSize w) count) ≡ At (record { 0 = host })
     → Wants (DiscardCall (record { 0 = offset }) (bytesOf (blockSize w) count) (record { 0 = host })) ≡ Wants call → IsDiscard w first count call
-discard-is w first count offset host call at maps e =
+discard-asked w first count offset host call at maps e =
     let q : DiscardCall (record { 0 = offset }) (bytesOf (blockSize w) count) (record { 0 = host }) ≡ call = cc in
     record { host = record { 0 = host }; host-is = rw at at maps; call-is = sym (rw at at q) }
 
-creation-is : (w : World) (i last size : ℕ) (call : HostCall) → creationDue w ≡ Asks i last size
+creation-asked : (w : World) (i last size : ℕ) (call : HostCall) → creationDue w ≡ Asks i last size
     → Wants (CreateCall (record { 0 = start w + i * mapRegion }) size (rowAt (w .rows) i .slot)) ≡ Wants call → IsCreation w i last call
-creation-is w i last size call due e = record { size = size; is-due = due; call-is = cc }
+creation-asked w i last size call due e = record { size = size; is-due = due; call-is = cc }
 
 -- the growth of the usable size asks only where there are several regions
-grows-due : (several placed : Bool) (region usable new : ℕ) (rows : List MapRow) (i last size : ℕ) → growthOf region several usable new rows ≡ Asks i last size
+several-due : (several placed : Bool) (region usable new : ℕ) (rows : List MapRow) (i last size : ℕ) → growthOf region several usable new rows ≡ Asks i last size
     → cond several (growthOf region several usable new rows) (cond placed Settled (Asks 0 0 region)) ≡ Asks i last size
-grows-due true placed region usable new rows i last size g = g
-grows-due false placed region usable new rows i last size g = clash (asking region false usable new rows i last size g .regions) refl
+several-due true placed region usable new rows i last size g = g
+several-due false placed region usable new rows i last size g = clash (asking region false usable new rows i last size g .regions) refl
 
 -- ---- each ending
-record Asked (w : World) (c : Call) (o : Outcome) : Type 0 where
+record Question (w : World) (c : Call) (o : Outcome) : Type 0 where
   pub is-pending : AsksForPending w c o
   pub by-unplug : OnlyUnplugsDiscard w c o
 
-abbrev IsAsked : World → Call → Outcome → List Event → Type 0
-IsAsked w c o new = Asked w c o
+abbrev IsQuestion : World → Call → Outcome → List Event → Type 0
+IsQuestion w c o new = Question w c o
 
-quiet : (w : World) (c : Call) (o : Outcome) → asks (o .answer) ≡ 0 → Asked w c o
-quiet w c o none = record { is-pending = λ call e. silent (o .answer) call none e; by-unplug = λ offset size host e. silent (o .answer) _ none e }
+asks-none : (w : World) (c : Call) (o : Outcome) → asks (o .answer) ≡ 0 → Question w c o
+asks-none w c o none = record { is-pending = λ call e. silent (o .answer) call none e; by-unplug = λ offset size host e. silent (o .answer) _ none e }
 
-creates : (w : World) (c : Call) (o : Outcome) (guest : GuestAddr) (size slot : ℕ) → o .answer ≡ Wants (CreateCall guest size slot) → AsksForPending w c o → Asked w c o
-creates w c o guest size slot is p = record { is-pending = p; by-unplug = λ offset n host e. let z : _≡_ {A = ℕ} 0 1 = cc in absurd (omega arith) }
+asks-creation : (w : World) (c : Call) (o : Outcome) (guest : GuestAddr) (size slot : ℕ) → o .answer ≡ Wants (CreateCall guest size slot) → AsksForPending w c o → Question w c o
+asks-creation w c o guest size slot is p = record { is-pending = p; by-unplug = λ offset n host e. let z : _≡_ {A = ℕ} 0 1 = cc in absurd (omega arith) }
 
-asked : (w : World) → Endings w (IsAsked w)
+question : (w : World) → Endings w (IsQuestion w)
 unfolding asks WaitsFor isUnplug isUnplugAll mayDiscard openOf
-asked w =
+question w =
     record {
-      refuses = λ c n _ _. quiet w c _ refl;
-      reads = λ offset buffer bytes. quiet w _ _ refl;
-      writes = λ offset buffer. quiet w _ _ refl;
-      unserves = λ a reason. quiet w _ _ refl;
-      responds = λ a resp. quiet w _ _ refl;
-      plugs-range = λ a addr count first offset _ _. quiet w _ _ refl;
+      refuses = λ c n _ _. asks-none w c _ refl;
+      reads = λ offset buffer bytes. asks-none w _ _ refl;
+      writes = λ offset buffer. asks-none w _ _ refl;
+      unserves = λ a reason. asks-none w _ _ refl;
+      responds = λ a resp. asks-none w _ _ refl;
+      plugs-range = λ a addr count first offset _ _. asks-none w _ _ refl;
       asks-range = λ a addr count first offset host _ _ at.
           record {
-            is-pending = λ call e. discard-is _ first count offset host call (at .offset-is) (at .host-is) e;
+            is-pending = λ call e. discard-asked _ first count offset host call (at .offset-is) (at .host-is) e;
             by-unplug = λ _ _ _ _. ap isUnplug (a .of-type);
           };
-      spoils = λ a addr count first offset _ _. quiet w _ _ refl;
-      ends-at-once = λ a r. quiet w _ _ refl;
+      spoils = λ a addr count first offset _ _. asks-none w _ _ refl;
+      ends-at-once = λ a r. asks-none w _ _ refl;
       asks-first = λ a block offset host r at.
           record {
-            is-pending = λ call e. discard-is _ block 1 offset host call (at .offset-is) (at .host-is) e;
+            is-pending = λ call e. discard-asked _ block 1 offset host call (at .offset-is) (at .host-is) e;
             by-unplug = λ _ _ _ _. ap isUnplug (a .of-type);
           };
-      stops-at-once = λ a. quiet w _ _ refl;
-      maps = λ i last a. quiet w _ _ refl;
-      create-fails = λ i last a. quiet w _ _ refl;
-      unplugs-range = λ first count status a. quiet w _ _ refl;
-      discard-fails = λ first count status a. quiet w _ _ refl;
-      ends-all = λ j status a r. quiet w _ _ refl;
+      stops-at-once = λ a. asks-none w _ _ refl;
+      maps = λ i last a. asks-none w _ _ refl;
+      create-fails = λ i last a. asks-none w _ _ refl;
+      unplugs-range = λ first count status a. asks-none w _ _ refl;
+      discard-fails = λ first count status a. asks-none w _ _ refl;
+      ends-all = λ j status a r. asks-none w _ _ refl;
       asks-next = λ j status a block offset host r at.
           record {
-            is-pending = λ call e. discard-is _ block 1 offset host call (at .offset-is) (at .host-is) e;
+            is-pending = λ call e. discard-asked _ block 1 offset host call (at .offset-is) (at .host-is) e;
             by-unplug = λ _ _ _ _. ap (λ p. isUnplugAll (openOf p)) (a .waits);
           };
-      stops-after = λ j status a. quiet w _ _ refl;
-      one-fails = λ j status a. quiet w _ _ refl;
-      resizes = λ a. quiet w _ _ refl;
-      resize-asks = λ a i last size g. creates w _ _ _ _ _ refl (λ call e. creation-is _ i last size call (grows-due (several w) (w .device .placed) _ _ _ _ i last size g) e);
-      places = λ a. quiet w _ _ refl;
-      place-asks = λ a i last size g. creates w _ _ _ _ _ refl (λ call e. creation-is _ i last size call (grows-due (several w) (w .device .placed) _ _ _ _ i last size g) e);
-      place-asks-whole = λ a single. creates w _ _ _ _ _ refl (λ call e. creation-is _ 0 0 (region w) call (rw (single, a .not-placed)) e);
+      stops-after = λ j status a. asks-none w _ _ refl;
+      one-fails = λ j status a. asks-none w _ _ refl;
+      resizes = λ a. asks-none w _ _ refl;
+      resize-asks = λ a i last size g. asks-creation w _ _ _ _ _ refl (λ call e. creation-asked _ i last size call (several-due (several w) (w .device .placed) _ _ _ _ i last size g) e);
+      places = λ a. asks-none w _ _ refl;
+      place-asks = λ a i last size g. asks-creation w _ _ _ _ _ refl (λ call e. creation-asked _ i last size call (several-due (several w) (w .device .placed) _ _ _ _ i last size g) e);
+      place-asks-whole = λ a single. asks-creation w _ _ _ _ _ refl (λ call e. creation-asked _ 0 0 (region w) call (rw (single, a .not-placed)) e);
     }
 
 pub asks-for-pending : FromEveryWorld AsksForPending
-asks-for-pending w c = each-call w (IsAsked w) (asked w) c .is-pending
+asks-for-pending w c = each-call w (IsQuestion w) (question w) c .is-pending
 
 pub only-unplugs-discard : FromEveryWorld OnlyUnplugsDiscard
-only-unplugs-discard w c = each-call w (IsAsked w) (asked w) c .by-unplug
+only-unplugs-discard w c = each-call w (IsQuestion w) (question w) c .by-unplug
 
 pub only-open-unplugs-discard : InEveryRun OnlyOpenUnplugsDiscard
 only-open-unplugs-discard d fresh cs c = rw (open-is d fresh cs) at (only-unplugs-discard (after (begun d) cs .world) c)

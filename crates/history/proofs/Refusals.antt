@@ -126,27 +126,27 @@ ten-in-size-change w mib call asked g host =
     (record { gives-10 = refl; requested-stands = idle-again (resizedBy a) (entry .is-idle) }))))
     asked
 
--- ---- placing, again
+-- ---- placing, tried again
 answer-of : (t : Bool) (o p : Outcome) → cond t o p .answer ≡ cond t (o .answer) (p .answer)
 answer-of true o p = refl
 answer-of false o p = refl
 
 module _ (w : World) (at : ℕ) (slots : List ℕ) (bs : List Bool) (rows : List MapRow) (s : shapedOf (w .device) ≡ true) (fits : startOk at (region w) (several w) (w .device .alignment) ≡ true) where
-  abbrev after : World
-  after = placed w at slots bs rows
+  abbrev tried : World
+  tried = placed w at slots bs rows
 
-  same-refusal : (n m : ℕ) → unplacedRefusal (after .device) n m ≡ unplacedRefusal (w .device) n m
+  same-refusal : (n m : ℕ) → unplacedRefusal (tried .device) n m ≡ unplacedRefusal (w .device) n m
   unfolding unplacedRefusal tablesFit
   same-refusal n m = rw (s, start-keeps (w .device) s at fits)
 
-  again : (c : Call) → isPlace c ≡ true → step after c .answer ≡ step w c .answer
+  placing-again : (c : Call) → isPlace c ≡ true → step tried c .answer ≡ step w c .answer
   unfolding step unless place isPlace
-  again (Place at′ size′ slots′ bs′ rows′) e = simp (same-refusal (length bs′) (length rows′), answer-of)
-  again (SetRequestedSize mib) e = clash e refl
-  again (Request guest table head) e = clash e refl
-  again (HostAnswer guest ok host) e = clash e refl
-  again (ReadConfig offset buffer) e = clash e refl
-  again (WriteConfig offset buffer) e = clash e refl
+  placing-again (Place at′ size′ slots′ bs′ rows′) e = simp (same-refusal (length bs′) (length rows′), answer-of)
+  placing-again (SetRequestedSize mib) e = clash e refl
+  placing-again (Request guest table head) e = clash e refl
+  placing-again (HostAnswer guest ok host) e = clash e refl
+  placing-again (ReadConfig offset buffer) e = clash e refl
+  placing-again (WriteConfig offset buffer) e = clash e refl
 
 -- the host's no to what placing has asked for
 failed : (w : World) (a : Placing w) (i last size : ℕ) (g : Guest) (host : ℕ) → Parts (asksCreate (placedBy a) i last size .world .device)
@@ -161,7 +161,7 @@ failed w a i last size g host s =
       gives-10 = refl;
       unplaced = a .not-placed;
       as-written = written;
-      tried-again = rw written (again w (a .at) (a .slots) (a .bits) (a .table) (shaped-when _ (e .is-shaped)) (a .start-fits));
+      tried-again = rw written (placing-again w (a .at) (a .slots) (a .bits) (a .table) (shaped-when _ (e .is-shaped)) (a .start-fits));
     })
 
 pub ten-in-placing : TenInPlacing
