@@ -17,7 +17,7 @@ use Rattle.record.specs.Shape.{isIdle}
 use Rattle.record.specs.Changes.{requestedTo}
 use Rattle.step.specs.World.{World, Guest, Call, Place, SetRequestedSize, Request, HostAnswer, ReadConfig, WriteConfig, Outcome}
 use Rattle.step.specs.Step.{blockSize, deviceOf, cleared, placed, coveredBy, step, request, hostAnswer}
-use Rattle.history.specs.History.{NoRequest, Unplugging, UnpluggingAll, openedByType, openedByRequest, goesOn, openedBy, askedBy, openAfter}
+use Rattle.history.specs.History.{NoRequest, UnpluggingAll, openedByType, openedByRequest, goesOn, openedBy, askedBy, openAfter}
 unfoldable pub use Rattle.history.specs.Questions.{openOf}
 use Rattle.record.proofs.Laws.{Parts}
 use Rattle.history.proofs.Shaped.{block-is, cleared-shaped, clash}

@@ -6,12 +6,10 @@ use mathlib.Core.List.{List, []}
 use native.Mathlib.Omega.{arith}
 use lib.ListN.{length}
 use borrow.Author.Tests.{le-leb}
-use Rattle.bitmap.specs.Blocks.{fill}
 use Rattle.bitmap.proofs.Laws.{fill-length}
 use Rattle.rows.specs.declared.MapRow.{MapRow}
-use Rattle.rows.specs.Rows.{laid}
 use Rattle.rows.proofs.Laws.{laid-length}
-use Rattle.record.specs.declared.Pending.the-variants.{Nothing, Create}
+use Rattle.record.specs.declared.Pending.the-variants.{Nothing}
 use Rattle.record.specs.Changes.{pendingTo}
 use Rattle.record.specs.Shape.{shapedOf, isIdle, startOk}
 use Rattle.record.proofs.Laws.{Parts, whole as shaped-when, start-keeps}

@@ -1,4 +1,4 @@
--- The rule of the mission, sentence by sentence: each is what holds of every call c, at every point s of every run or, where no run is needed, from every world w with the outcome o.
+-- The rule of the requested size, sentence by sentence: each is what holds of every call c, at every point s of every run or, where no run is needed, from every world w with the outcome o.
 use Prim.Native.Nat.{ℕ, _+_, _-_, _*_, _≤_, _<_}
 use mathlib.Core.Path.{_≡_}
 use mathlib.Core.Bool.{Bool, true, false, cond, _&&_}

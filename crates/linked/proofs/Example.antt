@@ -1,4 +1,4 @@
--- A run of the exported functions, words and bytes and all: a size change before placing, with tables that mean nothing; placing; the host's answer; a plug of two blocks; a config read. So what is said of every run is said of something. Computed, by `refl`.
+-- A run of the exported functions, words and bytes and all: a size change before placing, with tables that mean nothing; a placing that fails, and another; the host's answer; a plug of two blocks; a config read. So what is said of every run is said of something. Computed, by `refl`.
 use Prim.{tt}
 use Prim.Native.Nat.{ℕ}
 use mathlib.Core.Path.{_≡_, refl}
@@ -63,8 +63,29 @@ uses =
     }
     -- a creation is asked for; the tables that are lent hold anything
     ∷ record {
-      function = «jambcopper_place» 4294967296 268435456 (1 ∷ []);
+      function = «jambcopper_place» 8589934592 268435456 (9 ∷ []);
       before = lent (record-words 0 0 0 0 0) (0 ∷ 5 ∷ zeros 7) (replicate 8 255) (9 ∷ 7 ∷ 5 ∷ []) [];
+      after = lent (record-words 8589934592 0 0 0 1) (1 ∷ 0 ∷ 8589934592 ∷ 268435456 ∷ 9 ∷ zeros 4) (zeros 8) (9 ∷ 0 ∷ 0 ∷ []) [];
+      number = 0;
+    }
+    -- it fails: 10, and the start stays
+    ∷ record {
+      function = «jambcopper_host_answer» 0 false 0;
+      before = lent (record-words 8589934592 0 0 0 1) (zeros 9) (zeros 8) (9 ∷ 0 ∷ 0 ∷ []) [];
+      after = lent (record-words 8589934592 0 0 0 0) (0 ∷ 10 ∷ zeros 7) (zeros 8) (9 ∷ 0 ∷ 0 ∷ []) [];
+      number = 10;
+    }
+    -- the tables are not in use now, so others may be lent: 5
+    ∷ record {
+      function = «jambcopper_set_requested_size» 20;
+      before = lent (record-words 8589934592 0 0 0 0) (zeros 9) (6 ∷ []) [] [];
+      after = lent (record-words 8589934592 0 0 0 0) (0 ∷ 5 ∷ zeros 7) (6 ∷ []) [] [];
+      number = 5;
+    }
+    -- placing is tried again, elsewhere
+    ∷ record {
+      function = «jambcopper_place» 4294967296 268435456 (1 ∷ []);
+      before = lent (record-words 8589934592 0 0 0 0) (zeros 9) (replicate 8 255) (9 ∷ 7 ∷ 5 ∷ []) [];
       after = lent (record-words 4294967296 0 0 0 1) (1 ∷ 0 ∷ 4294967296 ∷ 268435456 ∷ 1 ∷ zeros 4) (zeros 8) (1 ∷ 0 ∷ 0 ∷ []) [];
       number = 0;
     }
@@ -90,22 +111,7 @@ uses =
 
 pub runs : Run (first (record-words 0 0 0 0 0)) uses
 unfolding record-words zeros asked uses Run callBy inUse onTables newTables holding Called lowBits blocks every fill firstSet value littleEndian part put requestAt responseBytes configFields configValues laidConfig configBytes virtqDesc descriptorAt descriptorAddr inside linkAt linkAfter withSecond withFirst parsed reaches delivered rowsOf rowWords mappingOf fillRows laid mapRegions alignmentOk regionOk sizeOk spanOf startOk severalOk pendingOk shapedOf newSize growthOf insideOf rangeOf hostSum hostIn hostOf legalAt changeIn stateIn stateOf tablesFit readyRefusal unplacedRefusal pendingRefusal unless plugAs plug unplugAs oneAs nextAs stateType serve request resizes placing place setRequestedSize hostAnswer readConfig step wordsOf pendingOf pendingFits isRecord recordOf decodedOf
-runs = (
-  record { lends = record { same-words = refl; same-bitmap = λ _ p. clash p refl; same-table = λ _ p. clash p refl }; promised = record { numbered = refl; recorded = refl; decodes = refl; told = refl; marked = refl; mapped = refl; left = refl } },
-  (
-    record { lends = record { same-words = refl; same-bitmap = λ p _. clash p refl; same-table = λ p _. clash p refl }; promised = record { numbered = refl; recorded = refl; decodes = refl; told = refl; marked = refl; mapped = refl; left = refl } },
-    (
-      record { lends = record { same-words = refl; same-bitmap = λ _ _. refl; same-table = λ _ _. refl }; promised = record { numbered = refl; recorded = refl; decodes = refl; told = refl; marked = refl; mapped = refl; left = refl } },
-      (
-        record { lends = record { same-words = refl; same-bitmap = λ _ _. refl; same-table = λ _ _. refl }; promised = record { numbered = refl; recorded = refl; decodes = refl; told = refl; marked = refl; mapped = refl; left = refl } },
-        (
-          record { lends = record { same-words = refl; same-bitmap = λ p _. clash p refl; same-table = λ p _. clash p refl }; promised = record { numbered = refl; recorded = refl; decodes = refl; told = refl; marked = refl; mapped = refl; left = refl } },
-          tt,
-        ),
-      ),
-    ),
-  ),
-)
+runs = (record { lends = record { same-words = refl; same-bitmap = λ _ p. clash p refl; same-table = λ _ p. clash p refl }; promised = record { numbered = refl; recorded = refl; decodes = refl; told = refl; marked = refl; mapped = refl; left = refl } }, (record { lends = record { same-words = refl; same-bitmap = λ p _. clash p refl; same-table = λ p _. clash p refl }; promised = record { numbered = refl; recorded = refl; decodes = refl; told = refl; marked = refl; mapped = refl; left = refl } }, (record { lends = record { same-words = refl; same-bitmap = λ _ _. refl; same-table = λ _ _. refl }; promised = record { numbered = refl; recorded = refl; decodes = refl; told = refl; marked = refl; mapped = refl; left = refl } }, (record { lends = record { same-words = refl; same-bitmap = λ _ p. clash p refl; same-table = λ _ p. clash p refl }; promised = record { numbered = refl; recorded = refl; decodes = refl; told = refl; marked = refl; mapped = refl; left = refl } }, (record { lends = record { same-words = refl; same-bitmap = λ p _. clash p refl; same-table = λ p _. clash p refl }; promised = record { numbered = refl; recorded = refl; decodes = refl; told = refl; marked = refl; mapped = refl; left = refl } }, (record { lends = record { same-words = refl; same-bitmap = λ _ _. refl; same-table = λ _ _. refl }; promised = record { numbered = refl; recorded = refl; decodes = refl; told = refl; marked = refl; mapped = refl; left = refl } }, (record { lends = record { same-words = refl; same-bitmap = λ _ _. refl; same-table = λ _ _. refl }; promised = record { numbered = refl; recorded = refl; decodes = refl; told = refl; marked = refl; mapped = refl; left = refl } }, (record { lends = record { same-words = refl; same-bitmap = λ p _. clash p refl; same-table = λ p _. clash p refl }; promised = record { numbered = refl; recorded = refl; decodes = refl; told = refl; marked = refl; mapped = refl; left = refl } }, tt))))))))
 
 -- all that a program sees of it: the events that it hears, newest first, and the bitmap and the plugged size that it holds
 pub record Seen : Type 0 where
@@ -116,7 +122,7 @@ pub record Seen : Type 0 where
 
 pub seen : Seen
 unfolding record-words zeros asked uses callBy inUse newTables holding heldAfter answerOf heardBy HasRoom AllHeard eventsHeard value littleEndian part requestAt virtqDesc descriptorAt descriptorAddr inside linkAt linkAfter withSecond withFirst parsed recordOf pendingOf ackToType ackToRequest ackToHost acknowledges discardOf reports ifAck unlessRefused eventsOf openedByType openedByRequest goesOn openedBy askedBy openAfter
-seen = record { all-heard = (omega arith, (omega arith, (omega arith, (omega arith, (tt, tt))))); hears = refl; marked = refl; sized = refl }
+seen = record { all-heard = (omega arith, (omega arith, (omega arith, (omega arith, (omega arith, (omega arith, (omega arith, (tt, tt)))))))); hears = refl; marked = refl; sized = refl }
 
 -- demand 3 says that these fit each other
 pub fits-each-other : Told (inHand (heldAfter (first (record-words 0 0 0 0 0)) uses)) (PlugAck 0 2 ∷ [])

@@ -2,6 +2,7 @@ pub mod Tables
 pub mod Steps
 pub mod Linked
 pub mod Heard
-pub mod Left
+pub mod Rules
+pub mod Refused
 pub mod Contracts
 pub mod Example

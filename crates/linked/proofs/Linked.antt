@@ -1,5 +1,5 @@
 -- A run of the exported functions is a run of the definition: from making on, whatever is lent besides what is held. So what holds of every run of the definition holds of what a program that links the library has in hand; demand 3 first.
-use Prim.Native.Nat.{ℕ, _+_, _≤_}
+use Prim.Native.Nat.{ℕ, _≤_}
 use mathlib.Core.Path.{_≡_, refl, ap, sym, _∙_}
 use mathlib.Core.Bool.{Bool, true, false, _||_}
 use mathlib.Core.List.{List, [], _∷_}
@@ -13,7 +13,7 @@ use Rattle.bitmap.specs.Blocks.{blocks}
 use Rattle.rows.specs.Rows.{rowsOf}
 use Rattle.little_endian.specs.Bytes.{put}
 use Rattle.record.specs.declared.Device.{Device}
-use Rattle.step.specs.World.{World, Call}
+use Rattle.step.specs.World.{World}
 use Rattle.step.specs.Step.{step}
 use Rattle.making.specs.declared.Node.{Node}
 use Rattle.making.specs.declared.Made.{Made}
@@ -24,16 +24,10 @@ use Rattle.words.specs.Record.{wordsOf, decodedOf}
 use Rattle.words.proofs.Laws.{encoded-decodes}
 use Rattle.capi.specs.Exports.{nodeOf, madeWords}
 use Rattle.history.specs.History.{Story, next, after, Fresh, begun, Told}
-use Rattle.history.specs.Rules.{InEveryRun, takenIn, waits, KeepsShape, Never12, UsableNeverShrinks, PlugWithinRequested, SizeChangeTouchesNothing, LoweringAsksNothing, WholeOrNotAtAll, PendingStays, AsksWhatIsDue}
 use Rattle.history.proofs.Cases.{by-cond}
 use Rattle.history.proofs.Demand3.{demand-3}
-use Rattle.history.proofs.KeepsShape.{keeps-shape}
-use Rattle.history.proofs.Sizes.{never-12, usable-never-shrinks, plug-within-requested}
-use Rattle.history.proofs.SizeChange.{size-change-touches-nothing, lowering-asks-nothing}
-use Rattle.history.proofs.Whole.{whole-or-not-at-all}
-use Rattle.history.proofs.HostCalls.{each-asked-answered, pending-stays, asks-what-is-due}
 use Rattle.history.proofs.Newly.{made-fresh}
-use Rattle.linked.specs.Runs.{Use, callOf, Held, leaves, One, Run, heldAfter, callsOf, Making, madeBy, Makes, first, Means, inHand, Steps, Linked, storyInHand, InEveryLinkedRun, RulesInHand}
+use Rattle.linked.specs.Runs.{Use, callOf, Held, leaves, One, Run, heldAfter, callsOf, Making, madeBy, Makes, first, Means, inHand, Steps, Linked}
 use Rattle.linked.proofs.Steps.{Tells, in-hand, one-goes}
 
 -- ---- a call on what is held is a step of the world in hand
@@ -87,15 +81,8 @@ module _ (words : List ℕ) (d : Device) (fresh : Fresh d) (is : decodedOf words
   pub run-steps : (u : Use) → One (heldAfter (first words) us) u → Steps (heldAfter (first words) us) u
   run-steps u one = steps-on (heldAfter (first words) us) (after (begun d) (callsOf us) .world) run-means u one
 
-  run-in-hand : storyInHand (heldAfter (first words) us) (after (begun d) (callsOf us)) ≡ after (begun d) (callsOf us)
-  run-in-hand = let s = after (begun d) (callsOf us) in ap (λ (w : World). record { world = w; «open» = s .«open»; events = s .events }) (in-hand (heldAfter (first words) us) (s .world) run-means)
-
   pub demand-3-in-hand : Told (inHand (heldAfter (first words) us)) (after (begun d) (callsOf us) .events)
   demand-3-in-hand = rw (in-hand (heldAfter (first words) us) (after (begun d) (callsOf us) .world) run-means) (demand-3 d fresh (callsOf us))
-
-  -- what holds of every run of the definition holds in hand
-  pub rule-in-hand : (P : Story → Call → Type 0) → InEveryRun P → (u : Use) → P (storyInHand (heldAfter (first words) us) (after (begun d) (callsOf us))) (callOf u)
-  rule-in-hand P rule u = rw run-in-hand (rule d fresh (callsOf us) (callOf u))
 
 -- ---- from making on
 module _ (m : Making) (words′ : List ℕ) (makes : Makes m words′) where
@@ -140,26 +127,3 @@ module _ (m : Making) (words′ : List ℕ) (makes : Makes m words′) where
         steps = λ us run u one. run-steps words′ d fresh is us run u one;
         demand-3 = λ us run. demand-3-in-hand words′ d fresh is us run;
       }
-
--- the rule's sentences, and all else that holds of every run of the definition
-pub linked-rule : (P : Story → Call → Type 0) → InEveryRun P → InEveryLinkedRun P
-linked-rule P rule m words′ makes d e us run u = rule-in-hand words′ d (is-fresh m words′ makes d e) (made-decodes m words′ makes d e) us run P rule u
-
-pub rules-in-hand : RulesInHand
-rules-in-hand =
-    record {
-      keeps-shape = linked-rule KeepsShape keeps-shape;
-      never-12 = linked-rule Never12 never-12;
-      usable-never-shrinks = linked-rule UsableNeverShrinks usable-never-shrinks;
-      plug-within-requested = linked-rule PlugWithinRequested plug-within-requested;
-      size-change-touches-nothing = linked-rule SizeChangeTouchesNothing size-change-touches-nothing;
-      lowering-asks-nothing = linked-rule LoweringAsksNothing lowering-asks-nothing;
-      whole-or-not-at-all = linked-rule WholeOrNotAtAll whole-or-not-at-all;
-      pending-stays = linked-rule PendingStays pending-stays;
-      asks-what-is-due = linked-rule AsksWhatIsDue asks-what-is-due;
-      each-asked-answered = λ m words′ makes d e us run.
-          let fresh = is-fresh m words′ makes d e in
-          let means = run-means words′ d fresh (made-decodes m words′ makes d e) us run in
-          let same = in-hand (heldAfter (first words′) us) (after (begun d) (callsOf us) .world) means in
-          each-asked-answered d fresh (callsOf us) ∙ ap (λ (w : World). takenIn (begun d .world) (callsOf us) + waits (w .device .pending)) (sym same);
-    }

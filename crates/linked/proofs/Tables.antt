@@ -33,13 +33,13 @@ unfolding isPlace
 keeps w =
     let same : SameLengths w w = record { same-rows = refl; same-blocks = refl } in
     record {
-      refuses = λ c n bytes _ _ _. same;
+      refuses = λ c n _ _ _. same;
       reads = λ offset buffer bytes _. same;
       writes = λ offset buffer _. same;
       unserves = λ a reason _. same;
       responds = λ a resp _. same;
       plugs-range = λ a addr count first offset _ _ _. record { same-rows = refl; same-blocks = fill-blocks (w .blocks) first count true };
-      asks-range = λ a addr count first offset host _ _ _. record { same-rows = refl; same-blocks = refl };
+      asks-range = λ a addr count first offset host _ _ _ _. record { same-rows = refl; same-blocks = refl };
       spoils = λ a addr count first offset _ _ _. same;
       ends-at-once = λ a r _. record { same-rows = refl; same-blocks = refl };
       asks-first = λ a block offset host r _ _. record { same-rows = refl; same-blocks = refl };

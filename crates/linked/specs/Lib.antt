@@ -1,2 +1,4 @@
 pub mod Runs
 pub mod Heard
+pub mod Rules
+pub mod Refused

@@ -1,6 +1,6 @@
 -- A run of the exported functions, as a program that links the library makes it: the arguments of each call, what it was lent, what it left there, and the number that it returned.
 use Prim.{Unit}
-use Prim.Native.Nat.{ℕ, _+_, _≤_}
+use Prim.Native.Nat.{ℕ, _≤_}
 use mathlib.Core.Path.{_≡_}
 use mathlib.Core.Bool.{Bool, true, false, not, _||_}
 use mathlib.Core.List.{List, [], _∷_}
@@ -19,8 +19,7 @@ use Rattle.words.specs.declared.Decoded.the-variants.{Is}
 use Rattle.words.specs.Record.{recordOf, decodedOf}
 use Rattle.step.specs.Answers.{answerWords, numberOf}
 use Rattle.capi.specs.Exports.{nodeOf, MadeIn, Lent, Exported}
-use Rattle.history.specs.History.{Story, after, begun, Told}
-use Rattle.history.specs.Rules.{askedIn, takenIn, waits, KeepsShape, Never12, UsableNeverShrinks, PlugWithinRequested, SizeChangeTouchesNothing, LoweringAsksNothing, WholeOrNotAtAll, PendingStays, AsksWhatIsDue}
+use Rattle.history.specs.History.{after, begun, Told}
 
 -- ---- one call
 -- the exported function, and its arguments that are no lent slices of a device
@@ -165,28 +164,3 @@ pub record Linked (m : Making) (words′ : List ℕ) : Type 0 where
   pub steps : (us : List Use) → Run (first words′) us → (u : Use) → One (heldAfter (first words′) us) u → Steps (heldAfter (first words′) us) u
   -- demand 3 holds of the world that is held, and of the events of the definition's run
   pub demand-3 : (us : List Use) → Run (first words′) us → Told (inHand (heldAfter (first words′) us)) (after (begun device) (callsOf us) .events)
-
--- ---- the rules
--- a point of the definition's run, with the world that is held in place of its own
-abbrev pub storyInHand : Held → Story → Story
-storyInHand h s = record { world = inHand h; «open» = s .«open»; events = s .events }
-
--- P holds in hand after every run of the exported functions, and of any call then
-abbrev pub InEveryLinkedRun : (Story → Call → Type 0) → Type 0
-InEveryLinkedRun P = (m : Making) (words′ : List ℕ) → Makes m words′ → (d : Device) → madeBy m ≡ MadeDevice d → (us : List Use) → Run (first words′) us → (u : Use)
-    → P (storyInHand (heldAfter (first words′) us) (after (begun d) (callsOf us))) (callOf u)
-
--- the rule of the requested size, sentence by sentence as `history` has it; `goes-on` says that the world after the step is the one in hand after the call
-pub record RulesInHand : Type 0 where
-  pub keeps-shape : InEveryLinkedRun KeepsShape
-  pub never-12 : InEveryLinkedRun Never12
-  pub usable-never-shrinks : InEveryLinkedRun UsableNeverShrinks
-  pub plug-within-requested : InEveryLinkedRun PlugWithinRequested
-  pub size-change-touches-nothing : InEveryLinkedRun SizeChangeTouchesNothing
-  pub lowering-asks-nothing : InEveryLinkedRun LoweringAsksNothing
-  pub whole-or-not-at-all : InEveryLinkedRun WholeOrNotAtAll
-  pub pending-stays : InEveryLinkedRun PendingStays
-  pub asks-what-is-due : InEveryLinkedRun AsksWhatIsDue
-  -- each question has one answer before the next is asked; where nothing is pending in hand none is left unanswered
-  pub each-asked-answered : (m : Making) (words′ : List ℕ) → Makes m words′ → (d : Device) → madeBy m ≡ MadeDevice d → (us : List Use) → Run (first words′) us
-      → askedIn (begun d .world) (callsOf us) ≡ takenIn (begun d .world) (callsOf us) + waits (inHand (heldAfter (first words′) us) .device .pending)

@@ -37,7 +37,7 @@ use Rattle.step.specs.declared.Answered.{Answered}
 use Rattle.step.specs.declared.Answer.the-variants.{Refused}
 use Rattle.step.specs.World.{World, Guest, worldOf, Responded, Meets}
 use Rattle.serving.specs.Hosts.{asksFor, unplug, unplugOne}
-use Rattle.step.specs.Step.{served, unserved, respond, serve, request, stateResp, ack, nack, error, plug, plugAs, unplugAs, oneAs, nextAs, unplugAll, stops, changing, stateType}
+use Rattle.step.specs.Step.{served, unserved, respond, serve, stateResp, ack, nack, error, plug, plugAs, unplugAs, oneAs, nextAs, unplugAll, stops, changing, stateType}
 use Rattle.serving.proofs.Ends.{serves, answers}
 
 -- where `let .. else` found another case than Legal, only its number is known

@@ -12,7 +12,7 @@ use Rattle.bitmap.proofs.Laws.{at-inside, at-before, at-after}
 use Rattle.wire.specs.declared.VirtioMemResp.{VirtioMemResp}
 use Rattle.record.specs.declared.Pending.the-variants.{Discard}
 use Rattle.step.specs.World.{World, Guest}
-use Rattle.step.specs.Step.{blockSize, plugged, Untouched, refused, served, plugs, asksDiscard, unplugs, stops, asksOne, cleared, endsAll, hostAnswer}
+use Rattle.step.specs.Step.{blockSize, plugged, Untouched, served, plugs, asksDiscard, unplugs, stops, asksOne, cleared, endsAll, hostAnswer}
 
 module _ (w : World) (first count status : ℕ) (g : Guest) where
   -- ---- an acknowledged plug sets exactly its blocks, and adds their size
@@ -63,10 +63,6 @@ asking-takes-nothing w first count offset host status g =
 -- ---- nor does a discard that failed, also of an unplug-all: "cleared blocks stay cleared", and what they took off stays taken off
 pub failure-takes-nothing : (w : World) (status : ℕ) (g : Guest) → Untouched w (stops w status g .world)
 failure-takes-nothing w status g = record { same-blocks = refl; same-rows = refl; same-plugged = refl }
-
--- ---- a refused call changes nothing at all
-pub refused-changes-nothing : (n : ℕ) (w : World) (bytes : List ℕ) → (refused n w bytes .world ≡ w) × (refused n w bytes .bytes ≡ bytes)
-refused-changes-nothing n w bytes = (refl, refl)
 
 -- ---- NACK and ERROR change nothing but the response
 pub response-alone : (resp : VirtioMemResp) (status : ℕ) (w : World) (g : Guest) → served resp status w g .world ≡ w

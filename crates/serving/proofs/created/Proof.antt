@@ -1,5 +1,4 @@
 -- `serving::created` meets its contract.
-use mathlib.Core.Path.{refl}
 use Rattle.record.proofs.Laws.{shaped-is}
 use borrow.Author.Needs.{needs}
 use Rattle.serving.proofs.created.Statement.{statement}

@@ -1,0 +1,69 @@
+-- The rules of `history`, of every call of every run of the exported functions: what holds of the definition's step holds of what a call shows.
+use Prim.Native.Nat.{ℕ, _+_}
+use mathlib.Core.Path.{_≡_, ap, sym, _∙_}
+use mathlib.Core.List.{List}
+use Rattle.step.specs.World.{World, Call, Outcome}
+use Rattle.step.specs.Step.{step}
+use Rattle.history.specs.History.{Story, after, begun}
+use Rattle.history.specs.Rules.{InEveryRun, FromEveryWorld, takenIn, waits, KeepsShape, Never12, UsableNeverShrinks, DiscardIsCounted, OnlySizeChangeMovesRequested, PlugWithinRequested, SizeChangeTouchesNothing, LoweringAsksNothing, WholeOrNotAtAll, PendingStays, AsksWhatIsDue}
+use Rattle.history.specs.Questions.{AsksForPending, OnlyUnplugsDiscard, OnlyOpenUnplugsDiscard}
+use Rattle.history.specs.Refusals.{RefusedChangesNothing, TenIsCreationFailed}
+use Rattle.history.proofs.KeepsShape.{keeps-shape}
+use Rattle.history.proofs.Sizes.{never-12, usable-never-shrinks, discard-is-counted, only-size-change-moves-requested, plug-within-requested}
+use Rattle.history.proofs.SizeChange.{size-change-touches-nothing, lowering-asks-nothing}
+use Rattle.history.proofs.Whole.{whole-or-not-at-all}
+use Rattle.history.proofs.HostCalls.{each-asked-answered, pending-stays, asks-what-is-due}
+use Rattle.history.proofs.Questions.{asks-for-pending, only-unplugs-discard, only-open-unplugs-discard}
+use Rattle.history.proofs.Refusals.{refused-changes-nothing, ten-is-creation-failed}
+use Rattle.linked.specs.Runs.{Use, callOf, Held, leaves, heldAfter, callsOf, Steps, first, inHand}
+use Rattle.linked.specs.Rules.{shows, OfEveryCall, storyInHand, AfterEveryRun, RulesInHand}
+use Rattle.linked.proofs.Steps.{in-hand}
+use Rattle.linked.proofs.Linked.{is-fresh, made-decodes, run-means, linked}
+
+-- what a call shows is what the definition's step ends in
+shows-step : (h : Held) (u : Use) → Steps h u → step (inHand h) (callOf u) ≡ shows h u
+shows-step h u s = let o = step (inHand h) (callOf u) in ends (o .world) (inHand (leaves h u)) (o .bytes) (u .after .bytes) (sym (s .goes-on)) (sym (s .left))
+  where
+    ends : (w v : World) (bytes bytes′ : List ℕ) → w ≡ v → bytes ≡ bytes′
+        → _≡_ {A = Outcome} (record { world = w; answer = step (inHand h) (callOf u) .answer; bytes = bytes }) (record { world = v; answer = step (inHand h) (callOf u) .answer; bytes = bytes′ })
+    ends w v bytes bytes′ p q = rw (p, q)
+
+of-every-call : (P : World → Call → Outcome → Type 0) → FromEveryWorld P → OfEveryCall P
+of-every-call P rule m words′ makes us run u one =
+    let h = heldAfter (first words′) us in
+    rw (shows-step h u (linked m words′ makes .steps us run u one)) at (rule (inHand h) (callOf u))
+
+after-every-run : (P : Story → Call → Type 0) → InEveryRun P → AfterEveryRun P
+after-every-run P rule m words′ makes d e us run u =
+    let s = after (begun d) (callsOf us) in
+    let h = heldAfter (first words′) us in
+    let fresh = is-fresh m words′ makes d e in
+    let same : storyInHand h s ≡ s =
+    ap (λ (w : World). record { world = w; «open» = s .«open»; events = s .events }) (in-hand h (s .world) (run-means words′ d fresh (made-decodes m words′ makes d e) us run)) in
+    rw same (rule d fresh (callsOf us) (callOf u))
+
+pub rules-in-hand : RulesInHand
+rules-in-hand =
+    record {
+      only-size-change-moves-requested = of-every-call OnlySizeChangeMovesRequested only-size-change-moves-requested;
+      plug-within-requested = of-every-call PlugWithinRequested plug-within-requested;
+      size-change-touches-nothing = of-every-call SizeChangeTouchesNothing size-change-touches-nothing;
+      lowering-asks-nothing = of-every-call LoweringAsksNothing lowering-asks-nothing;
+      only-unplugs-discard = of-every-call OnlyUnplugsDiscard only-unplugs-discard;
+      only-open-unplugs-discard = after-every-run OnlyOpenUnplugsDiscard only-open-unplugs-discard;
+      whole-or-not-at-all = after-every-run WholeOrNotAtAll whole-or-not-at-all;
+      refused-changes-nothing = of-every-call RefusedChangesNothing refused-changes-nothing;
+      ten-is-creation-failed = of-every-call TenIsCreationFailed ten-is-creation-failed;
+      keeps-shape = after-every-run KeepsShape keeps-shape;
+      never-12 = after-every-run Never12 never-12;
+      usable-never-shrinks = after-every-run UsableNeverShrinks usable-never-shrinks;
+      discard-is-counted = after-every-run DiscardIsCounted discard-is-counted;
+      asks-for-pending = of-every-call AsksForPending asks-for-pending;
+      asks-what-is-due = after-every-run AsksWhatIsDue asks-what-is-due;
+      pending-stays = of-every-call PendingStays pending-stays;
+      each-asked-answered = λ m words′ makes d e us run.
+          let fresh = is-fresh m words′ makes d e in
+          let means = run-means words′ d fresh (made-decodes m words′ makes d e) us run in
+          let same = in-hand (heldAfter (first words′) us) (after (begun d) (callsOf us) .world) means in
+          each-asked-answered d fresh (callsOf us) ∙ ap (λ (w : World). takenIn (begun d .world) (callsOf us) + waits (w .device .pending)) (sym same);
+    }
