@@ -12,6 +12,4 @@ pub mod HostCalls
 pub mod Questions
 pub mod Refusals
 pub mod Example
-pub mod Standard
-pub mod StandardRuns
 pub mod Newly

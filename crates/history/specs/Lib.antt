@@ -2,4 +2,3 @@ pub mod History
 pub mod Rules
 pub mod Questions
 pub mod Refusals
-pub mod Standard

@@ -21,7 +21,7 @@ use Rattle.record.specs.Shape.{alignmentOk, regionOk, sizeOk, spanOf, startOk, 
 use Rattle.change.specs.Change.{insideOf, rangeOf, hostSum, hostIn, hostOf, legalAt, changeIn}
 use Rattle.step.specs.World.{World, Guest, Call, Request}
 use Rattle.step.specs.Step.{tablesFit, readyRefusal, unless, plugAs, plug, serve, request, step}
-use Rattle.history.specs.Standard.{responseOf, «VIRTIO_MEM_RESP_ACK», «VIRTIO_MEM_RESP_NACK»}
+use Rattle.standard.specs.Requests.{responseOf, «VIRTIO_MEM_RESP_ACK», «VIRTIO_MEM_RESP_NACK»}
 use Rattle.in_parts.specs.InParts.{plugRequest, Asks, Acknowledged, AllAcknowledged, endOf, SameAs, InTwo, Part, borderBetween, Raised}
 use Rattle.in_parts.proofs.Asking.{asking}
 

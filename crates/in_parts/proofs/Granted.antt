@@ -23,7 +23,7 @@ use Rattle.step.specs.World.{World, Guest, Call}
 use Rattle.step.specs.Step.{step, unless, request, serve, readyRefusal, tablesFit, plug, plugAs, plugs, changing, blockSize, start, usable, several, plugged, requested}
 use Rattle.step.proofs.Entry.{Ready, ready-is, ready-when}
 use Rattle.history.specs.History.{blockOf}
-use Rattle.history.specs.Standard.{Responds, responseOf, «VIRTIO_MEM_RESP_ERROR»}
+use Rattle.standard.specs.Requests.{Responds, responseOf, «VIRTIO_MEM_RESP_ERROR»}
 use Rattle.history.proofs.KeepsShape.{step-shaped}
 use Rattle.in_parts.specs.InParts.{Asks, Acknowledged}
 

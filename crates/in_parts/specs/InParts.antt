@@ -15,7 +15,7 @@ use Rattle.record.specs.Changes.{requestedTo}
 use Rattle.step.specs.declared.Answer.the-variants.{Refused, Sized}
 use Rattle.step.specs.World.{World, Guest, Call, SetRequestedSize, Request, Outcome}
 use Rattle.step.specs.Step.{step, blockSize, region, start, several, requested, deviceOf}
-use Rattle.history.specs.Standard.{Responds, «VIRTIO_MEM_REQ_PLUG», «VIRTIO_MEM_RESP_ACK», «VIRTIO_MEM_RESP_ERROR»}
+use Rattle.standard.specs.Requests.{Responds, «VIRTIO_MEM_REQ_PLUG», «VIRTIO_MEM_RESP_ACK», «VIRTIO_MEM_RESP_ERROR»}
 
 -- ---- a plug, as the guest asks for it
 abbrev pub plugRequest : (addr count : ℕ) → VirtioMemReq

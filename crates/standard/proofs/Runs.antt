@@ -21,19 +21,19 @@ use Rattle.step.specs.declared.Answer.{Answer}
 use Rattle.step.specs.declared.Answer.the-variants.{Refused, Wants, Sized, Unserved, Served, Done}
 use Rattle.step.specs.World.{World, Guest, Call, Place, SetRequestedSize, Request, HostAnswer, ReadConfig, WriteConfig, Outcome}
 use Rattle.step.specs.Step.{step, blockSize, region, usable, plugged, requested, regionBlocks}
 use Rattle.history.specs.History.{Event, UnplugAck, UnplugAllAck, Open, Unplugging, acknowledges, ackToHost, reports, discardOf, ifAck, unlessRefused, eventsOf, next, after, Fresh, begun}
 use Rattle.history.specs.Rules.{InEveryRun, Whole, marks, counts, could, marked, counted, allCould, isPlace}
-use Rattle.history.specs.Standard.{isRequest, OnlyRequestsPlug, UsableShrinksByUnplugAll, configOf, Constant, ConstantFields, FieldsLaidOut, UsableCoversRequested, PluggedSizeIsOfBlocks, FreeBlocksPlug, responseOf, Responds, UnplugDone, UnplugAcknowledged, NonePlugged, UnplugAllAcknowledged, UnplugRejected, «VIRTIO_MEM_RESP_ACK», «VIRTIO_MEM_RESP_ERROR»}
+use Rattle.standard.specs.Requests.{isRequest, OnlyRequestsPlug, UsableShrinksByUnplugAll, configOf, Constant, ConstantFields, FieldsLaidOut, UsableCoversRequested, PluggedSizeIsOfBlocks, FreeBlocksPlug, responseOf, Responds, UnplugDone, UnplugAcknowledged, NonePlugged, UnplugAllAcknowledged, UnplugRejected, «VIRTIO_MEM_RESP_ACK», «VIRTIO_MEM_RESP_ERROR»}
 use Rattle.record.proofs.Laws.{whole as shaped-when}
 use Rattle.history.proofs.Shaped.{clash}
 use Rattle.history.proofs.Cases.{by-cond, on-pending}
 use Rattle.history.proofs.Observer.{openOf}
 use Rattle.history.proofs.Calls.{Endings, each-call}
 use Rattle.history.proofs.Demand3.{demand-3, open-is}
 use Rattle.history.proofs.KeepsShape.{is-shaped}
 use Rattle.history.proofs.Sizes.{usable-never-shrinks}
 use Rattle.history.proofs.Whole.{whole-or-not-at-all}
-use Rattle.history.proofs.Standard.{all-at, none-at, plug-standard}
+use Rattle.standard.proofs.Requests.{all-at, none-at, plug-standard}
 
 -- ---- the config fields
 -- what the requested size is worth is at least the requested size

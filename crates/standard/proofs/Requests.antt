@@ -25,11 +25,11 @@ use Rattle.change.specs.Change.{rangeOf, stateOf, stateIn}
 use Rattle.change.proofs.Laws.{InRange, inside-is, inside-when, host-is, legal-is, legal-when, whole-blocks}
 use Rattle.step.specs.World.{World, Guest, Request, Outcome}
 use Rattle.step.specs.Step.{step, request, unless, readyRefusal, tablesFit, serve, blockSize, region, usable, plugged, requested, start, several, regionBlocks, changing, plugAs, plug, plugs, unplugAs, oneAs, nextAs, unplugAll, stops, stateType, stateResp, served, unserved, error}
 use Rattle.history.specs.History.{blockOf}
 use Rattle.history.specs.Rules.{asks}
-use Rattle.history.specs.Standard.{OfEvery, OfEveryUnknown, Unknown, Hears, Valid, Covers, Responds, responseOf, among, RespondsAmong, sizeOf, stateFieldOf, IsPlugged, IsUnplugged, OneMapping, Plug, Unplug, UnplugAll, State, Unchanged, «VIRTIO_MEM_REQ_PLUG», «VIRTIO_MEM_REQ_UNPLUG», «VIRTIO_MEM_REQ_UNPLUG_ALL», «VIRTIO_MEM_REQ_STATE»}
+use Rattle.standard.specs.Requests.{OfEvery, OfEveryUnknown, Unknown, Hears, Valid, Covers, Responds, responseOf, among, RespondsAmong, sizeOf, stateFieldOf, IsPlugged, IsUnplugged, OneMapping, Plug, Unplug, UnplugAll, State, Unchanged, «VIRTIO_MEM_REQ_PLUG», «VIRTIO_MEM_REQ_UNPLUG», «VIRTIO_MEM_REQ_UNPLUG_ALL», «VIRTIO_MEM_REQ_STATE»}
 use Rattle.history.proofs.Shaped.{clash}
 use Rattle.history.proofs.Cases.{by-cond}
 
 -- ---- the blocks that a request covers
 -- block i begins in the bytes from addr on: it is one of the `count` blocks from `first` on

@@ -1,0 +1,1 @@
+// What the standard asks: theorems about the definitions of the crate `step`. There is no code here that a device runs.
