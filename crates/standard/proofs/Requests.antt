@@ -1,35 +1,47 @@
--- The device and Virtio 1.2, section 5.15: the outcome of each request is as specs/Standard.antt says of its type.
-use Prim.Native.Nat.{ℕ, zero, suc, _+_, _-_, _*_, _≤_, _<_}
+-- The device and the clauses M10 to M16: the outcome of each request is as specs/Requests.antt says of its type.
+use Prim.Native.Nat.{ℕ, zero, suc, _+_, _-_, _*_, _%_, _≤_, _<_}
 use mathlib.Core.Path.{_≡_, refl, ap, _∙_, sym}
 use mathlib.Core.Bool.{Bool, true, false, not, Bool·beq}
 use mathlib.Core.List.{List, [], _∷_}
 use mathlib.Core.Option.{some, none}
+use native.Mathlib.Nat.{add-mul-mod-self-right}
 use native.Mathlib.Omega.{arith}
 use lib.Dec.{leb, ltb}
 use lib.ListN.{length}
-use borrow.Author.Tests.{leb-true, leb-false, ltb-true, ltb-false, le-ltb, ne-eqb}
-use Rattle.units.specs.Numbers.{bytesOf, blocksIn}
+use borrow.Author.Tests.{leb-true, leb-false, ltb-true, ltb-false, le-leb, le-ltb, lt-ltb, ne-eqb}
+use Rattle.units.specs.Numbers.{blocksIn}
 use Rattle.units.specs.declared.GuestAddr.{GuestAddr}
+use Rattle.units.specs.declared.RegionOffset.{RegionOffset}
+use Rattle.units.specs.declared.HostAddr.{HostAddr}
 use Rattle.units.proofs.Tests.{by-test, and-left}
-use Rattle.bitmap.specs.Blocks.{blockAt, allAre, range, every, nextSet}
+use Rattle.bitmap.specs.Blocks.{blockAt, allAre, range, every, fill, nextSet}
 use Rattle.bitmap.specs.declared.Found.{Found}
 use Rattle.bitmap.specs.declared.Found.the-variants.{At, Nothing as NoneSet}
-use Rattle.bitmap.proofs.Laws.{at-inside, at-before, at-after, fill-same, range-take, next-at, next-nothing}
+use Rattle.bitmap.proofs.Laws.{all-at, at-inside, at-before, at-after, range-take, all-clear-at, next-at, next-nothing}
 use Rattle.wire.specs.declared.VirtioMemReq.{VirtioMemReq}
-use Rattle.record.proofs.Laws.{Shaped as Facts, shaped-is as facts-of}
+use Rattle.record.specs.declared.Pending.{Pending}
+use Rattle.record.specs.declared.Pending.the-variants.{Discard, DiscardOne}
+use Rattle.record.specs.declared.HostCall.{HostCall}
+use Rattle.record.specs.declared.HostCall.the-variants.{Discard as DiscardCall}
+use Rattle.record.specs.Shape.{shapedOf, isIdle, pendingOk}
+use Rattle.record.specs.Changes.{pendingTo}
+use Rattle.record.proofs.Laws.{Shaped as Facts, shaped-is as facts-of, parts as parts-of, whole as shaped-when, discard-one-is}
 use Rattle.change.specs.declared.Change.{Change}
 use Rattle.change.specs.declared.Change.the-variants.{Legal, Outside, WrongState, NoHost}
 use Rattle.change.specs.declared.Range.{Range}
 use Rattle.change.specs.declared.Range.the-variants.{Inside, Misaligned, NoBlocks, Overflows, BelowStart, PastUsable, EndPastUsable}
 use Rattle.change.specs.Change.{rangeOf, stateOf, stateIn}
 use Rattle.change.proofs.Laws.{InRange, inside-is, inside-when, host-is, legal-is, legal-when, whole-blocks}
-use Rattle.step.specs.World.{World, Guest, Request, Outcome}
-use Rattle.step.specs.Step.{step, request, unless, readyRefusal, tablesFit, serve, blockSize, region, usable, plugged, requested, start, several, regionBlocks, changing, plugAs, plug, plugs, unplugAs, oneAs, nextAs, unplugAll, stops, stateType, stateResp, served, unserved, error}
-use Rattle.history.specs.History.{blockOf}
-use Rattle.history.specs.Rules.{asks}
-use Rattle.standard.specs.Requests.{OfEvery, OfEveryUnknown, Unknown, Hears, Valid, Covers, Responds, responseOf, among, RespondsAmong, sizeOf, stateFieldOf, IsPlugged, IsUnplugged, OneMapping, Plug, Unplug, UnplugAll, State, Unchanged, «VIRTIO_MEM_REQ_PLUG», «VIRTIO_MEM_REQ_UNPLUG», «VIRTIO_MEM_REQ_UNPLUG_ALL», «VIRTIO_MEM_REQ_STATE»}
-use Rattle.history.proofs.Shaped.{clash}
+use Rattle.step.specs.declared.Answer.the-variants.{Refused}
+use Rattle.step.specs.World.{World, Guest, Request, HostAnswer, Outcome}
+use Rattle.step.specs.Step.{step, request, unless, pendingRefusal, tablesFit, serve, blockSize, region, usable, plugged, requested, start, several, regionBlocks, deviceOf, changing, plugAs, plug, plugs, unplugAs, asksDiscard, unplugs, asksOne, oneAs, nextAs, unplugAll, stops, cleared, stateType, stateResp, served, unserved, error, hostAnswer}
+use Rattle.step.proofs.Entry.{ready-when, waits-when}
+use Rattle.step.proofs.InTable.{cleared-shaped, cleared-fits}
+use Rattle.step.proofs.Laws.{one-inside, one-before, one-behind}
+use Rattle.history.proofs.Shaped.{clash, awaiting}
 use Rattle.history.proofs.Cases.{by-cond}
+use Rattle.standard.proofs.Mapped.{Has, block-mapped}
+use Rattle.standard.specs.Requests.{OfEvery, OfEveryUnknown, Unknown, Hears, Awaits, Valid, Covers, Responds, responseOf, among, AsksFor, sizeOf, offsetOf, stateFieldOf, IsPlugged, IsUnplugged, OneMapping, WholeOrNothing, CanPlug, Plug, CanUnplug, Unplug, UnplugAll, UnplugsFrom, Lowest, NoneFrom, AsksLowest, OneUnplugged, OneAnswered, OfEveryOne, CanDiscard, addressOf, State, Unchanged, «VIRTIO_MEM_REQ_PLUG», «VIRTIO_MEM_REQ_UNPLUG», «VIRTIO_MEM_REQ_UNPLUG_ALL», «VIRTIO_MEM_REQ_STATE», «VIRTIO_MEM_RESP_ACK», «VIRTIO_MEM_RESP_ERROR»}
 
 -- ---- the blocks that a request covers
 -- block i begins in the bytes from addr on: it is one of the `count` blocks from `first` on
@@ -39,21 +51,7 @@ block-of b at first count addr i e p q r = let p′ = rw e at p in let q′ = rw
 bytes-of : (b at first count addr i : ℕ) → b ≡ 4194304 → addr ≡ at + first * b → first ≤ i → i < first + count → (addr ≤ at + i * b) × (at + i * b < addr + count * b)
 bytes-of b at first count addr i e p q r = let p′ = rw e at p in rw e (omega arith, omega arith)
 
--- each block of a range that is in the state v
-pub all-at : (bs : List Bool) (first count : ℕ) (v : Bool) (i : ℕ) → allAre bs first count v ≡ true → first ≤ i → i < first + count → i < length bs → blockAt bs i ≡ v
-all-at bs first count v i e p q r = rw (fill-same bs first count v e) at (at-inside bs first count v i p q r)
-
--- no block of a region of n blocks is plugged
-past-end : (bs : List Bool) (i : ℕ) → length bs ≤ i → blockAt bs i ≡ false
-past-end [] i l = refl
-past-end (b ∷ bs) zero l = absurd (omega arith)
-past-end (b ∷ bs) (suc i) l = past-end bs i (omega arith)
-
-pub none-at : (bs : List Bool) (n i : ℕ) → allAre bs 0 n false ≡ true → i < n → blockAt bs i ≡ false
-none-at bs n i e l =
-    by-test (ltb i (length bs)) (λ t. all-at bs 0 n false i e (omega arith) (omega arith) (ltb-true i (length bs) t)) (λ t. past-end bs i (ltb-false i (length bs) t))
-
--- and a range whose every block is in the state v
+-- a range whose every block is in the state v
 all-when : (bs : List Bool) (first count : ℕ) (v : Bool) → ((i : ℕ) → first ≤ i → i < first + count → blockAt bs i ≡ v) → first + count ≤ length bs → allAre bs first count v ≡ true
 unfolding every
 all-when bs zero zero v h l = refl
@@ -87,7 +85,39 @@ isLegal (Outside part) = false
 isLegal WrongState = false
 isLegal (NoHost part) = false
 
-module _ (w : World) (req : VirtioMemReq) (s : Facts (w .device)) where
+-- ---- a record of the shape, and tables of its length
+pub record Sound (w : World) : Type 0 where
+  pub shaped : shapedOf (w .device) ≡ true
+  pub fits : tablesFit (w .device) (length (w .blocks)) (length (w .rows)) ≡ true
+
+module _ (w : World) (sound : Sound w) where
+  pub facts : Facts (w .device)
+  facts = facts-of (w .device) (sound .shaped)
+
+  pub long : regionBlocks w ≤ length (w .blocks)
+  unfolding tablesFit
+  long = leb-true (regionBlocks w) (length (w .blocks)) (and-left _ _ (sound .fits))
+
+  -- with another pending call
+  awaits : (p : Pending) → pendingOk p (blockSize w) (region w) (several w) (plugged w) ≡ true → Awaits (deviceOf (pendingTo p (w .device)) w) p
+  unfolding tablesFit
+  awaits p ok = record { shaped = shaped-when _ (awaiting (w .device) (parts-of (w .device) (sound .shaped)) p ok); waits = refl; fits = sound .fits }
+
+-- the host's answer to a call that waits for it
+not-refused : (w : World) (p : Pending) → Awaits w p → isIdle p ≡ false → pendingRefusal (w .device) (length (w .blocks)) (length (w .rows)) ≡ 0
+not-refused w p a busy = waits-when _ _ _ (record { shaped = a .shaped; not-idle = rw (a .waits) busy; fits = a .fits })
+
+pub answered : (w : World) (p : Pending) → Awaits w p → isIdle p ≡ false → (g : Guest) (ok : Bool) (host : ℕ) → step w (HostAnswer g ok host) ≡ hostAnswer p w g ok host
+unfolding step unless
+answered w p a busy g ok host = rw (not-refused w p a busy, a .waits)
+
+-- what the host's answer brings to an unplug
+record UnplugEnds (w : World) (req : VirtioMemReq) (ok : Bool) (o : Outcome) : Type 0 where
+  pub when-ok : ok ≡ true → Responds o «VIRTIO_MEM_RESP_ACK»
+  pub when-no : ok ≡ false → Responds o «VIRTIO_MEM_RESP_ERROR»
+  pub whole : WholeOrNothing w req o
+
+module _ (w : World) (req : VirtioMemReq) (sound : Sound w) where
   -- the request covers the `nb_blocks` blocks from `first` on, and they lie in the region
   record Spans (first : ℕ) : Type 0 where
     pub valid : Valid w req
@@ -97,6 +127,7 @@ module _ (w : World) (req : VirtioMemReq) (s : Facts (w .device)) where
 
   spans-of : (offset : ℕ) → InRange (blockSize w) (start w) (usable w) (req .addr .0) (req .«nb_blocks») offset → Spans (blocksIn (blockSize w) offset)
   spans-of offset r =
+      let s = facts w sound in
       let b = s .block-size in
       let positive : 0 < blockSize w = omega arith in
       let blocks = whole-blocks (blockSize w) (start w) (usable w) (req .addr .0) (req .«nb_blocks») offset positive (rw b (s .start-blocks)) r in
@@ -112,248 +143,449 @@ module _ (w : World) (req : VirtioMemReq) (s : Facts (w .device)) where
       in-region : (b usable region n : ℕ) → b ≡ 4194304 → n * b ≤ usable → usable ≤ region → n ≤ blocksIn b region
       in-region b usable region n e p q = let p′ = rw e at p in rw e (omega arith)
 
-  module _ (long : regionBlocks w ≤ length (w .blocks)) where
-    in-range : Valid w req → InRange (blockSize w) (start w) (usable w) (req .addr .0) (req .«nb_blocks») (req .addr .0 - start w)
-    in-range v =
-        record {
-          aligned = v .aligned;
-          some = v .some-blocks;
-          below-top = omega (arith, v .to-usable, s .usable-in, s .start-region);
-          from-start = v .from-start;
-          offset-is = refl;
-          in-usable = omega (arith, v .to-usable, v .from-start);
-        }
+  in-range : Valid w req → InRange (blockSize w) (start w) (usable w) (req .addr .0) (req .«nb_blocks») (offsetOf w req)
+  in-range v =
+      let s = facts w sound in
+      record {
+        aligned = v .aligned;
+        some = v .some-blocks;
+        below-top = omega (arith, v .to-usable, s .usable-in, s .start-region);
+        from-start = v .from-start;
+        offset-is = refl;
+        in-usable = omega (arith, v .to-usable, v .from-start);
+      }
 
-    legal-change : (wanted : Bool) (v : Valid w req) → ((i : ℕ) → Covers w req i → blockAt (w .blocks) i ≡ not wanted) → (m : OneMapping w req)
-        → changing w (req .addr .0) (req .«nb_blocks») wanted ≡ Legal (blocksIn (blockSize w) (req .addr .0 - start w)) (record { 0 = req .addr .0 - start w }) (m .host)
-    legal-change wanted v all m =
-        let b = s .block-size in
-        let first = blocksIn (blockSize w) (req .addr .0 - start w) in
-        let sp = spans-of (req .addr .0 - start w) (in-range v) in
-        legal-when (blockSize w) (start w) (usable w) (several w) (req .addr .0) (req .«nb_blocks») wanted (w .blocks) (w .rows) first _ (m .host) (omega arith)
-        (record {
-          in-range = in-range v;
-          first-is = refl;
-          not-wanted = all-when (w .blocks) first (req .«nb_blocks») (not wanted) (λ i p q. all i (sp .covers i p q)) (omega (arith, sp .ends));
-          host-at = m .maps;
-          hosted = host-is (several w) (w .rows) (req .addr .0 - start w) (sizeOf w req) (m .host) (m .maps);
-        })
+  -- a valid range whose every block is in the other state, in one mapping, is legal to change
+  legal-change : (wanted : Bool) (v : Valid w req) → ((i : ℕ) → Covers w req i → blockAt (w .blocks) i ≡ not wanted) → (m : OneMapping w (offsetOf w req) (sizeOf w req))
+      → changing w (req .addr .0) (req .«nb_blocks») wanted ≡ Legal (blocksIn (blockSize w) (offsetOf w req)) (record { 0 = offsetOf w req }) (m .host)
+  legal-change wanted v all m =
+      let b = facts w sound .block-size in
+      let enough = long w sound in
+      let first = blocksIn (blockSize w) (offsetOf w req) in
+      let sp = spans-of (offsetOf w req) (in-range v) in
+      legal-when (blockSize w) (start w) (usable w) (several w) (req .addr .0) (req .«nb_blocks») wanted (w .blocks) (w .rows) first _ (m .host) (omega arith)
+      (record {
+        in-range = in-range v;
+        first-is = refl;
+        not-wanted = all-when (w .blocks) first (req .«nb_blocks») (not wanted) (λ i p q. all i (sp .covers i p q)) (omega (arith, sp .ends));
+        host-at = m .maps;
+        hosted = host-is (several w) (w .rows) (offsetOf w req) (sizeOf w req) (m .host) (m .maps);
+      })
 
-    -- ---- PLUG
-    plug-legal : (first status : ℕ) (g : Guest) → plugged w + sizeOf w req ≤ requested w → Spans first → allAre (w .blocks) first (req .«nb_blocks») false ≡ true → Plug w req (plugs w first (req .«nb_blocks») status g)
-    unfolding responseOf among
-    plug-legal first status g fits sp state =
-        let count = req .«nb_blocks» in
-        let unplugged : (i : ℕ) → Covers w req i → blockAt (w .blocks) i ≡ false =
-        λ i c. all-at (w .blocks) first count false i state (sp .covered i c .0) (sp .covered i c .1) (omega (arith, sp .ends, sp .covered i c .1)) in
-        record {
-          over = λ h. absurd (omega arith);
-          bad-range = λ _ bad. absurd (bad (sp .valid));
-          already = λ _ i c p. clash p (unplugged i c);
-          granted = λ _ _ _ _. refl;
+  -- and what is legal to change is such a range
+  record Opened (wanted : Bool) (first : ℕ) (offset : RegionOffset) (host : HostAddr) : Type 0 where
+    pub spans : Spans first
+    pub state : allAre (w .blocks) first (req .«nb_blocks») (not wanted) ≡ true
+    pub blocks-are : (i : ℕ) → Covers w req i → blockAt (w .blocks) i ≡ not wanted
+    pub offset-is : offset ≡ record { 0 = offsetOf w req }
+    pub mapped : OneMapping w (offsetOf w req) (sizeOf w req)
+    pub host-is : mapped .host ≡ host
+
+  opened : (wanted : Bool) (first : ℕ) (offset : RegionOffset) (host : HostAddr) → changing w (req .addr .0) (req .«nb_blocks») wanted ≡ Legal first offset host → Opened wanted first offset host
+  opened wanted first offset host e =
+      let l = legal-is (blockSize w) (start w) (usable w) (several w) (req .addr .0) (req .«nb_blocks») wanted (w .blocks) (w .rows) first offset host e in
+      let sp : Spans first = rw (← l .first-is) at (spans-of (offset .0) (l .in-range)) in
+      let o = l .in-range .offset-is in
+      let enough = long w sound in
+      record {
+        spans = sp;
+        state = l .not-wanted;
+        blocks-are = λ i c. all-at (w .blocks) first (req .«nb_blocks») (not wanted) i (l .not-wanted) (sp .covered i c .0) (sp .covered i c .1) (omega (arith, sp .ends, sp .covered i c .1));
+        offset-is = ap (λ (n : ℕ). record { 0 = n }) o;
+        mapped = record { host = host; maps = rw o at (l .host-at) };
+        host-is = refl;
+      }
+
+  -- the blocks of a range put in a state: those that the request covers, and no other
+  filled-covered : (first : ℕ) → Spans first → (v : Bool) (i : ℕ) → Covers w req i → blockAt (fill (w .blocks) first (req .«nb_blocks») v) i ≡ v
+  filled-covered first sp v i c =
+      let enough = long w sound in
+      at-inside (w .blocks) first (req .«nb_blocks») v i (sp .covered i c .0) (sp .covered i c .1) (omega (arith, sp .ends, sp .covered i c .1))
+
+  filled-others : (first : ℕ) → Spans first → (v : Bool) (i : ℕ) → (Covers w req i → ⊥) → blockAt (fill (w .blocks) first (req .«nb_blocks») v) i ≡ blockAt (w .blocks) i
+  filled-others first sp v i not-covered =
+      let end = first + req .«nb_blocks» in
+      by-test (leb first i)
+      (λ t. by-test (ltb i end) (λ u. absurd (not-covered (sp .covers i (leb-true first i t) (ltb-true i end u)))) (λ u. at-after (w .blocks) first (req .«nb_blocks») v i (ltb-false i end u)))
+      (λ t. at-before (w .blocks) first (req .«nb_blocks») v i (leb-false first i t))
+
+  -- the host has memory for each block of a valid range that one mapping has
+  pub covered-mapped : Valid w req → OneMapping w (offsetOf w req) (sizeOf w req) → (i : ℕ) → Covers w req i → CanDiscard w i
+  covered-mapped v m i c =
+      let s = facts w sound in
+      let b = s .block-size in
+      let positive : 0 < blockSize w = omega arith in
+      let sp = spans-of (offsetOf w req) (in-range v) in
+      let blocks = whole-blocks (blockSize w) (start w) (usable w) (req .addr .0) (req .«nb_blocks») (offsetOf w req) positive (rw b (s .start-blocks)) (in-range v) in
+      let first = blocksIn (blockSize w) (offsetOf w req) in
+      let range : Has (several w) (w .rows) (first * blockSize w) (sizeOf w req) = record { host = m .host; maps = rw (blocks .offset-of) at (m .maps) } in
+      let one = block-mapped (several w) (w .rows) (blockSize w) first (req .«nb_blocks») i b (sp .covered i c .0) (sp .covered i c .1) range in
+      record { in-usable = omega (arith, v .to-usable, c .ends); mapped = record { host = one .host; maps = one .maps } }
+
+  -- ---- PLUG
+  plug-at : req .«req_type» ≡ «VIRTIO_MEM_REQ_PLUG» → (status : ℕ) (g : Guest) → Plug w req (plug w (req .addr .0) (req .«nb_blocks») status g)
+  unfolding plug plugAs responseOf among isLegal
+  plug-at t status g =
+      by-cond (Plug w req) (ltb (requested w) (plugged w + sizeOf w req)) _ _
+      (λ u.
+      let more = ltb-true (requested w) (plugged w + sizeOf w req) u in
+      record {
+        over = λ _. refl;
+        only-over = λ _. more;
+        bad-range = λ h _. absurd (omega arith);
+        already = λ h i _ _. absurd (omega arith);
+        granted = λ can. let h = can .within-requested in absurd (omega arith);
+        only-granted = λ e. let z : _≡_ {A = ℕ} 0 1 = cc in absurd (omega arith);
+        whole = record { acknowledged = λ e. let z : _≡_ {A = ℕ} 0 1 = cc in absurd (omega arith); otherwise = λ _. record { same-blocks = refl; same-config = refl } };
+        responses = λ type e. only-type (0 ∷ 1 ∷ 3 ∷ []) 1 type refl e;
+      })
+      (λ u. go (changing w (req .addr .0) (req .«nb_blocks») true) refl (ltb-false (requested w) (plugged w + sizeOf w req) u))
+    where
+      legal : (first : ℕ) (offset : RegionOffset) (host : HostAddr) → Opened true first offset host → plugged w + sizeOf w req ≤ requested w → Plug w req (plugs w first (req .«nb_blocks») status g)
+      legal first offset host o fits =
+          let sp = o .spans in
+          record {
+            over = λ h. absurd (omega arith);
+            only-over = λ e. let z : _≡_ {A = ℕ} 0 1 = cc in absurd (omega arith);
+            bad-range = λ _ bad. absurd (bad (sp .valid));
+            already = λ _ i c p. clash p (o .blocks-are i c);
+            granted = λ _. refl;
+            only-granted = λ _. record { within-requested = fits; valid = sp .valid; all-unplugged = o .blocks-are; mapped = o .mapped };
+            whole = record {
+              acknowledged = λ _.
+                  record {
+                    plugs = λ _. (λ i c. filled-covered first sp true i c, refl);
+                    unplugs = λ u. absurd (omega arith);
+                    tells = λ u. absurd (omega arith);
+                    others = λ i c. filled-others first sp true i c;
+                    same-usable = refl;
+                    same-requested = refl;
+                  };
+              otherwise = λ h. absurd (h refl);
+            };
+            responses = λ type e. only-type (0 ∷ 1 ∷ 3 ∷ []) 0 type refl e;
+          }
+
+      bad : (c : Change) → changing w (req .addr .0) (req .«nb_blocks») true ≡ c → isLegal c ≡ false → plugged w + sizeOf w req ≤ requested w → Plug w req (served error status w g)
+      bad c e illegal fits =
+          record {
+            over = λ h. absurd (omega arith);
+            only-over = λ e. let z : _≡_ {A = ℕ} 0 1 = cc in absurd (omega arith);
+            bad-range = λ _ _. refl;
+            already = λ _ i _ _. refl;
+            granted = λ can. clash (ap isLegal (sym e ∙ legal-change true (can .valid) (can .all-unplugged) (can .mapped))) illegal;
+            only-granted = λ e. let z : _≡_ {A = ℕ} 0 1 = cc in absurd (omega arith);
+            whole = record { acknowledged = λ e. let z : _≡_ {A = ℕ} 0 1 = cc in absurd (omega arith); otherwise = λ _. record { same-blocks = refl; same-config = refl } };
+            responses = λ type e. only-type (0 ∷ 1 ∷ 3 ∷ []) 3 type refl e;
+          }
+
+      go : (c : Change) → changing w (req .addr .0) (req .«nb_blocks») true ≡ c → plugged w + sizeOf w req ≤ requested w → Plug w req (plugAs c w (req .«nb_blocks») status g)
+      go (Legal first offset host) e fits = legal first offset host (opened true first offset host e) fits
+      go (Outside part) e fits = bad (Outside part) e refl fits
+      go WrongState e fits = bad WrongState e refl fits
+      go (NoHost part) e fits = bad (NoHost part) e refl fits
+
+  -- ---- UNPLUG
+  unplug-at : req .«req_type» ≡ «VIRTIO_MEM_REQ_UNPLUG» → (status : ℕ) (g : Guest) → Unplug w req (unplugAs (changing w (req .addr .0) (req .«nb_blocks») false) w (req .«nb_blocks») status g)
+  unfolding unplugAs responseOf among isLegal hostAnswer pendingOk
+  unplug-at t status g = go (changing w (req .addr .0) (req .«nb_blocks») false) refl
+    where
+      unchanged : (o : Outcome) → (Responds o 0 → ⊥) → Unchanged w (o .world) → WholeOrNothing w req o
+      unchanged o no-ack same = record { acknowledged = λ e. absurd (no-ack e); otherwise = λ _. same }
+
+      bad : (c : Change) → changing w (req .addr .0) (req .«nb_blocks») false ≡ c → isLegal c ≡ false → Unplug w req (served error status w g)
+      bad c e illegal =
+          let never : (call : HostCall) → AsksFor (served error status w g) call → ⊥ = λ call f. let z : _≡_ {A = ℕ} 0 1 = cc in omega arith in
+          let not-can : CanUnplug w req → ⊥ = λ can. clash (ap isLegal (sym e ∙ legal-change false (can .valid) (can .all-plugged) (can .mapped))) illegal in
+          record {
+            bad-range = λ _. refl;
+            already = λ i _ _. refl;
+            granted = λ can _. absurd (not-can can);
+            spoiled = λ can _. absurd (not-can can);
+            only-granted = λ call f. absurd (never call f);
+            ok-acknowledged = λ call f _ _. absurd (never call f);
+            no-rejected = λ call f _ _. absurd (never call f);
+            responses = λ type e. only-type (3 ∷ []) 3 type refl e;
+            whole = unchanged _ (λ f. let z : _≡_ {A = ℕ} 0 1 = cc in omega arith) (record { same-blocks = refl; same-config = refl });
+            whole-answered = λ call f _ _ _. absurd (never call f);
+          }
+
+      -- nothing is wrong with the request: there is no response yet
+      waits : (first : ℕ) (offset : RegionOffset) (host : HostAddr) → Opened false first offset host → (o : Outcome) → responseOf (o .answer) ≡ none → Unchanged w (o .world)
+          → ((can : CanUnplug w req) → sizeOf w req ≤ plugged w → AsksFor o (DiscardCall (record { 0 = offsetOf w req }) (sizeOf w req) (can .mapped .host)))
+          → (plugged w < sizeOf w req → o .answer ≡ Refused 12)
+          → ((call : HostCall) → AsksFor o call → (g : Guest) (ok : Bool) (host : ℕ) → UnplugEnds w req ok (step (o .world) (HostAnswer g ok host))) → Unplug w req o
+      waits first offset host found o silent same asks spoils ends =
+          record {
+            bad-range = λ wrong. absurd (wrong (found .spans .valid));
+            already = λ i c u. clash (found .blocks-are i c) u;
+            granted = asks;
+            spoiled = λ _ less. spoils less;
+            only-granted = λ _ _. record { valid = found .spans .valid; all-plugged = found .blocks-are; mapped = found .mapped };
+            ok-acknowledged = λ call f g′ h. ends call f g′ true h .when-ok refl;
+            no-rejected = λ call f g′ h. ends call f g′ false h .when-no refl;
+            responses = λ type e. let z : _≡_ {A = ℕ} 0 1 = cc in absurd (omega arith);
+            whole = unchanged o (λ e. let z : _≡_ {A = ℕ} 0 1 = cc in omega arith) same;
+            whole-answered = λ call f g′ ok h. ends call f g′ ok h .whole;
+          }
+
+      ends : (first : ℕ) (offset : RegionOffset) (host : HostAddr) → Opened false first offset host → sizeOf w req ≤ plugged w → (g′ : Guest) (ok : Bool) (h : ℕ)
+          → UnplugEnds w req ok (step (asksDiscard w first (req .«nb_blocks») (offset .0) (host .0) status g .world) (HostAnswer g′ ok h))
+      ends first offset host found enough g′ ok h =
+          let p = Discard first (req .«nb_blocks») (record { 0 = status }) in
+          let fine : pendingOk p (blockSize w) (region w) (several w) (plugged w) ≡ true =
+          rw (le-leb (first + req .«nb_blocks») (regionBlocks w) (found .spans .ends)) (le-leb (sizeOf w req) (plugged w) enough) in
+          rw (answered _ p (awaits w sound p fine) refl g′ ok h) (by-ok ok)
+        where
+          by-ok : (ok : Bool) → UnplugEnds w req ok (hostAnswer (Discard first (req .«nb_blocks») (record { 0 = status })) (asksDiscard w first (req .«nb_blocks») (offset .0) (host .0) status g .world) g′ ok h)
+          by-ok true =
+              record {
+                when-ok = λ _. refl;
+                when-no = λ e. clash refl e;
+                whole = record {
+                  acknowledged = λ _.
+                      record {
+                        plugs = λ u. absurd (omega arith);
+                        unplugs = λ _. (λ i c. filled-covered first (found .spans) false i c, omega arith);
+                        tells = λ u. absurd (omega arith);
+                        others = λ i c. filled-others first (found .spans) false i c;
+                        same-usable = refl;
+                        same-requested = refl;
+                      };
+                  otherwise = λ h. absurd (h refl);
+                };
+              }
+          by-ok false =
+              record {
+                when-ok = λ e. clash e refl;
+                when-no = λ _. refl;
+                whole = unchanged _ (λ f. let z : _≡_ {A = ℕ} 0 1 = cc in omega arith) (record { same-blocks = refl; same-config = refl });
+              }
+
+      go : (c : Change) → changing w (req .addr .0) (req .«nb_blocks») false ≡ c → Unplug w req (unplugAs c w (req .«nb_blocks») status g)
+      go (Legal first offset host) e =
+          let o = opened false first offset host e in
+          by-cond (Unplug w req) (ltb (plugged w) (sizeOf w req)) _ _
+          (λ u.
+          let less = ltb-true (plugged w) (sizeOf w req) u in
+          waits first offset host o _ refl (record { same-blocks = refl; same-config = refl }) (λ _ h. absurd (omega arith)) (λ _. refl)
+          (λ call f _ _ _. let z : _≡_ {A = ℕ} 0 1 = cc in absurd (omega arith)))
+          (λ u.
+          let enough = ltb-false (plugged w) (sizeOf w req) u in
+          waits first offset host o _ refl (record { same-blocks = refl; same-config = refl })
+          (λ can _. let same : host ≡ can .mapped .host = cc in rw (o .offset-is, same)) (λ less. absurd (omega arith))
+          (λ call f g′ ok h. ends first offset host o enough g′ ok h))
+      go (Outside part) e = bad (Outside part) e refl
+      go WrongState e = bad WrongState e refl
+      go (NoHost part) e = bad (NoHost part) e refl
+
+  -- ---- STATE
+  state-type : (r : Range) → rangeOf (blockSize w) (start w) (usable w) (req .addr .0) (req .«nb_blocks») ≡ r → (Valid w req → ⊥) → stateType r ≡ 3
+  unfolding stateType
+  state-type (Inside o) e bad = absurd (bad (spans-of (o .0) (inside-is (blockSize w) (start w) (usable w) (req .addr .0) (req .«nb_blocks») o e) .valid))
+  state-type Misaligned e bad = refl
+  state-type NoBlocks e bad = refl
+  state-type Overflows e bad = refl
+  state-type BelowStart e bad = refl
+  state-type PastUsable e bad = refl
+  state-type EndPastUsable e bad = refl
+
+  valid-type : Valid w req → stateType (rangeOf (blockSize w) (start w) (usable w) (req .addr .0) (req .«nb_blocks»)) ≡ 0
+  unfolding stateType
+  valid-type v =
+      let b = facts w sound .block-size in
+      rw (inside-when (blockSize w) (start w) (usable w) (req .addr .0) (req .«nb_blocks») (offsetOf w req) (omega arith) (in-range v))
+
+  -- the state is worked out over the blocks that the request covers
+  state-over : Valid w req → stateOf (blockSize w) (start w) (region w) (req .addr .0) (req .«nb_blocks») (w .blocks)
+      ≡ stateIn (range (w .blocks) (blocksIn (blockSize w) (offsetOf w req)) (req .«nb_blocks»))
+  unfolding stateOf
+  state-over v =
+      let sp = spans-of (offsetOf w req) (in-range v) in
+      rw (le-ltb (req .addr .0) (start w) (v .from-start), range-take (regionBlocks w) (w .blocks) (blocksIn (blockSize w) (offsetOf w req)) (req .«nb_blocks») (sp .ends))
+
+  state-at : req .«req_type» ≡ «VIRTIO_MEM_REQ_STATE» → (status : ℕ) (g : Guest) → State w req (served (stateResp w (req .addr .0) (req .«nb_blocks»)) status w g)
+  unfolding responseOf stateFieldOf stateIn
+  state-at t status g =
+      let enough = long w sound in
+      let first = blocksIn (blockSize w) (offsetOf w req) in
+      let count = req .«nb_blocks» in
+      let bs = w .blocks in
+      let not-all-plugged : (v : Valid w req) (i : ℕ) → Covers w req i → IsUnplugged w i → allAre bs first count true ≡ false = λ v i c u.
+      let sp = spans-of (offsetOf w req) (in-range v) in
+      by-test (allAre bs first count true)
+      (λ t. clash (all-at bs first count true i t (sp .covered i c .0) (sp .covered i c .1) (omega (arith, sp .ends, sp .covered i c .1))) u) (λ t. t) in
+      let not-all-unplugged : (v : Valid w req) (i : ℕ) → Covers w req i → IsPlugged w i → allAre bs first count false ≡ false = λ v i c u.
+      let sp = spans-of (offsetOf w req) (in-range v) in
+      by-test (allAre bs first count false)
+      (λ t. clash u (all-at bs first count false i t (sp .covered i c .0) (sp .covered i c .1) (omega (arith, sp .ends, sp .covered i c .1)))) (λ t. t) in
+      record {
+        bad-range = λ bad. ap some (state-type _ refl bad);
+        acknowledged = λ v. ap some (valid-type v);
+        all-plugged = λ v all.
+            let sp = spans-of (offsetOf w req) (in-range v) in
+            ap some (state-over v ∙ rw (all-when bs first count true (λ i p q. all i (sp .covers i p q)) (omega (arith, sp .ends))));
+        all-unplugged = λ v all.
+            let sp = spans-of (offsetOf w req) (in-range v) in
+            let c = sp .covers first (omega arith) (omega (arith, v .some-blocks)) in
+            ap some (state-over v ∙ rw (not-all-plugged v first c (all first c), all-when bs first count false (λ i p q. all i (sp .covers i p q)) (omega (arith, sp .ends))));
+        mixed = λ v i j c p d u. ap some (state-over v ∙ rw (not-all-plugged v j d u, not-all-unplugged v i c p));
+        whole = record {
           acknowledged = λ _.
               record {
-                valid = sp .valid;
-                were-unplugged = unplugged;
-                are-plugged = λ i c. at-inside (w .blocks) first count true i (sp .covered i c .0) (sp .covered i c .1) (omega (arith, sp .ends, sp .covered i c .1));
-                others = λ i no.
-                    by-test (leb first i)
-                    (λ t. by-test (ltb i (first + count)) (λ u. absurd (no (sp .covers i (leb-true first i t) (ltb-true i (first + count) u))))
-                    (λ u. at-after (w .blocks) first count true i (ltb-false i (first + count) u)))
-                    (λ t. at-before (w .blocks) first count true i (leb-false first i t));
-                grows = refl;
-                within-requested = fits;
+                plugs = λ u. absurd (omega arith);
+                unplugs = λ u. absurd (omega arith);
+                tells = λ _. record { same-blocks = refl; same-config = refl };
+                others = λ i _. refl;
+                same-usable = refl;
+                same-requested = refl;
               };
-          rejected = λ no. absurd (no refl);
-          responses = λ type e. only-type (0 ∷ 1 ∷ 3 ∷ []) 0 type refl e;
-        }
+          otherwise = λ _. record { same-blocks = refl; same-config = refl };
+        };
+        responses = λ type e. only-type (0 ∷ 3 ∷ []) _ type (state-among (rangeOf (blockSize w) (start w) (usable w) (req .addr .0) (req .«nb_blocks»))) e;
+      }
 
-    plug-at : (status : ℕ) (g : Guest) → Plug w req (plug w (req .addr .0) (req .«nb_blocks») status g)
-    unfolding plug plugAs responseOf among isLegal
-    plug-at status g =
-        by-cond (Plug w req) (ltb (requested w) (plugged w + sizeOf w req)) _ _
-        (λ t.
-        let more = ltb-true (requested w) (plugged w + sizeOf w req) t in
-        record {
-          over = λ _. refl;
-          bad-range = λ h _. absurd (omega arith);
-          already = λ h i _ _. absurd (omega arith);
-          granted = λ h _ _ _. absurd (omega arith);
-          acknowledged = λ e. let z : _≡_ {A = ℕ} 0 1 = cc in absurd (omega arith);
-          rejected = λ _. record { same-blocks = refl; same-config = refl };
-          responses = λ type e. only-type (0 ∷ 1 ∷ 3 ∷ []) 1 type refl e;
-        })
-        (λ t. go (changing w (req .addr .0) (req .«nb_blocks») true) refl (ltb-false (requested w) (plugged w + sizeOf w req) t))
-      where
-        bad : (c : Change) → changing w (req .addr .0) (req .«nb_blocks») true ≡ c → isLegal c ≡ false → plugged w + sizeOf w req ≤ requested w → Plug w req (served error status w g)
-        bad c e illegal fits =
-            record {
-              over = λ h. absurd (omega arith);
-              bad-range = λ _ _. refl;
-              already = λ _ i _ _. refl;
-              granted = λ _ v all m. clash (ap isLegal (sym e ∙ legal-change true v all m)) illegal;
-              acknowledged = λ e. let z : _≡_ {A = ℕ} 0 1 = cc in absurd (omega arith);
-              rejected = λ _. record { same-blocks = refl; same-config = refl };
-              responses = λ type e. only-type (0 ∷ 1 ∷ 3 ∷ []) 3 type refl e;
-            }
+-- ---- UNPLUG ALL: each block is an unplug of one block
+abbrev oneBlock : World → (i : ℕ) → VirtioMemReq
+oneBlock w i = record { «req_type» = «VIRTIO_MEM_REQ_UNPLUG»; addr = record { 0 = addressOf w i }; «nb_blocks» = 1 }
 
-        go : (c : Change) → changing w (req .addr .0) (req .«nb_blocks») true ≡ c → plugged w + sizeOf w req ≤ requested w → Plug w req (plugAs c w (req .«nb_blocks») status g)
-        go (Legal first offset host) e fits =
-            let l = legal-is (blockSize w) (start w) (usable w) (several w) (req .addr .0) (req .«nb_blocks») true (w .blocks) (w .rows) first offset host e in
-            plug-legal first status g fits (rw (← l .first-is) at (spans-of (offset .0) (l .in-range))) (l .not-wanted)
-        go (Outside part) e fits = bad (Outside part) e refl fits
-        go WrongState e fits = bad WrongState e refl fits
-        go (NoHost part) e fits = bad (NoHost part) e refl fits
+lowest-same : (w : World) (from i j : ℕ) → Lowest w from i → Lowest w from j → i ≡ j
+lowest-same w from i j p q =
+    by-test (ltb i j) (λ t. clash (p .is-plugged) (q .none-below i (p .from-there) (ltb-true i j t)))
+    (λ t. by-test (ltb j i) (λ u. clash (q .is-plugged) (p .none-below j (q .from-there) (ltb-true j i u)))
+    (λ u. omega (arith, ltb-false i j t, ltb-false j i u)))
 
-    -- ---- UNPLUG
-    unplug-at : (status : ℕ) (g : Guest) → Unplug w req (unplugAs (changing w (req .addr .0) (req .«nb_blocks») false) w (req .«nb_blocks») status g)
-    unfolding unplugAs responseOf among asks isLegal
-    unplug-at status g = go (changing w (req .addr .0) (req .«nb_blocks») false) refl
-      where
-        bad : (c : Change) → changing w (req .addr .0) (req .«nb_blocks») false ≡ c → isLegal c ≡ false → Unplug w req (served error status w g)
-        bad c e illegal =
-            record {
-              bad-range = λ _. refl;
-              already = λ i _ _. refl;
-              granted = λ _ v all m. clash (ap isLegal (sym e ∙ legal-change false v all m)) illegal;
-              not-yet = record { same-blocks = refl; same-config = refl };
-              responses = λ type e. only-type (3 ∷ []) 3 type refl e;
-              holds = λ call e i c. let z : _≡_ {A = ℕ} 0 1 = cc in absurd (omega arith);
-              holds-no-other = λ call e i p q. let z : _≡_ {A = ℕ} 0 1 = cc in absurd (omega arith);
-            }
+module _ (w : World) (sound : Sound w) where
+  whole-block : (b usable i : ℕ) → b ≡ 4194304 → usable % 4194304 ≡ 0 → i * b < usable → i * b + 1 * b ≤ usable
+  whole-block b usable i e u h = let h′ = rw e at h in rw e (omega arith)
 
-        -- nothing is wrong with the request, and there is no response yet
-        waits : (first : ℕ) (o : Outcome) → first ≡ blockOf w (req .addr .0) → Spans first → allAre (w .blocks) first (req .«nb_blocks») true ≡ true → responseOf (o .answer) ≡ none → (sizeOf w req ≤ plugged w → asks (o .answer) ≡ 1) → Unchanged w (o .world) → Unplug w req o
-        waits first o at sp state silent asked same =
-            record {
-              bad-range = λ wrong. absurd (wrong (sp .valid));
-              already = λ i c u. clash (all-at (w .blocks) first (req .«nb_blocks») true i state (sp .covered i c .0) (sp .covered i c .1) (omega (arith, sp .ends, sp .covered i c .1))) u;
-              granted = λ h _ _ _. asked h;
-              not-yet = same;
-              responses = λ type e. let z : _≡_ {A = ℕ} 0 1 = cc in absurd (omega arith);
-              holds = λ call e i c. rw (← at) (sp .covered i c);
-              holds-no-other = λ call e i p q. sp .covers i (rw (← at) at p) (rw (← at) at q);
-            }
+  -- a block that is plugged can be discarded exactly if its unplug is legal
+  one-legal : (i : ℕ) → IsPlugged w i → (can : CanDiscard w i)
+      → changing w (addressOf w i) 1 false ≡ Legal (blocksIn (blockSize w) (offsetOf w (oneBlock w i))) (record { 0 = offsetOf w (oneBlock w i) }) (can .mapped .host)
+  one-legal i plugged-there can =
+      let s = facts w sound in
+      let b = s .block-size in
+      let there : offsetOf w (oneBlock w i) ≡ i * blockSize w = omega arith in
+      let one : 1 * blockSize w ≡ blockSize w = omega arith in
+      legal-change w (oneBlock w i) sound false
+      (record {
+        aligned = add-mul-mod-self-right (start w) i (blockSize w) ∙ rw b (s .start-blocks);
+        some-blocks = omega arith;
+        from-start = omega arith;
+        to-usable = omega (arith, whole-block (blockSize w) (usable w) i b (s .usable-blocks) (can .in-usable));
+      })
+      (λ k c. let t = block-of (blockSize w) (start w) i 1 (addressOf w i) k b refl (c .begins) (c .ends) in let e : k ≡ i = omega arith in rw e plugged-there)
+      (record { host = can .mapped .host; maps = rw (there, one) (can .mapped .maps) })
 
-        go : (c : Change) → changing w (req .addr .0) (req .«nb_blocks») false ≡ c → Unplug w req (unplugAs c w (req .«nb_blocks») status g)
-        go (Legal first offset host) e =
-            let l = legal-is (blockSize w) (start w) (usable w) (several w) (req .addr .0) (req .«nb_blocks») false (w .blocks) (w .rows) first offset host e in
-            let sp = rw (← l .first-is) at (spans-of (offset .0) (l .in-range)) in
-            let at = l .first-is ∙ ap (λ n. blocksIn (blockSize w) n) (l .in-range .offset-is) in
-            by-cond (Unplug w req) (ltb (plugged w) (sizeOf w req)) _ _
-            (λ t. let less = ltb-true (plugged w) (sizeOf w req) t in waits first _ at sp (l .not-wanted) refl (λ h. absurd (omega arith)) (record { same-blocks = refl; same-config = refl }))
-            (λ _. waits first _ at sp (l .not-wanted) refl (λ _. refl) (record { same-blocks = refl; same-config = refl }))
-        go (Outside part) e = bad (Outside part) e refl
-        go WrongState e = bad WrongState e refl
-        go (NoHost part) e = bad (NoHost part) e refl
+  can-discard : (i first : ℕ) (offset : RegionOffset) (host : HostAddr) → changing w (addressOf w i) 1 false ≡ Legal first offset host → CanDiscard w i
+  can-discard i first offset host e =
+      let o = opened w (oneBlock w i) sound false first offset host e in
+      let b = facts w sound .block-size in
+      let there : offsetOf w (oneBlock w i) ≡ i * blockSize w = omega arith in
+      let one : 1 * blockSize w ≡ blockSize w = omega arith in
+      record { in-usable = omega (arith, o .spans .valid .to-usable); mapped = record { host = o .mapped .host; maps = rw (there, one) at (o .mapped .maps) } }
 
-    -- ---- STATE
-    state-type : (r : Range) → rangeOf (blockSize w) (start w) (usable w) (req .addr .0) (req .«nb_blocks») ≡ r → (Valid w req → ⊥) → stateType r ≡ 3
-    unfolding stateType
-    state-type (Inside o) e bad = absurd (bad (spans-of (o .0) (inside-is (blockSize w) (start w) (usable w) (req .addr .0) (req .«nb_blocks») o e) .valid))
-    state-type Misaligned e bad = refl
-    state-type NoBlocks e bad = refl
-    state-type Overflows e bad = refl
-    state-type BelowStart e bad = refl
-    state-type PastUsable e bad = refl
-    state-type EndPastUsable e bad = refl
+  unplugs-from : (from status : ℕ) (g : Guest) → UnplugsFrom w from (unplugAll w from status g)
+  unfolding nextAs oneAs responseOf among isLegal pendingOk
+  unplugs-from from status g = go (nextSet (w .blocks) from (regionBlocks w)) refl
+    where
+      lowest : (block : ℕ) → nextSet (w .blocks) from (regionBlocks w) ≡ At block → Lowest w from block
+      lowest block e =
+          let l = next-at (w .blocks) from (regionBlocks w) block e in
+          record {
+            from-there = l .from-on;
+            in-region = l .before-end;
+            is-plugged = l .is-set;
+            none-below = λ j p q. all-clear-at (w .blocks) from (block - from) j (l .clear-below) p (omega arith);
+          }
 
-    valid-type : Valid w req → stateType (rangeOf (blockSize w) (start w) (usable w) (req .addr .0) (req .«nb_blocks»)) ≡ 0
-    unfolding stateType
-    valid-type v =
-        let b = s .block-size in
-        rw (inside-when (blockSize w) (start w) (usable w) (req .addr .0) (req .«nb_blocks») (req .addr .0 - start w) (omega arith) (in-range v))
+      all-clear : nextSet (w .blocks) from (regionBlocks w) ≡ NoneSet → NoneFrom w from
+      all-clear e i p q = all-clear-at (w .blocks) from (regionBlocks w - from) i (next-nothing (w .blocks) from (regionBlocks w) e) p (omega arith)
 
-    -- the state is worked out over the blocks that the request covers
-    state-over : Valid w req → stateOf (blockSize w) (start w) (region w) (req .addr .0) (req .«nb_blocks») (w .blocks)
-        ≡ stateIn (range (w .blocks) (blocksIn (blockSize w) (req .addr .0 - start w)) (req .«nb_blocks»))
-    unfolding stateOf
-    state-over v =
-        let sp = spans-of (req .addr .0 - start w) (in-range v) in
-        rw (le-ltb (req .addr .0) (start w) (v .from-start), range-take (regionBlocks w) (w .blocks) (blocksIn (blockSize w) (req .addr .0 - start w)) (req .«nb_blocks») (sp .ends))
+      stopped : (block : ℕ) → Lowest w from block → (CanDiscard w block → ⊥) → UnplugsFrom w from (stops w status g)
+      stopped block l cannot-be =
+          let not-acknowledged : Responds (stops w status g) 0 → ⊥ = λ r. let z : _≡_ {A = ℕ} 0 1 = cc in omega arith in
+          record {
+            none-left = λ all. clash (l .is-plugged) (all block (l .from-there) (l .in-region));
+            only-none-left = λ r. absurd (not-acknowledged r);
+            size-zero = λ r. absurd (not-acknowledged r);
+            asks-lowest = λ i p can. absurd (cannot-be (rw (lowest-same w from i block p l) at can));
+            only-lowest = λ call f. let z : _≡_ {A = ℕ} 0 1 = cc in absurd (omega arith);
+            not-yet = λ _. record { same-blocks = refl; same-config = refl };
+            cannot = λ i p _. refl;
+            only-cannot = λ _. (block, l, cannot-be);
+            responses = λ type r. only-type (0 ∷ 3 ∷ []) 3 type refl r;
+          }
 
-    state-at : (status : ℕ) (g : Guest) → State w req (served (stateResp w (req .addr .0) (req .«nb_blocks»)) status w g)
-    unfolding responseOf stateFieldOf stateIn
-    state-at status g =
-        let first = blocksIn (blockSize w) (req .addr .0 - start w) in
-        let count = req .«nb_blocks» in
-        let bs = w .blocks in
-        let not-all-plugged : (v : Valid w req) (i : ℕ) → Covers w req i → IsUnplugged w i → allAre bs first count true ≡ false = λ v i c u.
-        let sp = spans-of (req .addr .0 - start w) (in-range v) in
-        by-test (allAre bs first count true)
-        (λ t. clash (all-at bs first count true i t (sp .covered i c .0) (sp .covered i c .1) (omega (arith, sp .ends, sp .covered i c .1))) u) (λ t. t) in
-        let not-all-unplugged : (v : Valid w req) (i : ℕ) → Covers w req i → IsPlugged w i → allAre bs first count false ≡ false = λ v i c u.
-        let sp = spans-of (req .addr .0 - start w) (in-range v) in
-        by-test (allAre bs first count false)
-        (λ t. clash u (all-at bs first count false i t (sp .covered i c .0) (sp .covered i c .1) (omega (arith, sp .ends, sp .covered i c .1)))) (λ t. t) in
-        record {
-          bad-range = λ bad. ap some (state-type _ refl bad);
-          acknowledged = λ v. ap some (valid-type v);
-          all-plugged = λ v all.
-              let sp = spans-of (req .addr .0 - start w) (in-range v) in
-              ap some (state-over v ∙ rw (all-when bs first count true (λ i p q. all i (sp .covers i p q)) (omega (arith, sp .ends))));
-          all-unplugged = λ v all.
-              let sp = spans-of (req .addr .0 - start w) (in-range v) in
-              let c = sp .covers first (omega arith) (omega (arith, v .some-blocks)) in
-              ap some (state-over v ∙ rw (not-all-plugged v first c (all first c), all-when bs first count false (λ i p q. all i (sp .covers i p q)) (omega (arith, sp .ends))));
-          mixed = λ v i j c p d u. ap some (state-over v ∙ rw (not-all-plugged v j d u, not-all-unplugged v i c p));
-          not-changed = record { same-blocks = refl; same-config = refl };
-          responses = λ type e. only-type (0 ∷ 3 ∷ []) _ type (state-among (rangeOf (blockSize w) (start w) (usable w) (req .addr .0) (req .«nb_blocks»))) e;
-        }
+      asks-for : (block first : ℕ) (offset : RegionOffset) (host : HostAddr) → Lowest w from block → CanDiscard w block → changing w (addressOf w block) 1 false ≡ Legal first offset host
+          → AsksLowest w from (asksOne w block (offset .0) (host .0) status g)
+      asks-for block first offset host l found e =
+          let legal = one-legal block (l .is-plugged) found in
+          let at-offset : offset ≡ record { 0 = offsetOf w (oneBlock w block) } = cc in
+          let at-host : host ≡ found .mapped .host = cc in
+          let there : offsetOf w (oneBlock w block) ≡ block * blockSize w = omega arith in
+          let one-size : 1 * blockSize w ≡ blockSize w = omega arith in
+          record {
+            block = block;
+            lowest = l;
+            can = found;
+            asks = rw (at-offset, at-host, there, one-size);
+            status = record { 0 = status };
+            awaits = awaits w sound (DiscardOne block (record { 0 = status })) (lt-ltb block (regionBlocks w) (l .in-region));
+          }
 
-    -- ---- UNPLUG ALL
-    unplug-all-at : (status : ℕ) (g : Guest) → UnplugAll w req (unplugAll w 0 status g)
-    unfolding nextAs oneAs responseOf among
-    unplug-all-at status g = go (nextSet (w .blocks) 0 (regionBlocks w)) refl
-      where
-        no-block : nextSet (w .blocks) 0 (regionBlocks w) ≡ NoneSet → allAre (w .blocks) 0 (regionBlocks w) false ≡ true
-        no-block e = let z : regionBlocks w - 0 ≡ regionBlocks w = omega arith in rw z at (next-nothing (w .blocks) 0 (regionBlocks w) e)
+      asked : (block first : ℕ) (offset : RegionOffset) (host : HostAddr) → Lowest w from block → changing w (addressOf w block) 1 false ≡ Legal first offset host
+          → UnplugsFrom w from (asksOne w block (offset .0) (host .0) status g)
+      asked block first offset host l e =
+          let silent : (type : ℕ) → none ≡ some type → ⊥ = λ type r. let z : _≡_ {A = ℕ} 0 1 = cc in omega arith in
+          let found = can-discard block first offset host e in
+          let asks = asks-for block first offset host l found e in
+          record {
+            none-left = λ all. clash (l .is-plugged) (all block (l .from-there) (l .in-region));
+            only-none-left = λ r. absurd (silent 0 r);
+            size-zero = λ r. absurd (silent 0 r);
+            asks-lowest = λ _ _ _. asks;
+            only-lowest = λ _ _. asks;
+            not-yet = λ _. record { same-blocks = refl; same-config = refl };
+            cannot = λ i p h. absurd (h (rw (lowest-same w from i block p l) found));
+            only-cannot = λ r. absurd (silent 3 r);
+            responses = λ type r. absurd (silent type r);
+          }
 
-        -- a block is plugged: the host is asked for it, or the response is ERROR
-        left : (block : ℕ) → nextSet (w .blocks) 0 (regionBlocks w) ≡ At block → (o : Outcome) → (Responds o 0 → ⊥) → RespondsAmong o (0 ∷ 3 ∷ []) → Unchanged w (o .world) → UnplugAll w req o
-        left block e o no-ack among-these same =
-            let lowest = next-at (w .blocks) 0 (regionBlocks w) block e in
-            record { none-left = λ all. clash (lowest .is-set) (all block (lowest .before-end)); acknowledged = λ r. absurd (no-ack r); not-yet = λ _. same; responses = among-these }
+      illegal : (block : ℕ) (c : Change) → Lowest w from block → changing w (addressOf w block) 1 false ≡ c → isLegal c ≡ false → CanDiscard w block → ⊥
+      illegal block c l e n can = clash (ap isLegal (sym e ∙ one-legal block (l .is-plugged) can)) n
 
-        stopped : (block : ℕ) → nextSet (w .blocks) 0 (regionBlocks w) ≡ At block → UnplugAll w req (stops w status g)
-        stopped block e =
-            left block e _ (λ r. let z : _≡_ {A = ℕ} 0 1 = cc in omega arith) (λ type r. only-type (0 ∷ 3 ∷ []) 3 type refl r) (record { same-blocks = refl; same-config = refl })
+      one : (block : ℕ) (c : Change) → Lowest w from block → changing w (addressOf w block) 1 false ≡ c → UnplugsFrom w from (oneAs c w block status g)
+      one block (Legal first offset host) l e = asked block first offset host l e
+      one block (Outside part) l e = stopped block l (illegal block (Outside part) l e refl)
+      one block WrongState l e = stopped block l (illegal block WrongState l e refl)
+      one block (NoHost part) l e = stopped block l (illegal block (NoHost part) l e refl)
 
-        one : (block : ℕ) → nextSet (w .blocks) 0 (regionBlocks w) ≡ At block → (c : Change) → UnplugAll w req (oneAs c w block status g)
-        one block e (Legal first offset host) =
-            left block e _ (λ r. let z : _≡_ {A = ℕ} 0 1 = cc in omega arith) (λ type r. let z : _≡_ {A = ℕ} 0 1 = cc in absurd (omega arith)) (record { same-blocks = refl; same-config = refl })
-        one block e (Outside part) = stopped block e
-        one block e WrongState = stopped block e
-        one block e (NoHost part) = stopped block e
-
-        go : (f : Found) → nextSet (w .blocks) 0 (regionBlocks w) ≡ f → UnplugAll w req (nextAs f w status g)
-        go NoneSet e =
-            record {
-              none-left = λ _. refl;
-              acknowledged = λ _. record { all-unplugged = λ i l. none-at (w .blocks) (regionBlocks w) i (no-block e) l; size-zero = refl };
-              not-yet = λ no. absurd (no refl);
-              responses = λ type e. only-type (0 ∷ 3 ∷ []) 0 type refl e;
-            }
-        go (At block) e = one block e (changing w (start w + bytesOf (blockSize w) block) 1 false)
+      go : (f : Found) → nextSet (w .blocks) from (regionBlocks w) ≡ f → UnplugsFrom w from (nextAs f w status g)
+      go NoneSet e =
+          record {
+            none-left = λ _. refl;
+            only-none-left = λ _. all-clear e;
+            size-zero = λ _. (refl, refl);
+            asks-lowest = λ i p _. clash (p .is-plugged) (all-clear e i (p .from-there) (p .in-region));
+            only-lowest = λ call f. let z : _≡_ {A = ℕ} 0 1 = cc in absurd (omega arith);
+            not-yet = λ h. absurd (h refl);
+            cannot = λ i p _. clash (p .is-plugged) (all-clear e i (p .from-there) (p .in-region));
+            only-cannot = λ r. let z : _≡_ {A = ℕ} 0 1 = cc in absurd (omega arith);
+            responses = λ type r. only-type (0 ∷ 3 ∷ []) 0 type refl r;
+          }
+      go (At block) e = one block (changing w (addressOf w block) 1 false) (lowest block e) refl
 
 -- ---- a request that is heard is served
 module _ (w : World) (g : Guest) (table head : ℕ) (req : VirtioMemReq) (status : GuestAddr) (h : Hears w g table head req status) where
-  ready : readyRefusal (w .device) (length (w .blocks)) (length (w .rows)) ≡ 0
-  unfolding readyRefusal
-  ready = rw (h .fits, h .shaped, h .is-idle, h .is-placed)
+  pub hearing : Sound w
+  hearing = record { shaped = h .shaped; fits = h .fits }
 
-  heard : step w (Request g table head) ≡ serve w req (status .0) g
+  pub heard : step w (Request g table head) ≡ serve w req (status .0) g
   unfolding step unless request
-  heard = rw (ready, h .reads)
+  heard = rw (ready-when (w .device) (length (w .blocks)) (length (w .rows)) (record { shaped = h .shaped; idle = h .is-idle; is-placed = h .is-placed; fits = h .fits }), h .reads)
 
-  long-enough : regionBlocks w ≤ length (w .blocks)
-  unfolding tablesFit
-  long-enough = leb-true (regionBlocks w) (length (w .blocks)) (and-left _ _ (h .fits))
-
-  facts : Facts (w .device)
-  facts = facts-of (w .device) (h .shaped)
-
-  to-plug : req .«req_type» ≡ «VIRTIO_MEM_REQ_PLUG» → step w (Request g table head) ≡ plug w (req .addr .0) (req .«nb_blocks») (status .0) g
+  pub to-plug : req .«req_type» ≡ «VIRTIO_MEM_REQ_PLUG» → step w (Request g table head) ≡ plug w (req .addr .0) (req .«nb_blocks») (status .0) g
   unfolding serve
   to-plug t = heard ∙ rw t
 
@@ -361,7 +593,7 @@ module _ (w : World) (g : Guest) (table head : ℕ) (req : VirtioMemReq) (status
   unfolding serve
   to-unplug t = heard ∙ rw t
 
-  to-state : req .«req_type» ≡ «VIRTIO_MEM_REQ_STATE» → step w (Request g table head) ≡ served (stateResp w (req .addr .0) (req .«nb_blocks»)) (status .0) w g
+  pub to-state : req .«req_type» ≡ «VIRTIO_MEM_REQ_STATE» → step w (Request g table head) ≡ served (stateResp w (req .addr .0) (req .«nb_blocks»)) (status .0) w g
   unfolding serve
   to-state t = heard ∙ rw t
 
@@ -377,19 +609,73 @@ module _ (w : World) (g : Guest) (table head : ℕ) (req : VirtioMemReq) (status
 
 pub plug-standard : OfEvery «VIRTIO_MEM_REQ_PLUG» Plug
 plug-standard w g table head req status h t =
-    rw (to-plug w g table head req status h t) (plug-at w req (facts w g table head req status h) (long-enough w g table head req status h) (status .0) g)
+    rw (to-plug w g table head req status h t) (plug-at w req (hearing w g table head req status h) t (status .0) g)
 
 pub unplug-standard : OfEvery «VIRTIO_MEM_REQ_UNPLUG» Unplug
 unplug-standard w g table head req status h t =
-    rw (to-unplug w g table head req status h t) (unplug-at w req (facts w g table head req status h) (long-enough w g table head req status h) (status .0) g)
+    rw (to-unplug w g table head req status h t) (unplug-at w req (hearing w g table head req status h) t (status .0) g)
 
 pub state-standard : OfEvery «VIRTIO_MEM_REQ_STATE» State
 state-standard w g table head req status h t =
-    rw (to-state w g table head req status h t) (state-at w req (facts w g table head req status h) (long-enough w g table head req status h) (status .0) g)
+    rw (to-state w g table head req status h t) (state-at w req (hearing w g table head req status h) t (status .0) g)
 
 pub unplug-all-standard : OfEvery «VIRTIO_MEM_REQ_UNPLUG_ALL» UnplugAll
 unplug-all-standard w g table head req status h t =
-    rw (to-unplug-all w g table head req status h t) (unplug-all-at w req (facts w g table head req status h) (long-enough w g table head req status h) (status .0) g)
+    rw (to-unplug-all w g table head req status h t) (unplugs-from w (hearing w g table head req status h) 0 (status .0) g)
 
 pub unknown-unserved : OfEveryUnknown Unknown
 unknown-unserved w g table head req status h t = rw (to-none w g table head req status h t) (record { no-response = refl; not-changed = record { same-blocks = refl; same-config = refl } })
+
+-- ---- the host's answer for one block of an unplug-all
+one-unplugged : (w : World) (j : ℕ) → j < length (w .blocks) → OneUnplugged w j (cleared w j)
+one-unplugged w j l =
+    record {
+      is-unplugged = one-inside w j l;
+      others = λ i apart. by-test (ltb i j) (λ t. one-before w j i (ltb-true i j t)) (λ t. one-behind w j i (after i apart (ltb-false i j t)));
+      shrinks = refl;
+    }
+  where
+    after : (i : ℕ) → (i ≡ j → ⊥) → j ≤ i → j < i
+    after i apart h = omega (arith, apart)
+
+pub one-standard : OfEveryOne
+unfolding hostAnswer responseOf
+one-standard w j status a g ok host = rw (answered w (DiscardOne j status) a refl g ok host) (by-ok ok)
+  where
+    sound : Sound w
+    sound = record { shaped = a .shaped; fits = a .fits }
+
+    taken : pendingRefusal (w .device) (length (w .blocks)) (length (w .rows)) ≡ 0
+    taken = not-refused w (DiscardOne j status) a refl
+
+    unplugs-one : OneUnplugged w j (cleared w j)
+    unplugs-one =
+        let b = facts w sound .block-size in
+        let inside : j < blocksIn 4194304 (region w) = discard-one-is (w .device) (a .shaped) j status (a .waits) in
+        let same : regionBlocks w ≡ blocksIn 4194304 (region w) = rw b in
+        one-unplugged w j (omega (arith, long w sound))
+
+    by-ok : (ok : Bool) → OneAnswered w j ok (hostAnswer (DiscardOne j status) w g ok host)
+    by-ok true =
+        record {
+          no-rejected = λ e. clash refl e;
+          no-unchanged = λ e. clash refl e;
+          ok-unplugs = unplugs-one;
+          ok-goes-on = λ _. unplugs-from (cleared w j) (record { shaped = cleared-shaped w taken j; fits = cleared-fits w taken j }) (j + 1) (status .0) g;
+        }
+    by-ok false =
+        record {
+          no-rejected = λ _. refl;
+          no-unchanged = λ _. record { same-blocks = refl; same-config = refl };
+          ok-unplugs = unplugs-one;
+          ok-goes-on = λ e. clash e refl;
+        }
+
+-- ---- tried against M11 and M14: a device that answers ERROR always, of whatever it might have done
+module _ (w : World) (req : VirtioMemReq) (status : ℕ) (g : Guest) where
+  pub error-always-no-plug : CanPlug w req → Plug w req (served error status w g) → ⊥
+  unfolding responseOf
+  error-always-no-plug can p = let e = p .granted can in let z : _≡_ {A = ℕ} 0 1 = cc in omega arith
+
+  pub error-always-no-unplug : CanUnplug w req → sizeOf w req ≤ plugged w → Unplug w req (served error status w g) → ⊥
+  error-always-no-unplug can enough p = let e = p .granted can enough in let z : _≡_ {A = ℕ} 0 1 = cc in omega arith

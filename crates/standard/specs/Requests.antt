@@ -1,4 +1,4 @@
--- What Virtio 1.2 says of a memory device (section 5.15), in its order: the config fields, the requests, and the response to each. Every comment is a paraphrase. Where a clause is narrower here than there, a line marked "narrower" says how, and docs/DIFFERENCES.md has the input.
+-- What Virtio 1.2 asks of the requests and of the response to each: M8 to M17 of docs/STANDARD.md. Everything here holds in every world, whether or not a run leads there. Where a clause is narrower here, a line says how, and docs/DIFFERENCES.md has the input.
 use Prim.Native.Nat.{ℕ, _+_, _-_, _*_, _%_, _^_, _≤_, _<_}
 use mathlib.Core.Path.{_≡_}
 use mathlib.Core.Bool.{Bool, true, false, _||_}
@@ -8,64 +8,28 @@ use lib.Dec.{eqb}
 use lib.ListN.{length}
 use Rattle.units.specs.declared.GuestAddr.{GuestAddr}
 use Rattle.units.specs.declared.HostAddr.{HostAddr}
-use Rattle.bitmap.specs.Blocks.{blockAt, ones}
+use Rattle.bitmap.specs.Blocks.{blockAt}
+use Rattle.little_endian.specs.Bytes.{part}
 use Rattle.change.specs.declared.HostRange.the-variants.{At}
 use Rattle.change.specs.Change.{hostOf}
+use Rattle.wire.specs.Standard.{virtioMemResp}
 use Rattle.wire.specs.declared.VirtioMemReq.{VirtioMemReq}
-use Rattle.wire.specs.declared.VirtioMemConfig.{VirtioMemConfig}
-use Rattle.chain.specs.declared.Parsed.the-variants.{Request as Got}
+use Rattle.wire.specs.declared.VirtioMemResp.{VirtioMemResp}
+use Rattle.chain.specs.declared.Parsed.{Parsed}
+use Rattle.chain.specs.declared.Parsed.the-variants.{Request as Got, Bad}
 use Rattle.chain.specs.Chain.{parsed}
 use Rattle.record.specs.declared.HostCall.{HostCall}
+use Rattle.record.specs.declared.HostCall.the-variants.{Discard as DiscardCall}
+use Rattle.record.specs.declared.Pending.{Pending}
+use Rattle.record.specs.declared.Pending.the-variants.{Nothing, Create, Discard, DiscardOne}
 use Rattle.record.specs.Shape.{shapedOf, isIdle}
 use Rattle.step.specs.declared.Answer.{Answer}
 use Rattle.step.specs.declared.Answer.the-variants.{Refused, Wants, Sized, Unserved, Served, Done}
 use Rattle.step.specs.World.{World, Guest, Call, Place, SetRequestedSize, Request, HostAnswer, ReadConfig, WriteConfig, Outcome}
-use Rattle.step.specs.Step.{step, blockSize, region, usable, plugged, requested, start, several, regionBlocks, tablesFit}
-use Rattle.history.specs.History.{blockOf, Unplugging, UnplugAllAck, acknowledges, used, Story, next}
-use Rattle.history.specs.Rules.{asks}
+use Rattle.step.specs.Step.{step, blockSize, usable, plugged, requested, start, several, regionBlocks, tablesFit, cleared}
+use Rattle.standard.specs.Config.{configOf}
 
--- ---- 5.15.4, device configuration layout
-abbrev pub configOf : World → VirtioMemConfig
-configOf w = w .device .config
-
--- block_size, node_id, addr and region_size cannot change; addr is given when the device is placed, before any driver sees it
-pub record Constant (w w′ : World) : Type 0 where
-  pub same-block-size : configOf w′ .«block_size» ≡ configOf w .«block_size»
-  pub same-node : configOf w′ .«node_id» ≡ configOf w .«node_id»
-  pub same-region : configOf w′ .«region_size» ≡ configOf w .«region_size»
-  pub same-addr : w .device .placed ≡ true → configOf w′ .addr ≡ configOf w .addr
-
-abbrev pub ConstantFields : Story → Call → Type 0
-ConstantFields s c = Constant (s .world) (next s c .world)
-
--- block_size is a power of two; every other size and the start are multiples of it, and no size is above region_size
-pub record Layout (w : World) : Type 0 where
-  pub power-of-two : blockSize w ≡ 2 ^ 22
-  pub addr-whole : start w % blockSize w ≡ 0
-  pub region-whole : region w % blockSize w ≡ 0
-  pub usable-whole : usable w % blockSize w ≡ 0
-  pub plugged-whole : plugged w % blockSize w ≡ 0
-  pub requested-whole : requested w % blockSize w ≡ 0
-  pub usable-within : usable w ≤ region w
-  pub plugged-within : plugged w ≤ region w
-  pub requested-within : requested w ≤ region w
-
-abbrev pub FieldsLaidOut : Story → Call → Type 0
-FieldsLaidOut s c = Layout (s .world)
-
--- usable_region_size is requested_size or more. Narrower: once the size change or the placing has answered that it is done
-abbrev pub UsableCoversRequested : Story → Call → Type 0
-UsableCoversRequested s c = step (s .world) c .answer ≡ Sized → requested (next s c .world) ≤ usable (next s c .world)
-
--- usable_region_size shrinks at most when an unplug-all is acknowledged; here it never does (`UsableNeverShrinks`)
-abbrev pub UsableShrinksByUnplugAll : Story → Call → Type 0
-UsableShrinksByUnplugAll s c = (acknowledges (s .world) (s .«open») c ≡ UnplugAllAck ∷ [] → ⊥) → usable (s .world) ≤ usable (next s c .world)
-
--- plugged_size is the size of the plugged memory blocks
-abbrev pub PluggedSizeIsOfBlocks : Story → Call → Type 0
-PluggedSizeIsOfBlocks s c = plugged (s .world) ≡ ones (used (s .world)) * blockSize (s .world)
-
--- ---- 5.15.6, device operation: requests, responses and states
+-- ---- M9: the types of requests and responses, and the states
 abbrev pub «VIRTIO_MEM_REQ_PLUG» : ℕ
 «VIRTIO_MEM_REQ_PLUG» = 0
 
@@ -84,6 +48,9 @@ abbrev pub «VIRTIO_MEM_RESP_ACK» : ℕ
 abbrev pub «VIRTIO_MEM_RESP_NACK» : ℕ
 «VIRTIO_MEM_RESP_NACK» = 1
 
+abbrev pub «VIRTIO_MEM_RESP_BUSY» : ℕ
+«VIRTIO_MEM_RESP_BUSY» = 2
+
 abbrev pub «VIRTIO_MEM_RESP_ERROR» : ℕ
 «VIRTIO_MEM_RESP_ERROR» = 3
 
@@ -96,7 +63,8 @@ abbrev pub «VIRTIO_MEM_STATE_UNPLUGGED» : ℕ
 abbrev pub «VIRTIO_MEM_STATE_MIXED» : ℕ
 «VIRTIO_MEM_STATE_MIXED» = 2
 
--- the type of the response, where the device has responded
+-- ---- the response
+-- its type, where the device has responded
 unfoldable pub responseOf : Answer → Option ℕ
 responseOf (Refused n) = none
 responseOf (Wants call) = none
@@ -120,148 +88,62 @@ Responds o type = responseOf (o .answer) ≡ some type
 abbrev pub Tells : Outcome → (state : ℕ) → Type 0
 Tells o state = stateFieldOf (o .answer) ≡ some state
 
--- the type is one of these
+-- one of these
 unfoldable pub among : List ℕ → ℕ → Bool
-among [] type = false
-among (t ∷ ts) type = eqb t type || among ts type
+among [] n = false
+among (m ∷ ms) n = eqb m n || among ms n
 
--- every response that is given to it is one of these. BUSY, which the standard allows, is never given
+-- a response that is given is one of these
 abbrev pub RespondsAmong : Outcome → List ℕ → Type 0
 RespondsAmong o types = (type : ℕ) → Responds o type → among types type ≡ true
 
--- the bytes that a request is about, from its addr on
-abbrev pub sizeOf : World → VirtioMemReq → ℕ
-sizeOf w req = req .«nb_blocks» * blockSize w
+-- the host is asked for this
+abbrev pub AsksFor : Outcome → HostCall → Type 0
+AsksFor o call = o .answer ≡ Wants call
 
--- addr is aligned to the block size, there is a block, and no block outside the usable region is covered
-pub record Valid (w : World) (req : VirtioMemReq) : Type 0 where
-  pub aligned : req .addr .0 % blockSize w ≡ 0
-  pub some-blocks : 0 < req .«nb_blocks»
-  pub from-start : start w ≤ req .addr .0
-  pub to-usable : req .addr .0 + sizeOf w req ≤ start w + usable w
-
+-- ---- the blocks
 -- memory block i of the device-managed region begins at this guest address
 abbrev pub addressOf : World → (i : ℕ) → ℕ
 addressOf w i = start w + i * blockSize w
 
--- the request covers memory block i: an aligned request covers the blocks that begin in its bytes
-pub record Covers (w : World) (req : VirtioMemReq) (i : ℕ) : Type 0 where
-  pub begins : req .addr .0 ≤ addressOf w i
-  pub ends : addressOf w i < req .addr .0 + sizeOf w req
-
--- a memory block is plugged or unplugged
 abbrev pub IsPlugged : World → (i : ℕ) → Type 0
 IsPlugged w i = blockAt (w .blocks) i ≡ true
 
 abbrev pub IsUnplugged : World → (i : ℕ) → Type 0
 IsUnplugged w i = blockAt (w .blocks) i ≡ false
 
--- no memory block and no config field changes
+abbrev pub SameBlock : World → World → (i : ℕ) → Type 0
+SameBlock w w′ i = blockAt (w′ .blocks) i ≡ blockAt (w .blocks) i
+
+-- no block and no config field has changed
 pub record Unchanged (w w′ : World) : Type 0 where
   pub same-blocks : w′ .blocks ≡ w .blocks
   pub same-config : configOf w′ ≡ configOf w
 
--- the host has memory for the whole range, in one mapping: 01's test (d), of which the standard has nothing
-pub record OneMapping (w : World) (req : VirtioMemReq) : Type 0 where
+-- the bytes that a request is about, from its addr on
+abbrev pub sizeOf : World → VirtioMemReq → ℕ
+sizeOf w req = req .«nb_blocks» * blockSize w
+
+-- the request covers block i: an aligned request covers the blocks that begin in its bytes
+pub record Covers (w : World) (req : VirtioMemReq) (i : ℕ) : Type 0 where
+  pub begins : req .addr .0 ≤ addressOf w i
+  pub ends : addressOf w i < req .addr .0 + sizeOf w req
+
+-- M11: addr is aligned to the block size, there is a block, and no block outside of the usable region is covered
+pub record Valid (w : World) (req : VirtioMemReq) : Type 0 where
+  pub aligned : req .addr .0 % blockSize w ≡ 0
+  pub some-blocks : 0 < req .«nb_blocks»
+  pub from-start : start w ≤ req .addr .0
+  pub to-usable : req .addr .0 + sizeOf w req ≤ start w + usable w
+
+-- the host has memory for `size` bytes from this offset on, in one mapping: 01's test (d), of which the standard has nothing
+pub record OneMapping (w : World) (offset size : ℕ) : Type 0 where
   pub host : HostAddr
-  pub maps : hostOf (several w) (w .rows) (req .addr .0 - start w) (sizeOf w req) ≡ At host
+  pub maps : hostOf (several w) (w .rows) offset size ≡ At host
 
--- ---- 5.15.6, PLUG
--- what an ACK says: all blocks that are covered were unplugged and are plugged, no other changed, and plugged_size grew by their size
-pub record PlugDone (w : World) (req : VirtioMemReq) (w′ : World) : Type 0 where
-  pub valid : Valid w req
-  pub were-unplugged : (i : ℕ) → Covers w req i → IsUnplugged w i
-  pub are-plugged : (i : ℕ) → Covers w req i → IsPlugged w′ i
-  pub others : (i : ℕ) → (Covers w req i → ⊥) → blockAt (w′ .blocks) i ≡ blockAt (w .blocks) i
-  pub grows : plugged w′ ≡ plugged w + sizeOf w req
-  pub within-requested : plugged w′ ≤ requested w′
-
-pub record Plug (w : World) (req : VirtioMemReq) (o : Outcome) : Type 0 where
-  -- rejected with NACK if plugged_size would exceed requested_size
-  pub over : requested w < plugged w + sizeOf w req → Responds o «VIRTIO_MEM_RESP_NACK»
-  -- rejected with ERROR if it is not valid. Narrower: NACK goes first
-  pub bad-range : plugged w + sizeOf w req ≤ requested w → (Valid w req → ⊥) → Responds o «VIRTIO_MEM_RESP_ERROR»
-  -- rejected with ERROR if a block is already plugged. Narrower: NACK goes first
-  pub already : plugged w + sizeOf w req ≤ requested w → (i : ℕ) → Covers w req i → IsPlugged w i → Responds o «VIRTIO_MEM_RESP_ERROR»
-  -- acknowledged otherwise. Narrower: where one mapping of the host has the whole range
-  pub granted : plugged w + sizeOf w req ≤ requested w → Valid w req → ((i : ℕ) → Covers w req i → IsUnplugged w i) → OneMapping w req → Responds o «VIRTIO_MEM_RESP_ACK»
-  pub acknowledged : Responds o «VIRTIO_MEM_RESP_ACK» → PlugDone w req (o .world)
-  pub rejected : (Responds o «VIRTIO_MEM_RESP_ACK» → ⊥) → Unchanged w (o .world)
-  pub responses : RespondsAmong o («VIRTIO_MEM_RESP_ACK» ∷ «VIRTIO_MEM_RESP_NACK» ∷ «VIRTIO_MEM_RESP_ERROR» ∷ [])
-
--- ---- 5.15.6, UNPLUG: the response comes when the host has discarded the memory
-pub record Unplug (w : World) (req : VirtioMemReq) (o : Outcome) : Type 0 where
-  -- rejected with ERROR if it is not valid
-  pub bad-range : (Valid w req → ⊥) → Responds o «VIRTIO_MEM_RESP_ERROR»
-  -- rejected with ERROR if a block is already unplugged
-  pub already : (i : ℕ) → Covers w req i → IsUnplugged w i → Responds o «VIRTIO_MEM_RESP_ERROR»
-  -- otherwise the host is asked to discard the memory. Narrower: where one mapping of the host has the whole range
-  pub granted : sizeOf w req ≤ plugged w → Valid w req → ((i : ℕ) → Covers w req i → IsPlugged w i) → OneMapping w req → asks (o .answer) ≡ 1
-  -- nothing is unplugged before the host has answered
-  pub not-yet : Unchanged w (o .world)
-  -- so what is responded at once is ERROR
-  pub responses : RespondsAmong o («VIRTIO_MEM_RESP_ERROR» ∷ [])
-  -- the host is asked for the blocks that are covered, which stay open until it answers
-  pub holds : (call : HostCall) → o .answer ≡ Wants call → (i : ℕ) → Covers w req i → (blockOf w (req .addr .0) ≤ i) × (i < blockOf w (req .addr .0) + req .«nb_blocks»)
-  pub holds-no-other : (call : HostCall) → o .answer ≡ Wants call → (i : ℕ) → blockOf w (req .addr .0) ≤ i → i < blockOf w (req .addr .0) + req .«nb_blocks» → Covers w req i
-
--- what an ACK says of the `count` blocks from `first` on that were held open: all were plugged and are unplugged, no other changed, and plugged_size shrank by their size
-pub record UnplugDone (w : World) (first count : ℕ) (w′ : World) : Type 0 where
-  pub were-plugged : (i : ℕ) → first ≤ i → i < first + count → IsPlugged w i
-  pub are-unplugged : (i : ℕ) → first ≤ i → i < first + count → IsUnplugged w′ i
-  pub others-before : (i : ℕ) → i < first → blockAt (w′ .blocks) i ≡ blockAt (w .blocks) i
-  pub others-after : (i : ℕ) → first + count ≤ i → blockAt (w′ .blocks) i ≡ blockAt (w .blocks) i
-  pub shrinks : plugged w′ + count * blockSize w ≡ plugged w
-
-abbrev pub UnplugAcknowledged : Story → Call → Type 0
-UnplugAcknowledged s c = (g : Guest) (ok : Bool) (host first count : ℕ) → c ≡ HostAnswer g ok host → s .«open» ≡ Unplugging first count
-    → Responds (step (s .world) c) «VIRTIO_MEM_RESP_ACK» → UnplugDone (s .world) first count (next s c .world)
-
--- rejected, where the host could not discard: no block and no plugged_size changed
-abbrev pub UnplugRejected : Story → Call → Type 0
-UnplugRejected s c = (g : Guest) (ok : Bool) (host first count : ℕ) → c ≡ HostAnswer g ok host → s .«open» ≡ Unplugging first count
-    → Responds (step (s .world) c) «VIRTIO_MEM_RESP_ERROR» → (next s c .world .blocks ≡ s .world .blocks) × (plugged (next s c .world) ≡ plugged (s .world))
-
--- ---- 5.15.6, UNPLUG ALL: an ACK, at once or when the host has discarded the last block, says that no block is plugged and that plugged_size is 0
-pub record NonePlugged (w : World) : Type 0 where
-  pub all-unplugged : (i : ℕ) → i < regionBlocks w → IsUnplugged w i
-  pub size-zero : plugged w ≡ 0
-
-pub record UnplugAll (w : World) (req : VirtioMemReq) (o : Outcome) : Type 0 where
-  -- acknowledged if no block is plugged
-  pub none-left : ((i : ℕ) → i < regionBlocks w → IsUnplugged w i) → Responds o «VIRTIO_MEM_RESP_ACK»
-  pub acknowledged : Responds o «VIRTIO_MEM_RESP_ACK» → NonePlugged (o .world)
-  pub not-yet : (Responds o «VIRTIO_MEM_RESP_ACK» → ⊥) → Unchanged w (o .world)
-  -- not the standard's: it has no ERROR for this request
-  pub responses : RespondsAmong o («VIRTIO_MEM_RESP_ACK» ∷ «VIRTIO_MEM_RESP_ERROR» ∷ [])
-
-abbrev pub UnplugAllAcknowledged : Story → Call → Type 0
-UnplugAllAcknowledged s c = acknowledges (s .world) (s .«open») c ≡ UnplugAllAck ∷ []
-    → Responds (step (s .world) c) «VIRTIO_MEM_RESP_ACK» → NonePlugged (next s c .world)
-
--- ---- 5.15.6, STATE
-pub record State (w : World) (req : VirtioMemReq) (o : Outcome) : Type 0 where
-  -- rejected with ERROR if it is not valid, and acknowledged otherwise
-  pub bad-range : (Valid w req → ⊥) → Responds o «VIRTIO_MEM_RESP_ERROR»
-  pub acknowledged : Valid w req → Responds o «VIRTIO_MEM_RESP_ACK»
-  -- with PLUGGED, UNPLUGGED or MIXED
-  pub all-plugged : Valid w req → ((i : ℕ) → Covers w req i → IsPlugged w i) → Tells o «VIRTIO_MEM_STATE_PLUGGED»
-  pub all-unplugged : Valid w req → ((i : ℕ) → Covers w req i → IsUnplugged w i) → Tells o «VIRTIO_MEM_STATE_UNPLUGGED»
-  pub mixed : Valid w req → (i j : ℕ) → Covers w req i → IsPlugged w i → Covers w req j → IsUnplugged w j → Tells o «VIRTIO_MEM_STATE_MIXED»
-  pub not-changed : Unchanged w (o .world)
-  pub responses : RespondsAmong o («VIRTIO_MEM_RESP_ACK» ∷ «VIRTIO_MEM_RESP_ERROR» ∷ [])
-
--- ---- no memory block is plugged or unplugged but by a request; a host answer is a request's end, and placing is before any request
-unfoldable pub isRequest : Call → Bool
-isRequest (Place at size slots blocks rows) = true
-isRequest (SetRequestedSize mib) = false
-isRequest (Request guest table head) = true
-isRequest (HostAnswer guest ok host) = true
-isRequest (ReadConfig offset buffer) = false
-isRequest (WriteConfig offset buffer) = false
-
-abbrev pub OnlyRequestsPlug : Story → Call → Type 0
-OnlyRequestsPlug s c = isRequest c ≡ false → (next s c .world .blocks ≡ s .world .blocks) × (plugged (next s c .world) ≡ plugged (s .world))
+-- where the request begins in the region
+abbrev pub offsetOf : World → VirtioMemReq → ℕ
+offsetOf w req = req .addr .0 - start w
 
 -- ---- a request that reaches a device which is ready for it
 pub record Hears (w : World) (g : Guest) (table head : ℕ) (req : VirtioMemReq) (status : GuestAddr) : Type 0 where
@@ -271,23 +153,252 @@ pub record Hears (w : World) (g : Guest) (table head : ℕ) (req : VirtioMemReq)
   pub fits : tablesFit (w .device) (length (w .blocks)) (length (w .rows)) ≡ true
   pub reads : parsed (g .mem) (g .base) table head ≡ Got req status
 
--- P holds of every request of this type and its outcome
-abbrev pub OfEvery : (type : ℕ) → (World → VirtioMemReq → Outcome → Type 0) → Type 0
-OfEvery type P = (w : World) (g : Guest) (table head : ℕ) (req : VirtioMemReq) (status : GuestAddr) → Hears w g table head req status → req .«req_type» ≡ type
+-- P holds of every such request, whose type is one of these, and its outcome
+abbrev pub OfEveryType : (these : ℕ → Type 0) → (World → VirtioMemReq → Outcome → Type 0) → Type 0
+OfEveryType these P = (w : World) (g : Guest) (table head : ℕ) (req : VirtioMemReq) (status : GuestAddr) → Hears w g table head req status → these (req .«req_type»)
     → P w req (step w (Request g table head))
+
+abbrev pub OfEvery : (type : ℕ) → (World → VirtioMemReq → Outcome → Type 0) → Type 0
+OfEvery type P = OfEveryType (λ t. t ≡ type) P
+
+abbrev pub OfEveryUnknown : (World → VirtioMemReq → Outcome → Type 0) → Type 0
+OfEveryUnknown P = OfEveryType (λ t. 3 < t) P
+
+-- the call brings such a request, of this type
+pub record Brings (w : World) (c : Call) (type : ℕ) : Type 0 where
+  pub guest : Guest
+  pub table : ℕ
+  pub head : ℕ
+  pub req : VirtioMemReq
+  pub status : GuestAddr
+  pub is-request : c ≡ Request guest table head
+  pub hears : Hears w guest table head req status
+  pub is-type : req .«req_type» ≡ type
+
+-- and the host's answer to a call that waits for it, p
+pub record Awaits (w : World) (p : Pending) : Type 0 where
+  pub shaped : shapedOf (w .device) ≡ true
+  pub waits : w .device .pending ≡ p
+  pub fits : tablesFit (w .device) (length (w .blocks)) (length (w .rows)) ≡ true
+
+-- until then no other call changes anything
+unfoldable pub isHostAnswer : Call → Bool
+isHostAnswer (Place at size slots blocks rows) = false
+isHostAnswer (SetRequestedSize mib) = false
+isHostAnswer (Request guest table head) = false
+isHostAnswer (HostAnswer guest ok host) = true
+isHostAnswer (ReadConfig offset buffer) = false
+isHostAnswer (WriteConfig offset buffer) = false
+
+abbrev pub WaitingStays : World → Call → Outcome → Type 0
+WaitingStays w c o = isIdle (w .device .pending) ≡ false → isHostAnswer c ≡ false → o .world ≡ w
+
+-- ---- M8: the response in the guest's bytes
+-- the guest memory that a call lends; what lends none has no byte of it
+unfoldable pub lentBy : Call → Guest
+lentBy (Place at size slots blocks rows) = record { mem = []; base = 0 }
+lentBy (SetRequestedSize mib) = record { mem = []; base = 0 }
+lentBy (Request guest table head) = guest
+lentBy (HostAnswer guest ok host) = guest
+lentBy (ReadConfig offset buffer) = record { mem = []; base = 0 }
+lentBy (WriteConfig offset buffer) = record { mem = []; base = 0 }
+
+-- where a response goes: to the status address of the chain that the call brings, or of the request that waits for the host
+unfoldable pub statusOfChain : Parsed → Option ℕ
+statusOfChain (Bad reason) = none
+statusOfChain (Got req status) = some (status .0)
+
+unfoldable pub statusOfPending : Pending → Option ℕ
+statusOfPending Nothing = none
+statusOfPending (Create first last) = none
+statusOfPending (Discard first count status) = some (status .0)
+statusOfPending (DiscardOne block status) = some (status .0)
+
+unfoldable pub statusFor : World → Call → Option ℕ
+statusFor w (Place at size slots blocks rows) = none
+statusFor w (SetRequestedSize mib) = none
+statusFor w (Request guest table head) = statusOfChain (parsed (guest .mem) (guest .base) table head)
+statusFor w (HostAnswer guest ok host) = statusOfPending (w .device .pending)
+statusFor w (ReadConfig offset buffer) = none
+statusFor w (WriteConfig offset buffer) = none
+
+-- the ten bytes at the status address are the standard's layout of the response, its padding zero, and no other byte has changed
+pub record Written (g : Guest) (status : ℕ) (resp : VirtioMemResp) (bytes : List ℕ) : Type 0 where
+  pub from-base : g .base ≤ status
+  pub to-end : status + 10 ≤ g .base + length (g .mem)
+  pub laid-out : part bytes (status - g .base) 10 ≡ virtioMemResp (resp .«resp_type») 0 0 0 (resp .state)
+  pub same-before : (i n : ℕ) → i + n ≤ status - g .base → part bytes i n ≡ part (g .mem) i n
+  pub same-behind : (i n : ℕ) → status - g .base + 10 ≤ i → part bytes i n ≡ part (g .mem) i n
+  pub same-length : length bytes ≡ length (g .mem)
+
+-- a used length of 10 says that the response is written, and 0 that nothing is; it is 10 wherever there is room
+pub record Delivered (g : Guest) (status : ℕ) (resp : VirtioMemResp) (used : ℕ) (bytes : List ℕ) : Type 0 where
+  pub whole : used ≡ 10 → Written g status resp bytes
+  pub nothing : used ≡ 0 → bytes ≡ g .mem
+  pub no-other : among (10 ∷ 0 ∷ []) used ≡ true
+  pub with-room : g .base ≤ status → status + 10 ≤ g .base + length (g .mem) → status + 10 ≤ 2 ^ 64 → used ≡ 10
+
+pub record ResponseTo (w : World) (c : Call) (resp : VirtioMemResp) (used : ℕ) (bytes : List ℕ) : Type 0 where
+  pub status : ℕ
+  pub goes-to : statusFor w c ≡ some status
+  pub delivered : Delivered (lentBy c) status resp used bytes
+
+abbrev pub ResponseIsDelivered : World → Call → Outcome → Type 0
+ResponseIsDelivered w c o = (resp : VirtioMemResp) (used : ℕ) → o .answer ≡ Served resp used → ResponseTo w c resp used (o .bytes)
+
+-- a request that waits for the host keeps the status address of its chain
+abbrev pub StatusIsKept : World → Call → Outcome → Type 0
+StatusIsKept w c o = (call : HostCall) → AsksFor o call → statusOfPending (o .world .device .pending) ≡ statusFor w c
+
+-- and without a response no byte of guest memory changes
+abbrev pub SilenceWritesNothing : Type 0
+SilenceWritesNothing = (w : World) (g : Guest) → ((table head : ℕ) → responseOf (step w (Request g table head) .answer) ≡ none → step w (Request g table head) .bytes ≡ g .mem)
+    × ((ok : Bool) (host : ℕ) → responseOf (step w (HostAnswer g ok host) .answer) ≡ none → step w (HostAnswer g ok host) .bytes ≡ g .mem)
+
+-- ---- M10: a request is carried out as a whole and acknowledged, or nothing of it is carried out. Narrower: not an unplug-all (M15)
+-- as a whole: every block that it covers is in the state that it asks for and no other has changed, plugged_size has moved by their size, and no other config field has; a state request asks for nothing
+pub record CarriedOut (w : World) (req : VirtioMemReq) (w′ : World) : Type 0 where
+  pub plugs : req .«req_type» ≡ «VIRTIO_MEM_REQ_PLUG» → ((i : ℕ) → Covers w req i → IsPlugged w′ i) × (plugged w′ ≡ plugged w + sizeOf w req)
+  pub unplugs : req .«req_type» ≡ «VIRTIO_MEM_REQ_UNPLUG» → ((i : ℕ) → Covers w req i → IsUnplugged w′ i) × (plugged w′ + sizeOf w req ≡ plugged w)
+  pub tells : req .«req_type» ≡ «VIRTIO_MEM_REQ_STATE» → Unchanged w w′
+  pub others : (i : ℕ) → (Covers w req i → ⊥) → SameBlock w w′ i
+  pub same-usable : usable w′ ≡ usable w
+  pub same-requested : requested w′ ≡ requested w
+
+pub record WholeOrNothing (w : World) (req : VirtioMemReq) (o : Outcome) : Type 0 where
+  pub acknowledged : Responds o «VIRTIO_MEM_RESP_ACK» → CarriedOut w req (o .world)
+  pub otherwise : (Responds o «VIRTIO_MEM_RESP_ACK» → ⊥) → Unchanged w (o .world)
+
+-- ---- M11, M12, M13: PLUG
+-- what a plug is acknowledged for. Narrower: one mapping of the host has the whole range
+pub record CanPlug (w : World) (req : VirtioMemReq) : Type 0 where
+  pub within-requested : plugged w + sizeOf w req ≤ requested w
+  pub valid : Valid w req
+  pub all-unplugged : (i : ℕ) → Covers w req i → IsUnplugged w i
+  pub mapped : OneMapping w (offsetOf w req) (sizeOf w req)
+
+pub record Plug (w : World) (req : VirtioMemReq) (o : Outcome) : Type 0 where
+  -- M12: rejected with NACK if plugged_size would exceed requested_size, and then only
+  pub over : requested w < plugged w + sizeOf w req → Responds o «VIRTIO_MEM_RESP_NACK»
+  pub only-over : Responds o «VIRTIO_MEM_RESP_NACK» → requested w < plugged w + sizeOf w req
+  -- M11: rejected with ERROR if it is not valid, or a block is plugged already. Narrower: NACK goes first
+  pub bad-range : plugged w + sizeOf w req ≤ requested w → (Valid w req → ⊥) → Responds o «VIRTIO_MEM_RESP_ERROR»
+  pub already : plugged w + sizeOf w req ≤ requested w → (i : ℕ) → Covers w req i → IsPlugged w i → Responds o «VIRTIO_MEM_RESP_ERROR»
+  -- acknowledged otherwise, and then only
+  pub granted : CanPlug w req → Responds o «VIRTIO_MEM_RESP_ACK»
+  pub only-granted : Responds o «VIRTIO_MEM_RESP_ACK» → CanPlug w req
+  -- M10, M13
+  pub whole : WholeOrNothing w req o
+  pub responses : RespondsAmong o («VIRTIO_MEM_RESP_ACK» ∷ «VIRTIO_MEM_RESP_NACK» ∷ «VIRTIO_MEM_RESP_ERROR» ∷ [])
+
+-- ---- M14: UNPLUG, in two calls: the request asks the host to discard the memory, and the host's answer decides
+pub record CanUnplug (w : World) (req : VirtioMemReq) : Type 0 where
+  pub valid : Valid w req
+  pub all-plugged : (i : ℕ) → Covers w req i → IsPlugged w i
+  pub mapped : OneMapping w (offsetOf w req) (sizeOf w req)
+
+pub record Unplug (w : World) (req : VirtioMemReq) (o : Outcome) : Type 0 where
+  -- rejected with ERROR if it is not valid, or a block is unplugged already
+  pub bad-range : (Valid w req → ⊥) → Responds o «VIRTIO_MEM_RESP_ERROR»
+  pub already : (i : ℕ) → Covers w req i → IsUnplugged w i → Responds o «VIRTIO_MEM_RESP_ERROR»
+  -- otherwise the host is asked for the range, by its offset and size. Narrower: where one mapping of the host has it. A plugged_size that has not so much is spoiled, and in no run (`PluggedBlocksUnplug`)
+  pub granted : (can : CanUnplug w req) → sizeOf w req ≤ plugged w → AsksFor o (DiscardCall (record { 0 = offsetOf w req }) (sizeOf w req) (can .mapped .host))
+  pub spoiled : CanUnplug w req → plugged w < sizeOf w req → o .answer ≡ Refused 12
+  pub only-granted : (call : HostCall) → AsksFor o call → CanUnplug w req
+  -- its ok is acknowledged, its no is an ERROR, and there is no other response at once
+  pub ok-acknowledged : (call : HostCall) → AsksFor o call → (g : Guest) (host : ℕ) → Responds (step (o .world) (HostAnswer g true host)) «VIRTIO_MEM_RESP_ACK»
+  pub no-rejected : (call : HostCall) → AsksFor o call → (g : Guest) (host : ℕ) → Responds (step (o .world) (HostAnswer g false host)) «VIRTIO_MEM_RESP_ERROR»
+  pub responses : RespondsAmong o («VIRTIO_MEM_RESP_ERROR» ∷ [])
+  -- M10, M14: nothing is unplugged before the answer, and by it the whole or nothing
+  pub whole : WholeOrNothing w req o
+  pub whole-answered : (call : HostCall) → AsksFor o call → (g : Guest) (ok : Bool) (host : ℕ) → WholeOrNothing w req (step (o .world) (HostAnswer g ok host))
+
+-- ---- M15: UNPLUG ALL, block after block. Narrower than M10: what is unplugged stays so when a later block fails, and that is an ERROR, which the standard has not for this request
+-- the lowest plugged block from `from` on, and that there is none
+pub record Lowest (w : World) (from i : ℕ) : Type 0 where
+  pub from-there : from ≤ i
+  pub in-region : i < regionBlocks w
+  pub is-plugged : IsPlugged w i
+  pub none-below : (j : ℕ) → from ≤ j → j < i → IsUnplugged w j
+
+abbrev pub NoneFrom : World → (from : ℕ) → Type 0
+NoneFrom w from = (i : ℕ) → from ≤ i → i < regionBlocks w → IsUnplugged w i
+
+-- block i lies in the usable region, as every plugged block does (M6), and a mapping has it
+pub record CanDiscard (w : World) (i : ℕ) : Type 0 where
+  pub in-usable : i * blockSize w < usable w
+  pub mapped : OneMapping w (i * blockSize w) (blockSize w)
+
+-- the host is asked to discard the lowest plugged block, by its offset and size, and the request awaits its answer
+pub record AsksLowest (w : World) (from : ℕ) (o : Outcome) : Type 0 where
+  pub block : ℕ
+  pub lowest : Lowest w from block
+  pub can : CanDiscard w block
+  pub asks : AsksFor o (DiscardCall (record { 0 = block * blockSize w }) (blockSize w) (can .mapped .host))
+  pub status : GuestAddr
+  pub awaits : Awaits (o .world) (DiscardOne block status)
+
+-- an unplug-all that has come to block `from`
+pub record UnplugsFrom (w : World) (from : ℕ) (o : Outcome) : Type 0 where
+  -- acknowledged if no block is plugged any more, and then only; plugged_size is 0
+  pub none-left : NoneFrom w from → Responds o «VIRTIO_MEM_RESP_ACK»
+  pub only-none-left : Responds o «VIRTIO_MEM_RESP_ACK» → NoneFrom w from
+  pub size-zero : Responds o «VIRTIO_MEM_RESP_ACK» → (o .world .blocks ≡ w .blocks) × (plugged (o .world) ≡ 0)
+  -- otherwise the host is asked for the lowest one, and for no other, which stays plugged until it answers
+  pub asks-lowest : (i : ℕ) → Lowest w from i → CanDiscard w i → AsksLowest w from o
+  pub only-lowest : (call : HostCall) → AsksFor o call → AsksLowest w from o
+  pub not-yet : (Responds o «VIRTIO_MEM_RESP_ACK» → ⊥) → Unchanged w (o .world)
+  -- ERROR if no mapping has it, and for no other reason
+  pub cannot : (i : ℕ) → Lowest w from i → (CanDiscard w i → ⊥) → Responds o «VIRTIO_MEM_RESP_ERROR»
+  pub only-cannot : Responds o «VIRTIO_MEM_RESP_ERROR» → (i : ℕ) × Lowest w from i × (CanDiscard w i → ⊥)
+  pub responses : RespondsAmong o («VIRTIO_MEM_RESP_ACK» ∷ «VIRTIO_MEM_RESP_ERROR» ∷ [])
+
+abbrev pub UnplugAll : World → VirtioMemReq → Outcome → Type 0
+UnplugAll w req o = UnplugsFrom w 0 o
+
+-- block j is unplugged, and no other
+pub record OneUnplugged (w : World) (j : ℕ) (w′ : World) : Type 0 where
+  pub is-unplugged : IsUnplugged w′ j
+  pub others : (i : ℕ) → (i ≡ j → ⊥) → SameBlock w w′ i
+  pub shrinks : plugged w′ ≡ plugged w - blockSize w
+
+-- the host has answered for block j of an unplug-all: its no is an ERROR, and nothing has changed; by its ok the block is unplugged, and the next is looked for
+pub record OneAnswered (w : World) (j : ℕ) (ok : Bool) (o : Outcome) : Type 0 where
+  pub no-rejected : ok ≡ false → Responds o «VIRTIO_MEM_RESP_ERROR»
+  pub no-unchanged : ok ≡ false → Unchanged w (o .world)
+  pub ok-unplugs : OneUnplugged w j (cleared w j)
+  pub ok-goes-on : ok ≡ true → UnplugsFrom (cleared w j) (j + 1) o
+
+abbrev pub OfEveryOne : Type 0
+OfEveryOne = (w : World) (j : ℕ) (status : GuestAddr) → Awaits w (DiscardOne j status) → (g : Guest) (ok : Bool) (host : ℕ) → OneAnswered w j ok (step w (HostAnswer g ok host))
+
+-- ---- M16: STATE
+pub record State (w : World) (req : VirtioMemReq) (o : Outcome) : Type 0 where
+  -- rejected with ERROR if it is not valid, and acknowledged otherwise
+  pub bad-range : (Valid w req → ⊥) → Responds o «VIRTIO_MEM_RESP_ERROR»
+  pub acknowledged : Valid w req → Responds o «VIRTIO_MEM_RESP_ACK»
+  -- with PLUGGED, UNPLUGGED or MIXED
+  pub all-plugged : Valid w req → ((i : ℕ) → Covers w req i → IsPlugged w i) → Tells o «VIRTIO_MEM_STATE_PLUGGED»
+  pub all-unplugged : Valid w req → ((i : ℕ) → Covers w req i → IsUnplugged w i) → Tells o «VIRTIO_MEM_STATE_UNPLUGGED»
+  pub mixed : Valid w req → (i j : ℕ) → Covers w req i → IsPlugged w i → Covers w req j → IsUnplugged w j → Tells o «VIRTIO_MEM_STATE_MIXED»
+  -- M10: it changes nothing in either case
+  pub whole : WholeOrNothing w req o
+  pub responses : RespondsAmong o («VIRTIO_MEM_RESP_ACK» ∷ «VIRTIO_MEM_RESP_ERROR» ∷ [])
 
 -- not the standard's: a request of a type that it does not have gets no response, and changes nothing
 pub record Unknown (w : World) (req : VirtioMemReq) (o : Outcome) : Type 0 where
   pub no-response : o .answer ≡ Unserved 0
   pub not-changed : Unchanged w (o .world)
 
-abbrev pub OfEveryUnknown : (World → VirtioMemReq → Outcome → Type 0) → Type 0
-OfEveryUnknown P = (w : World) (g : Guest) (table head : ℕ) (req : VirtioMemReq) (status : GuestAddr) → Hears w g table head req status → 3 < req .«req_type»
-    → P w req (step w (Request g table head))
+-- ---- of every call
+-- M12: NACK is given to no other request than a plug whose plugged_size would exceed requested_size
+pub record PlugPastRequested (w : World) (c : Call) : Type 0 where
+  pub brings : Brings w c «VIRTIO_MEM_REQ_PLUG»
+  pub over : requested w < plugged w + sizeOf w (brings .req)
 
--- ---- PLUG, counted by blocks: whatever was refused or failed before, unplugged blocks can be plugged as long as they and the plugged ones are at most requested_size
-abbrev pub FreeBlocksPlug : Story → Call → Type 0
-FreeBlocksPlug s c = (g : Guest) (table head : ℕ) (req : VirtioMemReq) (status : GuestAddr) → c ≡ Request g table head → Hears (s .world) g table head req status → req .«req_type» ≡ «VIRTIO_MEM_REQ_PLUG»
-    → ones (used (s .world)) * blockSize (s .world) + sizeOf (s .world) req ≤ requested (s .world)
-    → Valid (s .world) req → ((i : ℕ) → Covers (s .world) req i → IsUnplugged (s .world) i) → OneMapping (s .world) req
-    → Responds (step (s .world) c) «VIRTIO_MEM_RESP_ACK»
+abbrev pub NackOnlyPastRequested : World → Call → Outcome → Type 0
+NackOnlyPastRequested w c o = Responds o «VIRTIO_MEM_RESP_NACK» → PlugPastRequested w c
+
+-- M17: BUSY is never given, so no request is asked to be tried again
+abbrev pub NeverBusy : World → Call → Outcome → Type 0
+NeverBusy w c o = Responds o «VIRTIO_MEM_RESP_BUSY» → ⊥

@@ -1,0 +1,191 @@
+-- The device and the clauses M2 to M5 and M7: the features and the config fields.
+use Prim.Native.Nat.{ℕ, _*_, _%_, max, _≤_}
+use mathlib.Core.Path.{_≡_, refl, _∙_}
+use mathlib.Core.Bool.{Bool, true, false, _||_}
+use mathlib.Core.List.{List, [], _∷_}
+use native.Mathlib.Omega.{arith}
+use lib.Dec.{ltb, eqb}
+use borrow.Author.Tests.{eqb-true}
+use Rattle.units.specs.Numbers.{alignmentOf, capacityOf}
+use Rattle.units.proofs.Tests.{by-test}
+use Rattle.wire.proofs.Standard.{config as laid-out}
+use Rattle.record.specs.declared.Device.{Device}
+use Rattle.record.proofs.Laws.{Shaped as Facts, shaped-is as facts-of, whole as shaped-when}
+use Rattle.resize.specs.Resize.{newSize}
+use Rattle.making.specs.declared.Node.{Node}
+use Rattle.making.specs.declared.Node.the-variants.{None, Number}
+use Rattle.making.specs.declared.Made.the-variants.{Device as MadeDevice, Refused as MadeRefused}
+use Rattle.making.specs.Made.{requestedBad, newDevice, made}
+use Rattle.step.specs.World.{World, Call, SetRequestedSize, Outcome}
+use Rattle.step.specs.Step.{step, readConfig, blockSize, region, usable, requested}
+use Rattle.history.specs.History.{Event, Story, next, after, Fresh, begun}
+use Rattle.history.specs.Rules.{InEveryRun}
+use Rattle.history.proofs.Shaped.{clash}
+use Rattle.history.proofs.Cases.{write-cases}
+use Rattle.history.proofs.Calls.{Endings, each-call}
+use Rattle.history.proofs.Demand3.{demand-3}
+use Rattle.history.proofs.KeepsShape.{is-shaped}
+use Rattle.standard.specs.Config.{InEveryWorld, configOf, Features, FeaturesFromMaking, ReadsLayout, Constant, ConstantFields, FieldsLaidOut, UsableOnlyGrows, settledByCall, settledBy, settledAfter, RequestedIsUsable, PluggedSizeIsOfBlocks, WritesNothing, RequestedByOwner}
+
+-- ---- what each call does to the config, in every world
+record Kept (w : World) (c : Call) (o : Outcome) : Type 0 where
+  pub constant : Constant w (o .world)
+  pub grows : usable w ≤ usable (o .world)
+  pub not-owner : ((mib : ℕ) → c ≡ SetRequestedSize mib → ⊥) → requested (o .world) ≡ requested w
+  -- M5, where it held before if the size was settled then
+  pub settles : (before : Bool) → (before ≡ true → requested w ≤ usable w) → settledBy before (o .answer) ≡ true → requested (o .world) ≤ usable (o .world)
+
+abbrev IsKept : World → Call → Outcome → List Event → Type 0
+IsKept w c o new = Kept w c o
+
+-- what the requested size is worth is at least the requested size
+worth : (b region requested alignment : ℕ) → b ≡ 4194304 → requested % 4194304 ≡ 0 → requested ≤ region → requested ≤ newSize b region requested alignment
+unfolding newSize
+worth b region requested alignment e p q =
+    by-test (eqb requested 0) (λ t. let z = eqb-true requested 0 t in rw t (omega arith)) (λ t. rw (t, e) (omega arith))
+
+module _ (w : World) where
+  constants : (w′ : World) → configOf w′ .«block_size» ≡ blockSize w → configOf w′ .«node_id» ≡ configOf w .«node_id» → region w′ ≡ region w
+      → (w .device .placed ≡ true → configOf w′ .addr ≡ configOf w .addr) → w′ .device .«avail_features» ≡ w .device .«avail_features» → Constant w w′
+  constants w′ b n r a f = record { same-block-size = b; same-node = n; same-region = r; same-addr = a; same-features = f }
+
+  -- neither size moves, and the size is settled after it only if it was before
+  quiet : (c : Call) (o : Outcome) → Constant w (o .world) → usable (o .world) ≡ usable w → requested (o .world) ≡ requested w
+      → ((before : Bool) → settledBy before (o .answer) ≡ true → before ≡ true) → Kept w c o
+  quiet c o k u r b = record { constant = k; grows = omega arith; not-owner = λ _. r; settles = λ before h e. rw (u, r) (h (b before e)) }
+
+  -- the usable size is worked out for the requested size n
+  sized : (c : Call) (o : Outcome) (n : ℕ) → Facts (w .device) → Constant w (o .world) → (((mib : ℕ) → c ≡ SetRequestedSize mib → ⊥) → n ≡ requested w)
+      → requested (o .world) ≡ n → n % 4194304 ≡ 0 → n ≤ region w → usable (o .world) ≡ max (usable w) (newSize (blockSize w) (region w) n (w .device .alignment)) → Kept w c o
+  sized c o n s k r q whole within v =
+      let enough = worth (blockSize w) (region w) n (w .device .alignment) (s .block-size) whole within in
+      record { constant = k; grows = rw v (omega arith); not-owner = λ h. q ∙ r h; settles = λ _ _ _. rw (q, v) (omega arith) }
+
+  kept : Endings w (IsKept w)
+  unfolding settledBy settledByCall
+  kept =
+      let as-before : (before : Bool) → before ≡ true → before ≡ true = λ before e. e in
+      let unsettled : (before : Bool) → false ≡ true → before ≡ true = λ before e. clash e refl in
+      record {
+        refuses = λ c n bytes _ _. quiet _ _ (constants _ refl refl refl (λ _. refl) refl) refl refl as-before;
+        reads = λ offset buffer bytes. quiet _ _ (constants _ refl refl refl (λ _. refl) refl) refl refl as-before;
+        writes = λ offset buffer. quiet _ _ (constants _ refl refl refl (λ _. refl) refl) refl refl as-before;
+        unserves = λ a reason. quiet _ _ (constants _ refl refl refl (λ _. refl) refl) refl refl as-before;
+        responds = λ a resp. quiet _ _ (constants _ refl refl refl (λ _. refl) refl) refl refl as-before;
+        plugs-range = λ a addr count first offset _ _. quiet _ _ (constants _ refl refl refl (λ _. refl) refl) refl refl as-before;
+        asks-range = λ a addr count first offset host _ _. quiet _ _ (constants _ refl refl refl (λ _. refl) refl) refl refl as-before;
+        spoils = λ a addr count first offset _ _. quiet _ _ (constants _ refl refl refl (λ _. refl) refl) refl refl as-before;
+        ends-at-once = λ a r. quiet _ _ (constants _ refl refl refl (λ _. refl) refl) refl refl as-before;
+        asks-first = λ a block offset host r _. quiet _ _ (constants _ refl refl refl (λ _. refl) refl) refl refl as-before;
+        stops-at-once = λ a. quiet _ _ (constants _ refl refl refl (λ _. refl) refl) refl refl as-before;
+        maps = λ i last a.
+            let s = facts-of (w .device) (shaped-when (w .device) (a .entry .is-shaped)) in
+            sized _ _ (requested w) s (constants _ refl refl refl (λ _. refl) refl) (λ _. refl) refl (s .requested-blocks) (s .requested-in) refl;
+        create-fails = λ i last a. quiet _ _ (constants _ refl refl refl (λ _. refl) refl) refl refl as-before;
+        unplugs-range = λ first count status a. quiet _ _ (constants _ refl refl refl (λ _. refl) refl) refl refl as-before;
+        discard-fails = λ first count status a. quiet _ _ (constants _ refl refl refl (λ _. refl) refl) refl refl as-before;
+        ends-all = λ j status a r. quiet _ _ (constants _ refl refl refl (λ _. refl) refl) refl refl as-before;
+        asks-next = λ j status a block offset host r _. quiet _ _ (constants _ refl refl refl (λ _. refl) refl) refl refl as-before;
+        stops-after = λ j status a. quiet _ _ (constants _ refl refl refl (λ _. refl) refl) refl refl as-before;
+        one-fails = λ j status a. quiet _ _ (constants _ refl refl refl (λ _. refl) refl) refl refl as-before;
+        resizes = λ a.
+            let s = facts-of (w .device) (shaped-when (w .device) (a .entry .is-shaped)) in
+            sized _ _ (a .mib * 1048576) s (constants _ refl refl refl (λ _. refl) refl) (λ h. absurd (h (a .mib) refl)) refl (rw (s .block-size) at (a .whole)) (a .in-region) refl;
+        resize-asks = λ a i last size _.
+            record {
+              constant = constants _ refl refl refl (λ _. refl) refl;
+              grows = omega arith;
+              not-owner = λ h. absurd (h (a .mib) refl);
+              settles = λ before _ e. clash e refl;
+            };
+        places = λ a.
+            let s = facts-of (w .device) (shaped-when (w .device) (a .entry .is-shaped)) in
+            sized _ _ (requested w) s (constants _ refl refl refl (λ p. clash p (a .not-placed)) refl) (λ _. refl) refl (s .requested-blocks) (s .requested-in) refl;
+        place-asks = λ a i last size _. quiet _ _ (constants _ refl refl refl (λ p. clash p (a .not-placed)) refl) refl refl unsettled;
+        place-asks-whole = λ a _. quiet _ _ (constants _ refl refl refl (λ p. clash p (a .not-placed)) refl) refl refl unsettled;
+      }
+
+  kept-by : (c : Call) → Kept w c (step w c)
+  kept-by c = each-call w (IsKept w) kept c
+
+pub constant-fields : InEveryWorld ConstantFields
+constant-fields w c = kept-by w c .constant
+
+pub usable-only-grows : InEveryWorld UsableOnlyGrows
+usable-only-grows w c = kept-by w c .grows
+
+pub requested-by-owner : InEveryWorld RequestedByOwner
+requested-by-owner w c = kept-by w c .not-owner
+
+-- ---- M5, over every run
+requested-is-usable-from : (before : Bool) (s : Story) (cs : List Call) → (before ≡ true → requested (s .world) ≤ usable (s .world)) → settledAfter before (s .world) cs ≡ true
+    → requested (after s cs .world) ≤ usable (after s cs .world)
+unfolding settledAfter after next
+requested-is-usable-from before s [] h e = h e
+requested-is-usable-from before s (c ∷ cs) h e = requested-is-usable-from (settledBy before (step (s .world) c .answer)) (next s c) cs (kept-by (s .world) c .settles before h) e
+
+pub requested-is-usable : RequestedIsUsable
+requested-is-usable d fresh cs e = requested-is-usable-from false (begun d) cs (λ z. clash z refl) e
+
+-- ---- M2, from making on
+features-of : (region requested alignment : ℕ) (several : Bool) (node : Node) → Features node (newDevice region requested alignment several node)
+features-of region requested alignment several None = record { with-node = refl; node-is = refl; accessible = refl }
+features-of region requested alignment several (Number n) = record { with-node = refl; node-is = refl; accessible = refl }
+
+made-features : (capacity requested : ℕ) (several : Bool) (node : Node) (boot : ℕ) (d : Device) → made capacity requested several node boot ≡ MadeDevice d → Features node d
+unfolding made
+made-features capacity requested several node boot d e =
+    let alignment = alignmentOf boot in
+    let region = capacityOf capacity alignment in
+    by-test (ltb 1048576 capacity) (λ t. never 2 (rw t at e))
+    (λ t. by-test (eqb capacity 0 || requestedBad requested region) (λ u. never 1 (rw (t, u) at e))
+    (λ u.
+    let f : MadeDevice (newDevice region (requested * 1048576) alignment several node) ≡ MadeDevice d = rw (t, u) at e in
+    let same : newDevice region (requested * 1048576) alignment several node ≡ d = cc in
+    rw same at (features-of region (requested * 1048576) alignment several node)))
+  where
+    never : (n : ℕ) → MadeRefused n ≡ MadeDevice d → Features node d
+    never n q = let z : _≡_ {A = ℕ} 0 1 = cc in absurd (omega arith)
+
+features-stay : (node : Node) (w w′ : World) → Constant w w′ → Features node (w .device) → Features node (w′ .device)
+features-stay node w w′ k f = record { with-node = rw (k .same-features) (f .with-node); node-is = k .same-node ∙ f .node-is; accessible = rw (k .same-features) (f .accessible) }
+
+features-after : (node : Node) (s : Story) (cs : List Call) → Features node (s .world .device) → Features node (after s cs .world .device)
+unfolding after next
+features-after node s [] f = f
+features-after node s (c ∷ cs) f = features-after node (next s c) cs (features-stay node (s .world) _ (constant-fields (s .world) c) f)
+
+pub features-from-making : FeaturesFromMaking
+features-from-making capacity requested several node boot d e cs = features-after node (begun d) cs (made-features capacity requested several node boot d e)
+
+-- ---- M3, M4, M6, M7
+pub reads-layout : ReadsLayout
+unfolding step readConfig
+reads-layout w offset buffer s = rw (s, laid-out (configOf w))
+
+pub writes-nothing : WritesNothing
+unfolding step
+writes-nothing w offset buffer = write-cases (λ o. o .world ≡ w) w buffer (λ _. refl) refl
+
+facts-at : (d : Device) → Fresh d → (cs : List Call) → Facts (after (begun d) cs .world .device)
+facts-at d fresh cs = facts-of _ (shaped-when _ (is-shaped d fresh cs))
+
+pub fields-laid-out : InEveryRun FieldsLaidOut
+fields-laid-out d fresh cs c =
+    let w = after (begun d) cs .world in
+    let s = facts-at d fresh cs in
+    let b = s .block-size in
+    record {
+      power-of-two = b;
+      addr-whole = rw b (s .start-blocks);
+      region-whole = rw b (s .region-blocks);
+      usable-whole = rw b (s .usable-blocks);
+      plugged-whole = rw b (s .plugged-blocks);
+      requested-whole = rw b (s .requested-blocks);
+      usable-within = s .usable-in;
+      plugged-within = s .plugged-in;
+      requested-within = s .requested-in;
+    }
+
+pub plugged-size-is-of-blocks : InEveryRun PluggedSizeIsOfBlocks
+plugged-size-is-of-blocks d fresh cs c = demand-3 d fresh cs .count

@@ -1,0 +1,70 @@
+-- What Virtio 1.2 asks over every run of calls from a newly made device: M11, M14, M15 and M18 of docs/STANDARD.md, where a run says more than a world alone. M5 and M6 are in Config.antt.
+use Prim.Native.Nat.{ℕ, _+_, _*_, _≤_, _<_}
+use mathlib.Core.Path.{_≡_}
+use mathlib.Core.Bool.{Bool, true, false}
+use mathlib.Core.List.{[], _∷_}
+use Rattle.units.specs.declared.HostAddr.{HostAddr}
+use Rattle.units.specs.declared.RegionOffset.{RegionOffset}
+use Rattle.bitmap.specs.Blocks.{ones}
+use Rattle.record.specs.declared.HostCall.the-variants.{Discard}
+use Rattle.step.specs.World.{World, Call, Place, SetRequestedSize, Request, HostAnswer, ReadConfig, WriteConfig, Outcome}
+use Rattle.step.specs.Step.{step, blockSize, plugged, requested, regionBlocks}
+use Rattle.history.specs.History.{Open, Unplugging, UnpluggingAll, UnplugAllAck, acknowledges, used, Story, next}
+use Rattle.standard.specs.Requests.{Responds, AsksFor, IsPlugged, IsUnplugged, Covers, Valid, sizeOf, offsetOf, OneMapping, Brings, CanUnplug, CanDiscard, «VIRTIO_MEM_REQ_PLUG», «VIRTIO_MEM_REQ_UNPLUG», «VIRTIO_MEM_REQ_UNPLUG_ALL», «VIRTIO_MEM_RESP_ACK»}
+
+-- ---- M11, M12, counted by blocks: whatever was refused or failed before, unplugged blocks can be plugged as long as they and the plugged ones are at most requested_size
+abbrev pub FreeBlocksPlug : Story → Call → Type 0
+FreeBlocksPlug s c = let w = s .world in (b : Brings w c «VIRTIO_MEM_REQ_PLUG»)
+    → ones (used w) * blockSize w + sizeOf w (b .req) ≤ requested w
+    → Valid w (b .req) → ((i : ℕ) → Covers w (b .req) i → IsUnplugged w i) → OneMapping w (offsetOf w (b .req)) (sizeOf w (b .req))
+    → Responds (step w c) «VIRTIO_MEM_RESP_ACK»
+
+-- ---- M14: plugged blocks can be unplugged, since plugged_size has them
+abbrev pub PluggedBlocksUnplug : Story → Call → Type 0
+PluggedBlocksUnplug s c = let w = s .world in (b : Brings w c «VIRTIO_MEM_REQ_UNPLUG») → (can : CanUnplug w (b .req))
+    → AsksFor (step w c) (Discard (record { 0 = offsetOf w (b .req) }) (sizeOf w (b .req)) (can .mapped .host))
+
+-- ---- M15: an ACK to an unplug-all, at once or when the host has discarded the last block, says that no block is plugged and that plugged_size is 0
+pub record NonePlugged (w : World) : Type 0 where
+  pub all-unplugged : (i : ℕ) → i < regionBlocks w → IsUnplugged w i
+  pub size-zero : plugged w ≡ 0
+
+abbrev pub UnplugAllAcknowledged : Story → Call → Type 0
+UnplugAllAcknowledged s c = acknowledges (s .world) (s .«open») c ≡ UnplugAllAck ∷ []
+    → Responds (step (s .world) c) «VIRTIO_MEM_RESP_ACK» → NonePlugged (next s c .world)
+
+-- M15: every plugged block has a mapping, so of an unplug-all only the host's no makes an ERROR
+abbrev pub PluggedIsMapped : Story → Call → Type 0
+PluggedIsMapped s c = (i : ℕ) → i < regionBlocks (s .world) → IsPlugged (s .world) i → CanDiscard (s .world) i
+
+-- ---- M18: what the driver asks to unplug, by the request that the call brings, or by one that has not ended
+pub data AsksToUnplug (w : World) (o : Open) (c : Call) (i : ℕ) : Type 0 where
+  ByUnplug : (b : Brings w c «VIRTIO_MEM_REQ_UNPLUG») → Covers w (b .req) i → AsksToUnplug w o c i
+  ByUnplugAll : Brings w c «VIRTIO_MEM_REQ_UNPLUG_ALL» → AsksToUnplug w o c i
+  ByOpenUnplug : (first count : ℕ) → o ≡ Unplugging first count → first ≤ i → i < first + count → AsksToUnplug w o c i
+  ByOpenUnplugAll : (block : ℕ) → o ≡ UnpluggingAll block → AsksToUnplug w o c i
+
+-- the host has done what it was asked for
+unfoldable pub hostAgrees : Call → Bool
+hostAgrees (Place at size slots blocks rows) = false
+hostAgrees (SetRequestedSize mib) = false
+hostAgrees (Request guest table head) = false
+hostAgrees (HostAnswer guest ok host) = ok
+hostAgrees (ReadConfig offset buffer) = false
+hostAgrees (WriteConfig offset buffer) = false
+
+-- no block is plugged but by a plug request that covers it; placing, which clears every block, is before any driver
+abbrev pub PluggedByRequest : World → Call → Outcome → Type 0
+PluggedByRequest w c o = w .device .placed ≡ true → (i : ℕ) → IsUnplugged w i → IsPlugged (o .world) i
+    → (b : Brings w c «VIRTIO_MEM_REQ_PLUG») × Covers w (b .req) i × Responds o «VIRTIO_MEM_RESP_ACK»
+
+-- none is unplugged but by an unplug request that covers it, or by an unplug-all, when the host agrees
+abbrev pub UnpluggedByRequest : Story → Call → Type 0
+UnpluggedByRequest s c = s .world .device .placed ≡ true → (i : ℕ) → IsPlugged (s .world) i → IsUnplugged (next s c .world) i
+    → AsksToUnplug (s .world) (s .«open») c i × (hostAgrees c ≡ true)
+
+-- and the host is asked to discard no block that the driver did not ask to unplug, nor one that is unplugged
+abbrev pub DiscardsByRequest : Story → Call → Type 0
+DiscardsByRequest s c = (offset : RegionOffset) (size : ℕ) (host : HostAddr) → AsksFor (step (s .world) c) (Discard offset size host)
+    → (i : ℕ) → offset .0 ≤ i * blockSize (s .world) → i * blockSize (s .world) < offset .0 + size
+    → AsksToUnplug (s .world) (s .«open») c i × IsPlugged (next s c .world) i
