@@ -1,5 +1,5 @@
 -- Which call changes which block, in every world, and that the host keeps the memory that it has for a block.
-use Prim.Native.Nat.{ℕ, _+_, _≤_, _<_}
+use Prim.Native.Nat.{ℕ, _+_, _*_, _%_, _≤_, _<_}
 use mathlib.Core.Path.{_≡_, refl, ap, _∙_, sym}
 use mathlib.Core.Bool.{Bool, true, false}
 use mathlib.Core.List.{List, [], _∷_}
@@ -16,7 +16,7 @@ use Rattle.wire.specs.declared.VirtioMemReq.{VirtioMemReq}
 use Rattle.rows.specs.declared.MapRow.{MapRow}
 use Rattle.record.specs.declared.Pending.the-variants.{Discard, DiscardOne}
 use Rattle.step.specs.World.{World, Guest, Call, Place, SetRequestedSize, Request, HostAnswer, ReadConfig, WriteConfig, Outcome}
-use Rattle.step.specs.Step.{step, hostAnswer, regionBlocks, cleared, placed}
+use Rattle.step.specs.Step.{step, hostAnswer, blockSize, usable, regionBlocks, cleared, placed}
 use Rattle.history.specs.History.{Story, next, after, begun}
 use Rattle.history.specs.Rules.{InEveryRun, isPlace}
 use Rattle.history.proofs.Shaped.{clash}
@@ -24,7 +24,7 @@ use Rattle.history.proofs.Cases.{on-unplaced, place-cases, placing-cases}
 use Rattle.standard.specs.Config.{InEveryWorld, OutsideIsUnplugged}
 use Rattle.standard.specs.Requests.{Responds, responseOf, among, addressOf, sizeOf, IsPlugged, IsUnplugged, SameBlock, Covers, Awaits, Brings, CarriedOut, WholeOrNothing, CanDiscard, UnplugsFrom, OneAnswered, «VIRTIO_MEM_REQ_PLUG», «VIRTIO_MEM_RESP_ACK»}
 use Rattle.standard.specs.Runs.{hostAgrees, PluggedByRequest, PluggedIsMapped}
-use Rattle.standard.proofs.Config.{constant-fields}
+use Rattle.standard.proofs.Config.{constant-fields, fields-laid-out}
 use Rattle.standard.proofs.Requests.{plug-standard, unplug-standard, unplug-all-standard, state-standard, unknown-unserved, covered-mapped, hearing}
 use Rattle.standard.proofs.EveryCall.{leaf-unplug, Ways, each-way}
 use Rattle.standard.proofs.Responses.{by-type}
@@ -196,4 +196,10 @@ plugged-is-mapped d fresh cs c = all-mapped (begun d) cs (λ i l p. clash p refl
 
 pub outside-is-unplugged : InEveryRun OutsideIsUnplugged
 outside-is-unplugged d fresh cs c i l past =
-    by-test (blockAt (after (begun d) cs .world .blocks) i) (λ t. let inside = plugged-is-mapped d fresh cs c i l t .in-usable in absurd (omega arith)) (λ t. t)
+    let w = after (begun d) cs .world in
+    let sizes = fields-laid-out d fresh cs c in
+    by-test (blockAt (w .blocks) i)
+    (λ t. absurd (inside (blockSize w) (usable w) (sizes .power-of-two) (sizes .usable-whole) (plugged-is-mapped d fresh cs c i l t .in-usable) past)) (λ t. t)
+  where
+    inside : (b n : ℕ) → b ≡ 4194304 → n % b ≡ 0 → i * b < n → n < (i + 1) * b → ⊥
+    inside b n e whole p q = let whole′ = rw e at whole in let p′ = rw e at p in let q′ = rw e at q in omega arith

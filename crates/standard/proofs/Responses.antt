@@ -24,7 +24,7 @@ use Rattle.step.specs.Step.{step, hostAnswer}
 use Rattle.history.proofs.Shaped.{clash}
 use Rattle.history.proofs.Cases.{on-ready, on-unplaced, read-cases, write-cases}
 use Rattle.standard.specs.Config.{InEveryWorld}
-use Rattle.standard.specs.Requests.{Responds, responseOf, among, isHostAnswer, WaitingStays, lentBy, statusOfChain, statusOfPending, statusFor, Written, Delivered, ResponseIsDelivered, StatusIsKept, SilenceWritesNothing, OneAnswered, NackOnlyPastRequested, PlugPastRequested, NeverBusy, «VIRTIO_MEM_REQ_PLUG», «VIRTIO_MEM_REQ_UNPLUG», «VIRTIO_MEM_REQ_UNPLUG_ALL», «VIRTIO_MEM_REQ_STATE», «VIRTIO_MEM_RESP_NACK»}
+use Rattle.standard.specs.Requests.{Responds, responseOf, among, isHostAnswer, WaitingStays, lentBy, statusOfChain, statusOfPending, statusFor, Written, Delivered, ResponseIsDelivered, StatusIsKept, SilenceWritesNothing, OneAnswered, NackOnlyPastRequested, PlugPastRequested, NeverBusy, «VIRTIO_MEM_REQ_PLUG», «VIRTIO_MEM_REQ_UNPLUG», «VIRTIO_MEM_REQ_UNPLUG_ALL», «VIRTIO_MEM_REQ_STATE», «VIRTIO_MEM_RESP_NACK», «VIRTIO_MEM_RESP_BUSY»}
 use Rattle.standard.proofs.Requests.{plug-standard, unplug-standard, unplug-all-standard, state-standard, unknown-unserved}
 use Rattle.standard.proofs.EveryCall.{speaks, isConfigCall, Says, Responded, Silent, leaf-unplug, Ways, each-way}
 
@@ -181,17 +181,19 @@ given-by w =
     }
 
 pub nack-only-past-requested : InEveryWorld NackOnlyPastRequested
-nack-only-past-requested w c r = go (each-way w (IsGiven w) (given-by w) c 1 r)
+unfolding among
+nack-only-past-requested w c r = go (each-way w (IsGiven w) (given-by w) c _ r)
   where
-    go : Given w c 1 → PlugPastRequested w c
-    go (AckOrError e) = clash e (unfold among in refl)
+    go : Given w c «VIRTIO_MEM_RESP_NACK» → PlugPastRequested w c
+    go (AckOrError e) = clash e refl
     go (Nack e p) = p
 
 pub never-busy : InEveryWorld NeverBusy
-never-busy w c r = go (each-way w (IsGiven w) (given-by w) c 2 r)
+unfolding among
+never-busy w c r = go (each-way w (IsGiven w) (given-by w) c _ r)
   where
-    go : Given w c 2 → ⊥
-    go (AckOrError e) = clash e (unfold among in refl)
+    go : Given w c «VIRTIO_MEM_RESP_BUSY» → ⊥
+    go (AckOrError e) = clash e refl
     go (Nack e p) = omega arith
 
 -- ---- while a request waits for the host

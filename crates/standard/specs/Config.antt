@@ -1,5 +1,5 @@
 -- What Virtio 1.2 asks of the features and the config of a memory device: M2 to M7. The names M2, Q9, .. are clauses of sections 5.15 and 2.7, retold and numbered in docs/STANDARD.md. Where one is narrower here, a line says how.
-use Prim.Native.Nat.{ℕ, _*_, _/_, _%_, _^_, _≤_, _<_}
+use Prim.Native.Nat.{ℕ, _+_, _*_, _/_, _%_, _^_, _≤_, _<_}
 use mathlib.Core.Path.{_≡_}
 use mathlib.Core.Bool.{Bool, true, false}
 use mathlib.Core.List.{List, [], _∷_}
@@ -116,9 +116,9 @@ RequestedIsUsable = (d : Device) → Fresh d → (cs : List Call) → settledAft
 abbrev pub PluggedSizeIsOfBlocks : Story → Call → Type 0
 PluggedSizeIsOfBlocks s c = plugged (s .world) ≡ ones (used (s .world)) * blockSize (s .world)
 
--- M6: the blocks of the region that begin at or past the usable size are unplugged
+-- M6: the blocks of the region that do not end in the usable region are unplugged
 abbrev pub OutsideIsUnplugged : Story → Call → Type 0
-OutsideIsUnplugged s c = (i : ℕ) → i < regionBlocks (s .world) → usable (s .world) ≤ i * blockSize (s .world) → blockAt (s .world .blocks) i ≡ false
+OutsideIsUnplugged s c = (i : ℕ) → i < regionBlocks (s .world) → usable (s .world) < (i + 1) * blockSize (s .world) → blockAt (s .world .blocks) i ≡ false
 
 -- ---- M7: a config write changes nothing, and requested_size is the owner's to change
 abbrev pub WritesNothing : Type 0
