@@ -1,4 +1,4 @@
--- Which call changes which block, in every world, and that the host keeps the memory that it has for a block.
+-- Which call changes which block, in every world; and the clause M6: no block outside of the usable region is plugged.
 use Prim.Native.Nat.{ℕ, _+_, _*_, _%_, _≤_, _<_}
 use mathlib.Core.Path.{_≡_, refl, ap, _∙_, sym}
 use mathlib.Core.Bool.{Bool, true, false}
@@ -14,6 +14,7 @@ use Rattle.bitmap.specs.Blocks.{blockAt, fill}
 use Rattle.bitmap.proofs.Laws.{at-inside, at-before, at-after, all-clear-at, all-filled}
 use Rattle.wire.specs.declared.VirtioMemReq.{VirtioMemReq}
 use Rattle.rows.specs.declared.MapRow.{MapRow}
+use Rattle.record.specs.declared.Device.{Device}
 use Rattle.record.specs.declared.Pending.the-variants.{Discard, DiscardOne}
 use Rattle.step.specs.World.{World, Guest, Call, Place, SetRequestedSize, Request, HostAnswer, ReadConfig, WriteConfig, Outcome}
 use Rattle.step.specs.Step.{step, hostAnswer, blockSize, usable, regionBlocks, cleared, placed}
@@ -22,11 +23,11 @@ use Rattle.history.specs.Rules.{InEveryRun, isPlace}
 use Rattle.history.proofs.Shaped.{clash}
 use Rattle.history.proofs.Cases.{on-unplaced, place-cases, placing-cases}
 use Rattle.standard.specs.Config.{InEveryWorld, OutsideIsUnplugged}
-use Rattle.standard.specs.Requests.{Responds, responseOf, among, addressOf, sizeOf, IsPlugged, IsUnplugged, SameBlock, Covers, Awaits, Brings, CarriedOut, WholeOrNothing, CanDiscard, UnplugsFrom, OneAnswered, «VIRTIO_MEM_REQ_PLUG», «VIRTIO_MEM_RESP_ACK»}
-use Rattle.standard.specs.Runs.{hostAgrees, PluggedByRequest, PluggedIsMapped}
-use Rattle.standard.proofs.Config.{constant-fields, fields-laid-out}
-use Rattle.standard.proofs.Requests.{plug-standard, unplug-standard, unplug-all-standard, state-standard, unknown-unserved, covered-mapped, hearing}
-use Rattle.standard.proofs.EveryCall.{leaf-unplug, Ways, each-way}
+use Rattle.standard.specs.Requests.{Responds, responseOf, among, addressOf, sizeOf, IsPlugged, IsUnplugged, SameBlock, Covers, Awaits, Brings, CarriedOut, WholeOrNothing, UnplugsFrom, OneAnswered, «VIRTIO_MEM_REQ_PLUG», «VIRTIO_MEM_RESP_ACK»}
+use Rattle.standard.specs.Runs.{hostAgrees, PluggedByRequest}
+use Rattle.standard.proofs.Config.{constant-fields, usable-only-grows, fields-laid-out}
+use Rattle.standard.proofs.Requests.{plug-standard, unplug-standard, unplug-all-standard, state-standard, unknown-unserved}
+use Rattle.standard.proofs.EveryCall.{Ways, each-way}
 use Rattle.standard.proofs.Responses.{by-type}
 
 -- ---- what can be decided
@@ -135,71 +136,57 @@ plugged-by-request w c there i was is = go (changed w c (λ _. there) i (λ same
     go (ByUnplug first count status q low high agrees p) = clash is p
     go (ByUnplugAll status q agrees p) = clash is p
 
--- ---- the host keeps its memory for a block
-abbrev pub KeepsMemory : World → Call → Outcome → Type 0
-KeepsMemory w c o = (isPlace c ≡ true → w .device .placed ≡ true) → (i : ℕ) → CanDiscard w i → CanDiscard (o .world) i
+-- ---- M6: in a run every plugged block lies in the usable region
+abbrev AllInside : World → Type 0
+AllInside w = (i : ℕ) → i < regionBlocks w → IsPlugged w i → i * blockSize w < usable w
 
-keeps : (w : World) → Ways w (KeepsMemory w)
-keeps w =
-    record {
-      quiet = λ c o q. q .keeps-memory;
-      hears = λ g table head req status h l _. l .keeps-memory;
-      unplug-ends = λ first count status a g ok host _. leaf-unplug w g first count status ok host .keeps-memory;
-      one-ends = λ j status a g ok host o h l _. l .keeps-memory;
-    }
-
--- ---- M6, M15: in a run the host has memory for every plugged block, which lies in the usable region
-abbrev pub AllMapped : World → Type 0
-AllMapped w = (i : ℕ) → i < regionBlocks w → IsPlugged w i → CanDiscard w i
-
-placed-mapped : (w : World) (at size : ℕ) (slots : List ℕ) (bs : List Bool) (rows : List MapRow) → AllMapped w → AllMapped (step w (Place at size slots bs rows) .world)
+placed-inside : (w : World) (at size : ℕ) (slots : List ℕ) (bs : List Bool) (rows : List MapRow) → AllInside w → AllInside (step w (Place at size slots bs rows) .world)
 unfolding step
-placed-mapped w at size slots bs rows h =
-    let P : Outcome → Type 0 = λ o. AllMapped (o .world) in
+placed-inside w at size slots bs rows h =
+    let P : Outcome → Type 0 = λ o. AllInside (o .world) in
     on-unplaced P w [] _ (λ n _ _. h) (length bs) (length rows)
     (λ _ e. place-cases P w at size slots bs rows h h
     (λ _ _.
     let clear : (i : ℕ) → i < regionBlocks w → blockAt (fill bs 0 (regionBlocks w) false) i ≡ false = λ i l. at-inside bs 0 (regionBlocks w) false i (omega arith) (omega arith) (omega (arith, e .is-long)) in
     placing-cases P (placed w at slots bs rows) (λ i l p. clash p (clear i l)) (λ _ _ _ _ i l p. clash p (clear i l)) (λ _ i l p. clash p (clear i l))))
 
-kept-mapped : (w : World) (c : Call) → isPlace c ≡ false → AllMapped w → AllMapped (step w c .world)
-kept-mapped w c no-place h i l p =
+kept-inside : (w : World) (c : Call) → isPlace c ≡ false → AllInside w → AllInside (step w c .world)
+kept-inside w c no-place h i l p =
     let k = constant-fields w c in
     let same : regionBlocks (step w c .world) ≡ regionBlocks w = rw (k .same-region, k .same-block-size) in
-    let there : isPlace c ≡ true → w .device .placed ≡ true = λ e. clash e no-place in
-    each-way w (KeepsMemory w) (keeps w) c there i
-    (by-test (blockAt (w .blocks) i) (λ t. h i (rw same at l) t) (λ t. go (changed w c there i (λ e. clash (sym e ∙ p) t))))
+    let grows = usable-only-grows w c in
+    let inside = by-test (blockAt (w .blocks) i) (λ t. h i (rw same at l) t) (λ t. go (changed w c (λ e. clash e no-place) i (λ e. clash (sym e ∙ p) t))) in
+    rw (k .same-block-size) (omega arith)
   where
-    go : Changed w c (step w c) i → CanDiscard w i
+    go : Changed w c (step w c) i → i * blockSize w < usable w
     go (ByPlug b covers r _) =
         let can = plug-standard w (b .guest) (b .table) (b .head) (b .req) (b .status) (b .hears) (b .is-type) .only-granted (rw (b .is-request) at r) in
-        covered-mapped w (b .req) (hearing w (b .guest) (b .table) (b .head) (b .req) (b .status) (b .hears)) (can .valid) (can .mapped) i covers
+        omega (arith, can .valid .to-usable, covers .ends)
     go (ByUnplug first count status q low high agrees u) = clash p u
     go (ByUnplugAll status q agrees u) = clash p u
 
-all-mapped-by : (w : World) (c : Call) → AllMapped w → AllMapped (step w c .world)
+inside-by : (w : World) (c : Call) → AllInside w → AllInside (step w c .world)
 unfolding isPlace
-all-mapped-by w (Place at size slots bs rows) h = placed-mapped w at size slots bs rows h
-all-mapped-by w (SetRequestedSize mib) h = kept-mapped w (SetRequestedSize mib) refl h
-all-mapped-by w (Request g table head) h = kept-mapped w (Request g table head) refl h
-all-mapped-by w (HostAnswer g ok host) h = kept-mapped w (HostAnswer g ok host) refl h
-all-mapped-by w (ReadConfig offset buffer) h = kept-mapped w (ReadConfig offset buffer) refl h
-all-mapped-by w (WriteConfig offset buffer) h = kept-mapped w (WriteConfig offset buffer) refl h
+inside-by w (Place at size slots bs rows) h = placed-inside w at size slots bs rows h
+inside-by w (SetRequestedSize mib) h = kept-inside w (SetRequestedSize mib) refl h
+inside-by w (Request g table head) h = kept-inside w (Request g table head) refl h
+inside-by w (HostAnswer g ok host) h = kept-inside w (HostAnswer g ok host) refl h
+inside-by w (ReadConfig offset buffer) h = kept-inside w (ReadConfig offset buffer) refl h
+inside-by w (WriteConfig offset buffer) h = kept-inside w (WriteConfig offset buffer) refl h
 
-all-mapped : (s : Story) (cs : List Call) → AllMapped (s .world) → AllMapped (after s cs .world)
+always-inside : (s : Story) (cs : List Call) → AllInside (s .world) → AllInside (after s cs .world)
 unfolding after next
-all-mapped s [] h = h
-all-mapped s (c ∷ cs) h = all-mapped (next s c) cs (all-mapped-by (s .world) c h)
+always-inside s [] h = h
+always-inside s (c ∷ cs) h = always-inside (next s c) cs (inside-by (s .world) c h)
 
-pub plugged-is-mapped : InEveryRun PluggedIsMapped
-plugged-is-mapped d fresh cs c = all-mapped (begun d) cs (λ i l p. clash p refl)
+pub plugged-inside : (d : Device) (cs : List Call) → AllInside (after (begun d) cs .world)
+plugged-inside d cs = always-inside (begun d) cs (λ i l p. clash p refl)
 
 pub outside-is-unplugged : InEveryRun OutsideIsUnplugged
 outside-is-unplugged d fresh cs c i l past =
     let w = after (begun d) cs .world in
     let sizes = fields-laid-out d fresh cs c in
-    by-test (blockAt (w .blocks) i)
-    (λ t. absurd (inside (blockSize w) (usable w) (sizes .power-of-two) (sizes .usable-whole) (plugged-is-mapped d fresh cs c i l t .in-usable) past)) (λ t. t)
+    by-test (blockAt (w .blocks) i) (λ t. absurd (inside (blockSize w) (usable w) (sizes .power-of-two) (sizes .usable-whole) (plugged-inside d cs i l t) (omega arith))) (λ t. t)
   where
     inside : (b n : ℕ) → b ≡ 4194304 → n % b ≡ 0 → i * b < n → n < (i + 1) * b → ⊥
     inside b n e whole p q = let whole′ = rw e at whole in let p′ = rw e at p in let q′ = rw e at q in omega arith

@@ -1,5 +1,5 @@
 pub mod Config
-pub mod Mapped
+pub mod Memory
 pub mod Requests
 pub mod EveryCall
 pub mod Responses

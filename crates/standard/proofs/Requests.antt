@@ -40,8 +40,7 @@ use Rattle.step.proofs.InTable.{cleared-shaped, cleared-fits}
 use Rattle.step.proofs.Laws.{one-inside, one-before, one-behind}
 use Rattle.history.proofs.Shaped.{clash, awaiting}
 use Rattle.history.proofs.Cases.{by-cond}
-use Rattle.standard.proofs.Mapped.{Has, block-mapped}
-use Rattle.standard.specs.Requests.{OfEvery, OfEveryUnknown, Unknown, Hears, Awaits, Valid, Covers, Responds, responseOf, among, AsksFor, sizeOf, offsetOf, stateFieldOf, IsPlugged, IsUnplugged, OneMapping, WholeOrNothing, CanPlug, Plug, CanUnplug, Unplug, UnplugAll, UnplugsFrom, Lowest, NoneFrom, AsksLowest, OneUnplugged, OneAnswered, OfEveryOne, CanDiscard, addressOf, State, Unchanged, «VIRTIO_MEM_REQ_PLUG», «VIRTIO_MEM_REQ_UNPLUG», «VIRTIO_MEM_REQ_UNPLUG_ALL», «VIRTIO_MEM_REQ_STATE», «VIRTIO_MEM_RESP_ACK», «VIRTIO_MEM_RESP_ERROR»}
+use Rattle.standard.specs.Requests.{OfEvery, OfEveryUnknown, Unknown, Hears, Awaits, Valid, Covers, Responds, responseOf, among, AsksFor, sizeOf, offsetOf, stateFieldOf, IsPlugged, IsUnplugged, OneMapping, WholeOrNothing, CanPlug, Plug, CanUnplug, UnplugAnswered, Unplug, UnplugAll, UnplugsFrom, Lowest, NoneFrom, AsksLowest, OneUnplugged, OneAnswered, OfEveryOne, CanDiscard, addressOf, State, Unchanged, «VIRTIO_MEM_REQ_PLUG», «VIRTIO_MEM_REQ_UNPLUG», «VIRTIO_MEM_REQ_UNPLUG_ALL», «VIRTIO_MEM_REQ_STATE»}
 
 -- ---- the blocks that a request covers
 -- block i begins in the bytes from addr on: it is one of the `count` blocks from `first` on
@@ -111,12 +110,6 @@ pub answered : (w : World) (p : Pending) → Awaits w p → isIdle p ≡ false �
 unfolding step unless
 answered w p a busy g ok host = rw (not-refused w p a busy, a .waits)
 
--- what the host's answer brings to an unplug
-record UnplugEnds (w : World) (req : VirtioMemReq) (ok : Bool) (o : Outcome) : Type 0 where
-  pub when-ok : ok ≡ true → Responds o «VIRTIO_MEM_RESP_ACK»
-  pub when-no : ok ≡ false → Responds o «VIRTIO_MEM_RESP_ERROR»
-  pub whole : WholeOrNothing w req o
-
 module _ (w : World) (req : VirtioMemReq) (sound : Sound w) where
   -- the request covers the `nb_blocks` blocks from `first` on, and they lie in the region
   record Spans (first : ℕ) : Type 0 where
@@ -175,7 +168,6 @@ module _ (w : World) (req : VirtioMemReq) (sound : Sound w) where
   -- and what is legal to change is such a range
   record Opened (wanted : Bool) (first : ℕ) (offset : RegionOffset) (host : HostAddr) : Type 0 where
     pub spans : Spans first
-    pub state : allAre (w .blocks) first (req .«nb_blocks») (not wanted) ≡ true
     pub blocks-are : (i : ℕ) → Covers w req i → blockAt (w .blocks) i ≡ not wanted
     pub offset-is : offset ≡ record { 0 = offsetOf w req }
     pub mapped : OneMapping w (offsetOf w req) (sizeOf w req)
@@ -189,7 +181,6 @@ module _ (w : World) (req : VirtioMemReq) (sound : Sound w) where
       let enough = long w sound in
       record {
         spans = sp;
-        state = l .not-wanted;
         blocks-are = λ i c. all-at (w .blocks) first (req .«nb_blocks») (not wanted) i (l .not-wanted) (sp .covered i c .0) (sp .covered i c .1) (omega (arith, sp .ends, sp .covered i c .1));
         offset-is = ap (λ (n : ℕ). record { 0 = n }) o;
         mapped = record { host = host; maps = rw o at (l .host-at) };
@@ -208,19 +199,6 @@ module _ (w : World) (req : VirtioMemReq) (sound : Sound w) where
       by-test (leb first i)
       (λ t. by-test (ltb i end) (λ u. absurd (not-covered (sp .covers i (leb-true first i t) (ltb-true i end u)))) (λ u. at-after (w .blocks) first (req .«nb_blocks») v i (ltb-false i end u)))
       (λ t. at-before (w .blocks) first (req .«nb_blocks») v i (leb-false first i t))
-
-  -- the host has memory for each block of a valid range that one mapping has
-  pub covered-mapped : Valid w req → OneMapping w (offsetOf w req) (sizeOf w req) → (i : ℕ) → Covers w req i → CanDiscard w i
-  covered-mapped v m i c =
-      let s = facts w sound in
-      let b = s .block-size in
-      let positive : 0 < blockSize w = omega arith in
-      let sp = spans-of (offsetOf w req) (in-range v) in
-      let blocks = whole-blocks (blockSize w) (start w) (usable w) (req .addr .0) (req .«nb_blocks») (offsetOf w req) positive (rw b (s .start-blocks)) (in-range v) in
-      let first = blocksIn (blockSize w) (offsetOf w req) in
-      let range : Has (several w) (w .rows) (first * blockSize w) (sizeOf w req) = record { host = m .host; maps = rw (blocks .offset-of) at (m .maps) } in
-      let one = block-mapped (several w) (w .rows) (blockSize w) first (req .«nb_blocks») i b (sp .covered i c .0) (sp .covered i c .1) range in
-      record { in-usable = omega (arith, v .to-usable, c .ends); mapped = record { host = one .host; maps = one .maps } }
 
   -- ---- PLUG
   plug-at : req .«req_type» ≡ «VIRTIO_MEM_REQ_PLUG» → (status : ℕ) (g : Guest) → Plug w req (plug w (req .addr .0) (req .«nb_blocks») status g)
@@ -303,18 +281,16 @@ module _ (w : World) (req : VirtioMemReq) (sound : Sound w) where
             granted = λ can _. absurd (not-can can);
             spoiled = λ can _. absurd (not-can can);
             only-granted = λ call f. absurd (never call f);
-            ok-acknowledged = λ call f _ _. absurd (never call f);
-            no-rejected = λ call f _ _. absurd (never call f);
             responses = λ type e. only-type (3 ∷ []) 3 type refl e;
             whole = unchanged _ (λ f. let z : _≡_ {A = ℕ} 0 1 = cc in omega arith) (record { same-blocks = refl; same-config = refl });
-            whole-answered = λ call f _ _ _. absurd (never call f);
+            answered = λ call f _ _ _. absurd (never call f);
           }
 
       -- nothing is wrong with the request: there is no response yet
       waits : (first : ℕ) (offset : RegionOffset) (host : HostAddr) → Opened false first offset host → (o : Outcome) → responseOf (o .answer) ≡ none → Unchanged w (o .world)
           → ((can : CanUnplug w req) → sizeOf w req ≤ plugged w → AsksFor o (DiscardCall (record { 0 = offsetOf w req }) (sizeOf w req) (can .mapped .host)))
           → (plugged w < sizeOf w req → o .answer ≡ Refused 12)
-          → ((call : HostCall) → AsksFor o call → (g : Guest) (ok : Bool) (host : ℕ) → UnplugEnds w req ok (step (o .world) (HostAnswer g ok host))) → Unplug w req o
+          → ((call : HostCall) → AsksFor o call → (g : Guest) (ok : Bool) (host : ℕ) → UnplugAnswered w req ok (step (o .world) (HostAnswer g ok host))) → Unplug w req o
       waits first offset host found o silent same asks spoils ends =
           record {
             bad-range = λ wrong. absurd (wrong (found .spans .valid));
@@ -322,26 +298,24 @@ module _ (w : World) (req : VirtioMemReq) (sound : Sound w) where
             granted = asks;
             spoiled = λ _ less. spoils less;
             only-granted = λ _ _. record { valid = found .spans .valid; all-plugged = found .blocks-are; mapped = found .mapped };
-            ok-acknowledged = λ call f g′ h. ends call f g′ true h .when-ok refl;
-            no-rejected = λ call f g′ h. ends call f g′ false h .when-no refl;
             responses = λ type e. let z : _≡_ {A = ℕ} 0 1 = cc in absurd (omega arith);
             whole = unchanged o (λ e. let z : _≡_ {A = ℕ} 0 1 = cc in omega arith) same;
-            whole-answered = λ call f g′ ok h. ends call f g′ ok h .whole;
+            answered = ends;
           }
 
       ends : (first : ℕ) (offset : RegionOffset) (host : HostAddr) → Opened false first offset host → sizeOf w req ≤ plugged w → (g′ : Guest) (ok : Bool) (h : ℕ)
-          → UnplugEnds w req ok (step (asksDiscard w first (req .«nb_blocks») (offset .0) (host .0) status g .world) (HostAnswer g′ ok h))
+          → UnplugAnswered w req ok (step (asksDiscard w first (req .«nb_blocks») (offset .0) (host .0) status g .world) (HostAnswer g′ ok h))
       ends first offset host found enough g′ ok h =
           let p = Discard first (req .«nb_blocks») (record { 0 = status }) in
           let fine : pendingOk p (blockSize w) (region w) (several w) (plugged w) ≡ true =
           rw (le-leb (first + req .«nb_blocks») (regionBlocks w) (found .spans .ends)) (le-leb (sizeOf w req) (plugged w) enough) in
           rw (answered _ p (awaits w sound p fine) refl g′ ok h) (by-ok ok)
         where
-          by-ok : (ok : Bool) → UnplugEnds w req ok (hostAnswer (Discard first (req .«nb_blocks») (record { 0 = status })) (asksDiscard w first (req .«nb_blocks») (offset .0) (host .0) status g .world) g′ ok h)
+          by-ok : (ok : Bool) → UnplugAnswered w req ok (hostAnswer (Discard first (req .«nb_blocks») (record { 0 = status })) (asksDiscard w first (req .«nb_blocks») (offset .0) (host .0) status g .world) g′ ok h)
           by-ok true =
               record {
-                when-ok = λ _. refl;
-                when-no = λ e. clash refl e;
+                ok-acknowledged = λ _. refl;
+                no-rejected = λ e. clash refl e;
                 whole = record {
                   acknowledged = λ _.
                       record {
@@ -357,8 +331,8 @@ module _ (w : World) (req : VirtioMemReq) (sound : Sound w) where
               }
           by-ok false =
               record {
-                when-ok = λ e. clash e refl;
-                when-no = λ _. refl;
+                ok-acknowledged = λ e. clash e refl;
+                no-rejected = λ _. refl;
                 whole = unchanged _ (λ f. let z : _≡_ {A = ℕ} 0 1 = cc in omega arith) (record { same-blocks = refl; same-config = refl });
               }
 
@@ -671,7 +645,7 @@ one-standard w j status a g ok host = rw (answered w (DiscardOne j status) a ref
           ok-goes-on = λ e. clash e refl;
         }
 
--- ---- tried against M11 and M14: a device that answers ERROR always, of whatever it might have done
+-- ---- tried against M11, M14 and M15: a device that answers ERROR always
 module _ (w : World) (req : VirtioMemReq) (status : ℕ) (g : Guest) where
   pub error-always-no-plug : CanPlug w req → Plug w req (served error status w g) → ⊥
   unfolding responseOf
@@ -679,3 +653,6 @@ module _ (w : World) (req : VirtioMemReq) (status : ℕ) (g : Guest) where
 
   pub error-always-no-unplug : CanUnplug w req → sizeOf w req ≤ plugged w → Unplug w req (served error status w g) → ⊥
   error-always-no-unplug can enough p = let e = p .granted can enough in let z : _≡_ {A = ℕ} 0 1 = cc in omega arith
+
+  pub error-always-no-unplug-all : (from i : ℕ) → Lowest w from i → CanDiscard w i → UnplugsFrom w from (served error status w g) → ⊥
+  error-always-no-unplug-all from i l can u = let e = u .asks-lowest i l can .asks in let z : _≡_ {A = ℕ} 0 1 = cc in omega arith

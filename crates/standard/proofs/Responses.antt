@@ -1,20 +1,27 @@
 -- The device and the clauses M8, M12 and M17, of every call in every world; and that nothing changes while a request waits for the host.
 use Prim.Native.Nat.{ℕ, _+_, _-_, _^_, _≤_, _<_}
 use mathlib.Core.Path.{_≡_, refl, ap, _∙_, sym}
-use mathlib.Core.Bool.{Bool, true, false, cond}
+use mathlib.Core.Bool.{Bool, true, false, cond, not}
 use mathlib.Core.List.{List, [], _∷_}
 use mathlib.Core.Option.{some, none}
 use native.Mathlib.Omega.{arith}
-use lib.Dec.{eqb}
+use lib.Dec.{ltb, eqb}
 use lib.ListN.{length}
-use borrow.Author.Tests.{eqb-true, eqb-false, le-leb}
+use borrow.Author.Tests.{eqb-true, eqb-false, le-leb, ltb-false, not-false}
 use Rattle.units.specs.declared.GuestAddr.{GuestAddr}
 use Rattle.units.proofs.Tests.{by-test}
+use Rattle.wire.specs.declared.VirtioMemReq.{VirtioMemReq}
 use Rattle.wire.specs.declared.VirtioMemResp.{VirtioMemResp}
 use Rattle.wire.proofs.Standard.{response}
-use Rattle.descriptors.specs.Descriptors.{inside}
+use Rattle.descriptors.specs.Descriptors.{inside, linkAt, linkAfter}
 use Rattle.descriptors.proofs.Laws.{inside-facts}
-use Rattle.chain.specs.Chain.{reaches, delivered}
+use Rattle.descriptors.specs.declared.Descriptor.{Descriptor}
+use Rattle.descriptors.specs.declared.Link.{Link}
+use Rattle.descriptors.specs.declared.Link.the-variants.{Is, Missing}
+use Rattle.descriptors.specs.Standard.{isWriteOnly, isIndirect}
+use Rattle.chain.specs.declared.Parsed.{Parsed}
+use Rattle.chain.specs.declared.Parsed.the-variants.{Request as Got, Bad}
+use Rattle.chain.specs.Chain.{withSecond, withFirst, parsed, reaches, delivered}
 use Rattle.chain.proofs.Laws.{length-delivered, delivered-reads, undelivered, delivered-before, delivered-behind}
 use Rattle.record.specs.declared.Pending.the-variants.{Discard}
 use Rattle.step.specs.declared.Answer.{Answer}
@@ -24,7 +31,7 @@ use Rattle.step.specs.Step.{step, hostAnswer}
 use Rattle.history.proofs.Shaped.{clash}
 use Rattle.history.proofs.Cases.{on-ready, on-unplaced, read-cases, write-cases}
 use Rattle.standard.specs.Config.{InEveryWorld}
-use Rattle.standard.specs.Requests.{Responds, responseOf, among, isHostAnswer, WaitingStays, lentBy, statusOfChain, statusOfPending, statusFor, Written, Delivered, ResponseIsDelivered, StatusIsKept, SilenceWritesNothing, OneAnswered, NackOnlyPastRequested, PlugPastRequested, NeverBusy, «VIRTIO_MEM_REQ_PLUG», «VIRTIO_MEM_REQ_UNPLUG», «VIRTIO_MEM_REQ_UNPLUG_ALL», «VIRTIO_MEM_REQ_STATE», «VIRTIO_MEM_RESP_NACK», «VIRTIO_MEM_RESP_BUSY»}
+use Rattle.standard.specs.Requests.{Responds, responseOf, among, isHostAnswer, WaitingStays, lentBy, statusOfChain, statusOfPending, statusFor, Written, Delivered, ResponseIsDelivered, WritableAt, StatusIsWritable, StatusIsKept, SilenceWritesNothing, OneAnswered, NackOnlyPastRequested, PlugPastRequested, NeverBusy, «VIRTIO_MEM_REQ_PLUG», «VIRTIO_MEM_REQ_UNPLUG», «VIRTIO_MEM_REQ_UNPLUG_ALL», «VIRTIO_MEM_REQ_STATE», «VIRTIO_MEM_RESP_NACK», «VIRTIO_MEM_RESP_BUSY»}
 use Rattle.standard.proofs.Requests.{plug-standard, unplug-standard, unplug-all-standard, state-standard, unknown-unserved}
 use Rattle.standard.proofs.EveryCall.{speaks, isConfigCall, Says, Responded, Silent, leaf-unplug, Ways, each-way}
 
@@ -37,8 +44,8 @@ laid g status resp t =
       from-base = i .from-base;
       to-end = i .to-end;
       laid-out = delivered-reads (g .mem) (g .base) status resp t ∙ response resp;
-      same-before = λ at n h. delivered-before (g .mem) (g .base) status resp at n h;
-      same-behind = λ at n h. delivered-behind (g .mem) (g .base) status resp at n h;
+      same-before = λ at n h. delivered-before (g .mem) (g .base) status resp at n (omega arith);
+      same-behind = λ at n h. delivered-behind (g .mem) (g .base) status resp at n (omega arith);
       same-length = length-delivered (g .mem) (g .base) status resp;
     }
 
@@ -62,7 +69,7 @@ delivers g status o (Responded given a b) resp used e =
 delivers g status o (Silent n b) resp used e = let z : none ≡ some (resp .«resp_type») = sym n ∙ ap responseOf e in let y : _≡_ {A = ℕ} 0 1 = cc in absurd (omega arith)
 
 -- what says nothing is no response, and no question for a discard
-mute : (a : Answer) → speaks a ≡ false → responseOf a ≡ none
+pub mute : (a : Answer) → speaks a ≡ false → responseOf a ≡ none
 unfolding speaks responseOf
 mute (Refused n) e = refl
 mute (Wants call) e = refl
@@ -98,7 +105,39 @@ status-by w =
 pub status-is-kept : InEveryWorld StatusIsKept
 status-is-kept w c = each-way w (StatusIsKept w) (status-by w) c
 
--- no response, and no byte of guest memory has changed
+-- ---- Q4: where a response goes the driver lets the device write
+-- a test that must have failed, or nothing is found
+past : (t : Bool) (reason : ℕ) (p : Parsed) (req : VirtioMemReq) (status : GuestAddr) → cond t (Bad reason) p ≡ Got req status → (t ≡ false) × (p ≡ Got req status)
+past true reason p req status e = let z : _≡_ {A = ℕ} 0 1 = cc in absurd (omega arith)
+past false reason p req status e = (refl, e)
+
+module _ (g : Guest) (table head : ℕ) (req : VirtioMemReq) (status : GuestAddr) where
+  second-writable : (first : Descriptor) (found : VirtioMemReq) (l : Link) → linkAt (g .mem) (g .base) table head ≡ Is first → linkAfter (g .mem) (g .base) table first ≡ l
+      → withSecond found l ≡ Got req status → WritableAt g table head status
+  unfolding withSecond
+  second-writable first found Missing h f e = let z : _≡_ {A = ℕ} 0 1 = cc in absurd (omega arith)
+  second-writable first found (Is second) h f e =
+      let direct = past (isIndirect second) _ _ req status e in
+      let writable = past (not (isWriteOnly second)) _ _ req status (direct .1) in
+      let long = past (ltb (second .len) 10) _ _ req status (writable .1) in
+      let got = long .1 in
+      record { first = first; second = second; heads = h; follows = f; is-writable = not-false (isWriteOnly second) (writable .0); is-long = ltb-false (second .len) 10 (long .0); is-there = cc }
+
+  first-writable : (l : Link) → linkAt (g .mem) (g .base) table head ≡ l → withFirst (g .mem) (g .base) table l ≡ Got req status → WritableAt g table head status
+  unfolding withFirst
+  first-writable Missing h e = let z : _≡_ {A = ℕ} 0 1 = cc in absurd (omega arith)
+  first-writable (Is first) h e =
+      let direct = past (isIndirect first) _ _ req status e in
+      let readable = past (isWriteOnly first) _ _ req status (direct .1) in
+      let whole = past (not (eqb (first .len) 24)) _ _ req status (readable .1) in
+      let there = past (not (inside (length (g .mem)) (g .base) (first .addr .0) 24)) _ _ req status (whole .1) in
+      second-writable first _ (linkAfter (g .mem) (g .base) table first) h refl (there .1)
+
+pub status-is-writable : StatusIsWritable
+unfolding parsed
+status-is-writable g table head req status e = first-writable g table head req status (linkAt (g .mem) (g .base) table head) refl e
+
+-- ---- no response, and no byte of guest memory has changed
 abbrev NoByte : Call → Outcome → Type 0
 NoByte c o = isConfigCall c ≡ false → responseOf (o .answer) ≡ none → o .bytes ≡ lentBy c .mem
 
@@ -168,7 +207,7 @@ given-by w =
           by-test (eqb 1 type)
           (λ u.
           let e : 1 ≡ type = eqb-true 1 type u in
-          Nack (sym e) (record { brings = record { guest = g; table = table; head = head; req = req; status = status; is-request = refl; hears = h; is-type = t }; over = p .only-over (rw e r) }))
+          Nack (sym e) (record { brings = record { guest = g; table = table; head = head; req = req; status = status; is-request = refl; hears = h; is-type = t }; over = omega (arith, p .only-over (rw e r)) }))
           (λ u. AckOrError (rw u at (p .responses type r))))
           (λ t. AckOrError (among-more 0 (3 ∷ []) type (unplug-standard w g table head req status h t .responses type r)))
           (λ t. AckOrError (unplug-all-standard w g table head req status h t .responses type r))

@@ -1,12 +1,14 @@
 -- The device and the clauses M11, M14, M15 and M18 over every run.
-use Prim.Native.Nat.{ℕ, _+_, _*_, _≤_, _<_}
+use Prim.Native.Nat.{ℕ, _+_, _*_, _%_, _≤_, _<_}
 use mathlib.Core.Path.{_≡_, refl, ap, _∙_, sym}
 use mathlib.Core.Bool.{Bool, true, false}
 use mathlib.Core.List.{List, [], _∷_}
 use mathlib.Core.Option.{Option, some, none}
+use native.Mathlib.Nat.{mul-pos}
 use native.Mathlib.Omega.{arith}
 use lib.Dec.{ltb}
 use borrow.Author.Tests.{ltb-true, ltb-false}
+use Rattle.units.specs.Numbers.{mapRegion}
 use Rattle.units.specs.declared.GuestAddr.{GuestAddr}
 use Rattle.units.specs.declared.HostAddr.{HostAddr}
 use Rattle.units.specs.declared.RegionOffset.{RegionOffset}
@@ -18,43 +20,84 @@ use Rattle.wire.specs.declared.VirtioMemResp.{VirtioMemResp}
 use Rattle.record.specs.declared.HostCall.{HostCall}
 use Rattle.record.specs.declared.HostCall.the-variants.{Discard as DiscardCall}
 use Rattle.record.specs.declared.Pending.the-variants.{Discard, DiscardOne}
-use Rattle.record.proofs.Laws.{parts as parts-of, shaped-is as facts-of}
+use Rattle.record.specs.declared.Device.{Device}
+use Rattle.record.proofs.Laws.{Shaped as Facts, shaped-is as facts-of, parts as parts-of, whole as shaped-when}
 use Rattle.step.specs.declared.Answer.{Answer}
 use Rattle.step.specs.declared.Answer.the-variants.{Refused, Wants, Sized, Unserved, Served, Done}
 use Rattle.step.specs.World.{World, Guest, Call, Place, SetRequestedSize, Request, HostAnswer, ReadConfig, WriteConfig, Outcome}
-use Rattle.step.specs.Step.{step, hostAnswer, blockSize, plugged, regionBlocks, cleared}
-use Rattle.history.specs.History.{Event, UnplugAllAck, Open, acknowledges, ifAck, eventsOf, Story, next, after, begun}
+use Rattle.step.specs.Step.{step, hostAnswer, usable, blockSize, plugged, regionBlocks, cleared}
+use Rattle.history.specs.History.{Event, UnplugAllAck, Open, acknowledges, ackToRequest, ackToType, ackToHost, ifAck, eventsOf, Story, next, after, Fresh, begun}
 use Rattle.history.specs.Rules.{InEveryRun, Whole, marks, counts, could, marked, counted, allCould, isPlace}
 use Rattle.history.proofs.Shaped.{clash}
 use Rattle.history.proofs.Cases.{plug-cases}
 use Rattle.history.proofs.Observer.{openOf}
 use Rattle.history.proofs.Demand3.{demand-3, open-is}
+use Rattle.history.proofs.KeepsShape.{is-shaped}
 use Rattle.history.proofs.Sizes.{never-12}
 use Rattle.history.proofs.Whole.{whole-or-not-at-all}
 use Rattle.standard.specs.Config.{Constant}
-use Rattle.standard.specs.Requests.{Responds, responseOf, among, AsksFor, IsPlugged, IsUnplugged, Covers, sizeOf, offsetOf, Hears, CanUnplug, Unplug, UnplugsFrom, AsksLowest, OneAnswered, Awaits, «VIRTIO_MEM_REQ_UNPLUG», «VIRTIO_MEM_RESP_ACK»}
-use Rattle.standard.specs.Runs.{FreeBlocksPlug, PluggedBlocksUnplug, NonePlugged, UnplugAllAcknowledged, AsksToUnplug, ByUnplug, ByUnplugAll, ByOpenUnplug, ByOpenUnplugAll, hostAgrees, UnpluggedByRequest, DiscardsByRequest}
+use Rattle.standard.specs.Requests.{Responds, responseOf, among, AsksFor, CanDiscard, IsPlugged, IsUnplugged, Covers, sizeOf, offsetOf, Hears, CanUnplug, Unplug, UnplugsFrom, AsksLowest, OneAnswered, Awaits, «VIRTIO_MEM_REQ_UNPLUG», «VIRTIO_MEM_RESP_ACK», «VIRTIO_MEM_RESP_ERROR»}
+use Rattle.standard.specs.Runs.{UsableIsMapped, FreeBlocksPlug, PluggedBlocksUnplug, NonePlugged, UnplugAllAcknowledged, PluggedCanBeDiscarded, UnplugAllFailsByHost, AsksToUnplug, ByUnplug, ByUnplugAll, ByOpenUnplug, ByOpenUnplugAll, hostAgrees, UnpluggedByRequest, DiscardsByRequest}
 use Rattle.standard.proofs.Config.{constant-fields}
 use Rattle.standard.proofs.Requests.{plug-standard, unplug-standard, unplug-all-standard, unknown-unserved, to-plug, to-state}
-use Rattle.standard.proofs.EveryCall.{speaks, Ways, each-way}
-use Rattle.standard.proofs.Responses.{by-type}
-use Rattle.standard.proofs.Changed.{Changed, ByPlug, ByUnplug as ByHeldUnplug, ByUnplugAll as ByHeldAll, changed, all-same}
+use Rattle.standard.proofs.EveryCall.{speaks, leaf-unplug, Ways, each-way}
+use Rattle.standard.proofs.Memory.{InMemory, usable-mapped}
+use Rattle.standard.proofs.Responses.{by-type, mute}
+use Rattle.standard.proofs.Changed.{Changed, ByPlug, ByUnplug as ByHeldUnplug, ByUnplugAll as ByHeldAll, changed, all-same, plugged-inside}
 
--- ---- M11, M14: what a run grants
+-- ---- M11, M14: the host has memory for the usable region
+keeps-memory : (w : World) → Ways w (λ c o. InMemory w → InMemory (o .world))
+keeps-memory w =
+    record {
+      quiet = λ c o q. q .keeps-memory;
+      hears = λ g table head req status h l. l .keeps-memory;
+      unplug-ends = λ first count status a g ok host. leaf-unplug w g first count status ok host .keeps-memory;
+      one-ends = λ j status a g ok host o h l. l .keeps-memory;
+    }
+
+always-memory : (s : Story) (cs : List Call) → InMemory (s .world) → InMemory (after s cs .world)
+unfolding after next
+always-memory s [] m = m
+always-memory s (c ∷ cs) m = always-memory (next s c) cs (each-way (s .world) (λ c o. InMemory (s .world) → InMemory (o .world)) (keeps-memory (s .world)) c m)
+
+in-memory : (d : Device) → Fresh d → (cs : List Call) → InMemory (after (begun d) cs .world)
+in-memory d fresh cs =
+    always-memory (begun d) cs
+    (record {
+      early = λ _. fresh .nothing-usable;
+      fits = λ r l mapped. absurd (mapped refl);
+      below = λ r l _ _. let none = fresh .nothing-usable in omega arith;
+      single = λ _ p _. clash p (fresh .unplaced);
+      asked = λ i last e. let idle = fresh .waits-for-nothing in let z : _≡_ {A = ℕ} 0 1 = cc in absurd (omega arith);
+    })
+
+facts-at : (d : Device) → Fresh d → (cs : List Call) → Facts (after (begun d) cs .world .device)
+facts-at d fresh cs = facts-of _ (shaped-when _ (is-shaped d fresh cs))
+
+pub usable-is-mapped : InEveryRun UsableIsMapped
+usable-is-mapped d fresh cs c req p =
+    let w = after (begun d) cs .world in
+    let s = facts-at d fresh cs in
+    let v = p .valid in
+    let some : 0 < sizeOf w req = mul-pos (v .some-blocks) (omega (arith, s .block-size)) in
+    usable-mapped w (in-memory d fresh cs) s (offsetOf w req) (sizeOf w req) some (omega (arith, v .from-start, v .to-usable)) (p .no-border)
+
 pub free-blocks-plug : InEveryRun FreeBlocksPlug
-free-blocks-plug d fresh cs c b within valid free maps =
+free-blocks-plug d fresh cs c b p within free =
     let w = after (begun d) cs .world in
     let counted = demand-3 d fresh cs .count in
     rw (b .is-request)
-    (plug-standard w (b .guest) (b .table) (b .head) (b .req) (b .status) (b .hears) (b .is-type) .granted (record { within-requested = omega arith; valid = valid; all-unplugged = free; mapped = maps }))
+    (plug-standard w (b .guest) (b .table) (b .head) (b .req) (b .status) (b .hears) (b .is-type) .granted
+    (record { within-requested = omega arith; valid = p .valid; all-unplugged = free; mapped = usable-is-mapped d fresh cs c (b .req) p }))
 
 pub plugged-blocks-unplug : InEveryRun PluggedBlocksUnplug
-plugged-blocks-unplug d fresh cs c b can =
+plugged-blocks-unplug d fresh cs c b p all =
     let w = after (begun d) cs .world in
     let u = unplug-standard w (b .guest) (b .table) (b .head) (b .req) (b .status) (b .hears) (b .is-type) in
+    let can : CanUnplug w (b .req) = record { valid = p .valid; all-plugged = all; mapped = usable-is-mapped d fresh cs c (b .req) p } in
     by-test (ltb (plugged w) (sizeOf w (b .req)))
     (λ t. absurd (never-12 d fresh cs c (rw (b .is-request) (u .spoiled can (ltb-true _ _ t)))))
-    (λ t. rw (b .is-request) (u .granted can (ltb-false _ _ t)))
+    (λ t. (can .mapped .host, ap (λ x. step w x .answer) (b .is-request) ∙ u .granted can (ltb-false _ _ t)))
 
 -- ---- M15: an ACK to an unplug-all
 -- an ACK tells what the call acknowledges
@@ -92,6 +135,62 @@ unplug-all-acknowledged d fresh cs c e responds =
     let s = after (begun d) cs in
     let whole = whole-or-not-at-all d fresh cs c (no-place (s .world) (s .«open») c e) in
     none-plugged (s .world) _ _ (constant-fields (s .world) c) (rw (e, ack-tells _ (UnplugAllAck ∷ []) responds) at whole)
+
+-- ---- M15: an ERROR to an unplug-all
+pub plugged-can-be-discarded : InEveryRun PluggedCanBeDiscarded
+plugged-can-be-discarded d fresh cs c i l p =
+    let w = after (begun d) cs .world in
+    let s = facts-at d fresh cs in
+    let inside = plugged-inside d cs i l p in
+    let end = whole (blockSize w) (usable w) (s .block-size) (s .usable-blocks) inside in
+    record { in-usable = inside; mapped = usable-mapped w (in-memory d fresh cs) s (i * blockSize w) (blockSize w) (omega (arith, s .block-size)) end (λ _. in-one (blockSize w) (s .block-size)) }
+  where
+    whole : (b n : ℕ) → b ≡ 4194304 → n % 4194304 ≡ 0 → i * b < n → i * b + b ≤ n
+    whole b n e u h = let h′ = rw e at h in rw e (omega arith)
+
+    in-one : (b : ℕ) → b ≡ 4194304 → i * b % mapRegion + b ≤ mapRegion
+    in-one b e = rw e (omega arith)
+
+-- where every plugged block can be discarded
+abbrev FailsByHost : World → Call → Outcome → Type 0
+FailsByHost w c o = ((i : ℕ) → i < regionBlocks w → IsPlugged w i → CanDiscard w i) → acknowledges w (openOf (w .device .pending)) c ≡ UnplugAllAck ∷ []
+    → Responds o «VIRTIO_MEM_RESP_ERROR» → (guest : Guest) × (host : ℕ) × (c ≡ HostAnswer guest false host)
+
+no-error : (w : World) (from : ℕ) (o : Outcome) → ((i : ℕ) → i < regionBlocks w → IsPlugged w i → CanDiscard w i) → UnplugsFrom w from o → Responds o «VIRTIO_MEM_RESP_ERROR» → ⊥
+no-error w from o can u r = let x = u .only-cannot r in x .2 (can (x .0) (x .1 .in-region) (x .1 .is-plugged))
+
+one-fails : (w : World) (j : ℕ) (g : Guest) (ok : Bool) (host : ℕ) (o : Outcome) → OneAnswered w j ok o → ((i : ℕ) → i < regionBlocks w → IsPlugged w i → CanDiscard w i)
+    → Responds o «VIRTIO_MEM_RESP_ERROR» → (guest : Guest) × (at : ℕ) × (HostAnswer g ok host ≡ HostAnswer guest false at)
+one-fails w j g false host o h can r = (g, host, refl)
+one-fails w j g true host o h can r = absurd (no-error (cleared w j) (j + 1) o still (h .ok-goes-on refl) r)
+  where
+    still : (i : ℕ) → i < regionBlocks w → IsPlugged (cleared w j) i → CanDiscard (cleared w j) i
+    still i l p =
+        let one = h .ok-unplugs in
+        let there = can i l (sym (one .others i (λ e. clash (rw e at p) (one .is-unplugged))) ∙ p) in
+        record { in-usable = there .in-usable; mapped = record { host = there .mapped .host; maps = there .mapped .maps } }
+
+fails : (w : World) → Ways w (FailsByHost w)
+unfolding acknowledges ackToRequest ackToType ackToHost openOf responseOf
+fails w =
+    record {
+      quiet = λ c o q can e r. let y : _≡_ {A = Option ℕ} none (some 3) = sym (mute (o .answer) (q .silent)) ∙ r in let z : _≡_ {A = ℕ} 0 1 = cc in absurd (omega arith);
+      hears = λ g table head req status h l can e r.
+          let asked : ackToType w req ≡ UnplugAllAck ∷ [] = rw (h .reads) at e in
+          by-type (req .«req_type»)
+          (λ t. let plug = rw t at asked in let z : _≡_ {A = ℕ} 0 1 = cc in absurd (omega arith))
+          (λ t. let unplug = rw t at asked in let z : _≡_ {A = ℕ} 0 1 = cc in absurd (omega arith))
+          (λ t. absurd (no-error w 0 _ can (unplug-all-standard w g table head req status h t) r))
+          (λ t. let state = rw t at asked in let z : _≡_ {A = ℕ} 0 1 = cc in absurd (omega arith))
+          (λ t. let y : _≡_ {A = Option ℕ} none (some 3) = sym (ap responseOf (unknown-unserved w g table head req status h t .no-response)) ∙ r in let z : _≡_ {A = ℕ} 0 1 = cc in absurd (omega arith));
+      unplug-ends = λ first count status a g ok host can e r. let unplug = rw (a .waits) at e in let z : _≡_ {A = ℕ} 0 1 = cc in absurd (omega arith);
+      one-ends = λ j status a g ok host o h l can e r. one-fails w j g ok host o h can r;
+    }
+
+pub unplug-all-fails-by-host : InEveryRun UnplugAllFailsByHost
+unplug-all-fails-by-host d fresh cs c e r =
+    let w = after (begun d) cs .world in
+    each-way w (FailsByHost w) (fails w) c (plugged-can-be-discarded d fresh cs c) (rw (open-is d fresh cs) e) r
 
 -- ---- M18: a block is unplugged by what the driver asks for
 unplugged-by : (s : Story) (c : Call) (i : ℕ) → openOf (s .world .device .pending) ≡ s .«open» → IsUnplugged (step (s .world) c .world) i → Changed (s .world) c (step (s .world) c) i
@@ -195,4 +294,4 @@ pub discards-by-request : InEveryRun DiscardsByRequest
 unfolding next
 discards-by-request d fresh cs c offset size host e i low high =
     let w = after (begun d) cs .world in
-    rw (open-is d fresh cs) at (each-way w (Discards w) (discards w) c offset size host e i low high)
+    rw (open-is d fresh cs) at (each-way w (Discards w) (discards w) c offset size host e i (omega arith) (omega arith))

@@ -15,6 +15,10 @@ use Rattle.change.specs.Change.{hostOf}
 use Rattle.wire.specs.Standard.{virtioMemResp}
 use Rattle.wire.specs.declared.VirtioMemReq.{VirtioMemReq}
 use Rattle.wire.specs.declared.VirtioMemResp.{VirtioMemResp}
+use Rattle.descriptors.specs.declared.Descriptor.{Descriptor}
+use Rattle.descriptors.specs.declared.Link.the-variants.{Is}
+use Rattle.descriptors.specs.Standard.{isWriteOnly}
+use Rattle.descriptors.specs.Descriptors.{linkAt, linkAfter}
 use Rattle.chain.specs.declared.Parsed.{Parsed}
 use Rattle.chain.specs.declared.Parsed.the-variants.{Request as Got, Bad}
 use Rattle.chain.specs.Chain.{parsed}
@@ -246,6 +250,19 @@ pub record ResponseTo (w : World) (c : Call) (resp : VirtioMemResp) (used : ℕ)
 abbrev pub ResponseIsDelivered : World → Call → Outcome → Type 0
 ResponseIsDelivered w c o = (resp : VirtioMemResp) (used : ℕ) → o .answer ≡ Served resp used → ResponseTo w c resp used (o .bytes)
 
+-- Q4: the status address is that of a buffer which the driver gave for writing, the second descriptor of the chain
+pub record WritableAt (g : Guest) (table head : ℕ) (status : GuestAddr) : Type 0 where
+  pub first : Descriptor
+  pub second : Descriptor
+  pub heads : linkAt (g .mem) (g .base) table head ≡ Is first
+  pub follows : linkAfter (g .mem) (g .base) table first ≡ Is second
+  pub is-writable : isWriteOnly second ≡ true
+  pub is-long : 10 ≤ second .len
+  pub is-there : second .addr ≡ status
+
+abbrev pub StatusIsWritable : Type 0
+StatusIsWritable = (g : Guest) (table head : ℕ) (req : VirtioMemReq) (status : GuestAddr) → parsed (g .mem) (g .base) table head ≡ Got req status → WritableAt g table head status
+
 -- a request that waits for the host keeps the status address of its chain
 abbrev pub StatusIsKept : World → Call → Outcome → Type 0
 StatusIsKept w c o = (call : HostCall) → AsksFor o call → statusOfPending (o .world .device .pending) ≡ statusFor w c
@@ -297,6 +314,12 @@ pub record CanUnplug (w : World) (req : VirtioMemReq) : Type 0 where
   pub all-plugged : (i : ℕ) → Covers w req i → IsPlugged w i
   pub mapped : OneMapping w (offsetOf w req) (sizeOf w req)
 
+-- what the host's answer brings to a request that was made in the world w: its ok is acknowledged, and all blocks are unplugged (M10); its no is an ERROR
+pub record UnplugAnswered (w : World) (req : VirtioMemReq) (ok : Bool) (o : Outcome) : Type 0 where
+  pub ok-acknowledged : ok ≡ true → Responds o «VIRTIO_MEM_RESP_ACK»
+  pub no-rejected : ok ≡ false → Responds o «VIRTIO_MEM_RESP_ERROR»
+  pub whole : WholeOrNothing w req o
+
 pub record Unplug (w : World) (req : VirtioMemReq) (o : Outcome) : Type 0 where
   -- rejected with ERROR if it is not valid, or a block is unplugged already
   pub bad-range : (Valid w req → ⊥) → Responds o «VIRTIO_MEM_RESP_ERROR»
@@ -305,13 +328,10 @@ pub record Unplug (w : World) (req : VirtioMemReq) (o : Outcome) : Type 0 where
   pub granted : (can : CanUnplug w req) → sizeOf w req ≤ plugged w → AsksFor o (DiscardCall (record { 0 = offsetOf w req }) (sizeOf w req) (can .mapped .host))
   pub spoiled : CanUnplug w req → plugged w < sizeOf w req → o .answer ≡ Refused 12
   pub only-granted : (call : HostCall) → AsksFor o call → CanUnplug w req
-  -- its ok is acknowledged, its no is an ERROR, and there is no other response at once
-  pub ok-acknowledged : (call : HostCall) → AsksFor o call → (g : Guest) (host : ℕ) → Responds (step (o .world) (HostAnswer g true host)) «VIRTIO_MEM_RESP_ACK»
-  pub no-rejected : (call : HostCall) → AsksFor o call → (g : Guest) (host : ℕ) → Responds (step (o .world) (HostAnswer g false host)) «VIRTIO_MEM_RESP_ERROR»
+  -- there is no response yet, and nothing is unplugged (M10), until the host has answered
   pub responses : RespondsAmong o («VIRTIO_MEM_RESP_ERROR» ∷ [])
-  -- M10, M14: nothing is unplugged before the answer, and by it the whole or nothing
   pub whole : WholeOrNothing w req o
-  pub whole-answered : (call : HostCall) → AsksFor o call → (g : Guest) (ok : Bool) (host : ℕ) → WholeOrNothing w req (step (o .world) (HostAnswer g ok host))
+  pub answered : (call : HostCall) → AsksFor o call → (g : Guest) (ok : Bool) (host : ℕ) → UnplugAnswered w req ok (step (o .world) (HostAnswer g ok host))
 
 -- ---- M15: UNPLUG ALL, block after block. Narrower than M10: what is unplugged stays so when a later block fails, and that is an ERROR, which the standard has not for this request
 -- the lowest plugged block from `from` on, and that there is none

@@ -1,28 +1,37 @@
 -- What Virtio 1.2 asks over every run of calls from a newly made device: M11, M14, M15 and M18 of docs/STANDARD.md, where a run says more than a world alone. M5 and M6 are in Config.antt.
-use Prim.Native.Nat.{ℕ, _+_, _*_, _≤_, _<_}
+use Prim.Native.Nat.{ℕ, _+_, _*_, _%_, _≤_, _<_}
 use mathlib.Core.Path.{_≡_}
 use mathlib.Core.Bool.{Bool, true, false}
 use mathlib.Core.List.{[], _∷_}
+use Rattle.units.specs.Numbers.{mapRegion}
 use Rattle.units.specs.declared.HostAddr.{HostAddr}
 use Rattle.units.specs.declared.RegionOffset.{RegionOffset}
 use Rattle.bitmap.specs.Blocks.{ones}
+use Rattle.wire.specs.declared.VirtioMemReq.{VirtioMemReq}
 use Rattle.record.specs.declared.HostCall.the-variants.{Discard}
-use Rattle.step.specs.World.{World, Call, Place, SetRequestedSize, Request, HostAnswer, ReadConfig, WriteConfig, Outcome}
-use Rattle.step.specs.Step.{step, blockSize, plugged, requested, regionBlocks}
+use Rattle.step.specs.World.{World, Guest, Call, Place, SetRequestedSize, Request, HostAnswer, ReadConfig, WriteConfig, Outcome}
+use Rattle.step.specs.Step.{step, blockSize, several, plugged, requested, regionBlocks}
 use Rattle.history.specs.History.{Open, Unplugging, UnpluggingAll, UnplugAllAck, acknowledges, used, Story, next}
-use Rattle.standard.specs.Requests.{Responds, AsksFor, IsPlugged, IsUnplugged, Covers, Valid, sizeOf, offsetOf, OneMapping, Brings, CanUnplug, CanDiscard, «VIRTIO_MEM_REQ_PLUG», «VIRTIO_MEM_REQ_UNPLUG», «VIRTIO_MEM_REQ_UNPLUG_ALL», «VIRTIO_MEM_RESP_ACK»}
+use Rattle.standard.specs.Requests.{Responds, AsksFor, IsPlugged, IsUnplugged, Covers, Valid, sizeOf, offsetOf, OneMapping, Brings, CanDiscard, «VIRTIO_MEM_REQ_PLUG», «VIRTIO_MEM_REQ_UNPLUG», «VIRTIO_MEM_REQ_UNPLUG_ALL», «VIRTIO_MEM_RESP_ACK», «VIRTIO_MEM_RESP_ERROR»}
 
--- ---- M11, M12, counted by blocks: whatever was refused or failed before, unplugged blocks can be plugged as long as they and the plugged ones are at most requested_size
+-- ---- M11, M14: in a run the host has memory for the whole usable region. What is narrower is that a request may not cross a border: with several regions each 2 GiB of offsets are a map region
+pub record InOneMapRegion (w : World) (req : VirtioMemReq) : Type 0 where
+  pub valid : Valid w req
+  pub no-border : several w ≡ true → offsetOf w req % mapRegion + sizeOf w req ≤ mapRegion
+
+abbrev pub UsableIsMapped : Story → Call → Type 0
+UsableIsMapped s c = (req : VirtioMemReq) → InOneMapRegion (s .world) req → OneMapping (s .world) (offsetOf (s .world) req) (sizeOf (s .world) req)
+
+-- M11, M12, counted by blocks: whatever was refused or failed before, unplugged blocks can be plugged as long as they and the plugged ones are at most requested_size
 abbrev pub FreeBlocksPlug : Story → Call → Type 0
-FreeBlocksPlug s c = let w = s .world in (b : Brings w c «VIRTIO_MEM_REQ_PLUG»)
-    → ones (used w) * blockSize w + sizeOf w (b .req) ≤ requested w
-    → Valid w (b .req) → ((i : ℕ) → Covers w (b .req) i → IsUnplugged w i) → OneMapping w (offsetOf w (b .req)) (sizeOf w (b .req))
+FreeBlocksPlug s c = let w = s .world in (b : Brings w c «VIRTIO_MEM_REQ_PLUG») → InOneMapRegion w (b .req)
+    → ones (used w) * blockSize w + sizeOf w (b .req) ≤ requested w → ((i : ℕ) → Covers w (b .req) i → IsUnplugged w i)
     → Responds (step w c) «VIRTIO_MEM_RESP_ACK»
 
--- ---- M14: plugged blocks can be unplugged, since plugged_size has them
+-- M14: plugged blocks can be unplugged, since plugged_size has them: the host is asked for their offset and size
 abbrev pub PluggedBlocksUnplug : Story → Call → Type 0
-PluggedBlocksUnplug s c = let w = s .world in (b : Brings w c «VIRTIO_MEM_REQ_UNPLUG») → (can : CanUnplug w (b .req))
-    → AsksFor (step w c) (Discard (record { 0 = offsetOf w (b .req) }) (sizeOf w (b .req)) (can .mapped .host))
+PluggedBlocksUnplug s c = let w = s .world in (b : Brings w c «VIRTIO_MEM_REQ_UNPLUG») → InOneMapRegion w (b .req) → ((i : ℕ) → Covers w (b .req) i → IsPlugged w i)
+    → (host : HostAddr) × AsksFor (step w c) (Discard (record { 0 = offsetOf w (b .req) }) (sizeOf w (b .req)) host)
 
 -- ---- M15: an ACK to an unplug-all, at once or when the host has discarded the last block, says that no block is plugged and that plugged_size is 0
 pub record NonePlugged (w : World) : Type 0 where
@@ -33,9 +42,13 @@ abbrev pub UnplugAllAcknowledged : Story → Call → Type 0
 UnplugAllAcknowledged s c = acknowledges (s .world) (s .«open») c ≡ UnplugAllAck ∷ []
     → Responds (step (s .world) c) «VIRTIO_MEM_RESP_ACK» → NonePlugged (next s c .world)
 
--- M15: every plugged block has a mapping, so of an unplug-all only the host's no makes an ERROR
-abbrev pub PluggedIsMapped : Story → Call → Type 0
-PluggedIsMapped s c = (i : ℕ) → i < regionBlocks (s .world) → IsPlugged (s .world) i → CanDiscard (s .world) i
+-- M15: every plugged block can be discarded, so an unplug-all meets with an ERROR only by the host's no
+abbrev pub PluggedCanBeDiscarded : Story → Call → Type 0
+PluggedCanBeDiscarded s c = (i : ℕ) → i < regionBlocks (s .world) → IsPlugged (s .world) i → CanDiscard (s .world) i
+
+abbrev pub UnplugAllFailsByHost : Story → Call → Type 0
+UnplugAllFailsByHost s c = acknowledges (s .world) (s .«open») c ≡ UnplugAllAck ∷ []
+    → Responds (step (s .world) c) «VIRTIO_MEM_RESP_ERROR» → (guest : Guest) × (host : ℕ) × (c ≡ HostAnswer guest false host)
 
 -- ---- M18: what the driver asks to unplug, by the request that the call brings, or by one that has not ended
 pub data AsksToUnplug (w : World) (o : Open) (c : Call) (i : ℕ) : Type 0 where
