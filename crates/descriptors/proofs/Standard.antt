@@ -1,4 +1,4 @@
--- The descriptor that the chain reads is the one that the standard lays out. Assumes nothing.
+-- The descriptor that the chain reads is the one that Q1 lays out.
 use Prim.Native.Nat.{ℕ, _<_, _^_}
 use mathlib.Core.Path.{_≡_, ap, _∙_}
 use mathlib.Core.List.{List}

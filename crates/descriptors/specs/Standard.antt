@@ -1,4 +1,4 @@
--- The descriptor table of Virtio 1.2, section 2.7.5, over the bytes of guest memory: written from the standard alone.
+-- The descriptor table of a split queue, over the bytes of guest memory: Q1. The names of clauses are those of docs/STANDARD.md: sections 5.15 and 2.7 of Virtio 1.2, retold and numbered there, from knowledge of the text, and held against the kernel's <linux/virtio_ring.h>.
 use Prim.Native.Nat.{ℕ, _+_, _*_, _/_, _%_}
 use mathlib.Core.Bool.{Bool}
 use mathlib.Core.List.{List, _++_}
@@ -6,7 +6,7 @@ use lib.Dec.{eqb}
 use Rattle.little_endian.specs.Bytes.{value, littleEndian, part}
 use Rattle.descriptors.specs.declared.Descriptor.{Descriptor}
 
--- struct virtq_desc { le64 addr; le32 len; le16 flags; le16 next; }
+-- Q1, virtq_desc: le64 addr; le32 len; le16 flags; le16 next
 unfoldable pub virtqDesc : ℕ → ℕ → ℕ → ℕ → List ℕ
 virtqDesc addr len flags next = littleEndian 8 addr ++ littleEndian 4 len ++ littleEndian 2 flags ++ littleEndian 2 next
 
@@ -20,7 +20,7 @@ descriptorAt mem at =
       next = value (part mem (at + 14) 2);
     }
 
--- "struct virtq_desc desc[ Queue Size ]": the guest address of a descriptor of 16 bytes
+-- Q1: the table has one descriptor of 16 bytes after the other; the guest address of one
 unfoldable pub descriptorAddr : ℕ → ℕ → ℕ
 descriptorAddr table index = table + 16 * index
 
@@ -28,14 +28,14 @@ descriptorAddr table index = table + 16 * index
 abbrev pub hasFlag : ℕ → Descriptor → Bool
 hasFlag flag d = eqb (d .flags / flag % 2) 1
 
--- VIRTQ_DESC_F_NEXT 1: "This marks a buffer as continuing via the next field."
+-- VIRTQ_DESC_F_NEXT 1: the chain goes on with the descriptor that `next` names
 abbrev pub hasNext : Descriptor → Bool
 hasNext = hasFlag 1
 
--- VIRTQ_DESC_F_WRITE 2: "This marks a buffer as device write-only (otherwise device read-only)."
+-- VIRTQ_DESC_F_WRITE 2: the device writes the buffer and reads none of it; otherwise it reads and writes none (Q4)
 abbrev pub isWriteOnly : Descriptor → Bool
 isWriteOnly = hasFlag 2
 
--- VIRTQ_DESC_F_INDIRECT 4: "This means the buffer contains a list of buffer descriptors."
+-- VIRTQ_DESC_F_INDIRECT 4: the buffer holds descriptors
 abbrev pub isIndirect : Descriptor → Bool
 isIndirect = hasFlag 4

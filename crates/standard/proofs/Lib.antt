@@ -5,3 +5,4 @@ pub mod EveryCall
 pub mod Responses
 pub mod Changed
 pub mod Runs
+pub mod Framing

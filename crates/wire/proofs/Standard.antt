@@ -1,4 +1,4 @@
--- The layouts of the device are those of Virtio 1.2, section 5.15. Assumes nothing.
+-- The layouts of the device are those of the clauses M3 and M8.
 use Prim.Native.Nat.{ℕ, _<_, _^_}
 use mathlib.Core.Path.{_≡_, refl}
 use lib.ListN.{length, replicate}
