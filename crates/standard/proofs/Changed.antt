@@ -1,5 +1,5 @@
 -- Which call changes which block, in every world; and the clause M6: no block outside of the usable region is plugged.
-use Prim.Native.Nat.{ℕ, _+_, _*_, _%_, _≤_, _<_}
+use Prim.Native.Nat.{ℕ, _+_, _*_, _≤_, _<_}
 use mathlib.Core.Path.{_≡_, refl, ap, _∙_, sym}
 use mathlib.Core.Bool.{Bool, true, false}
 use mathlib.Core.List.{List, [], _∷_}
@@ -25,8 +25,8 @@ use Rattle.history.proofs.Cases.{on-unplaced, place-cases, placing-cases}
 use Rattle.standard.specs.Config.{InEveryWorld, OutsideIsUnplugged}
 use Rattle.standard.specs.Requests.{Responds, responseOf, among, addressOf, sizeOf, IsPlugged, IsUnplugged, SameBlock, Covers, Awaits, Brings, CarriedOut, WholeOrNothing, UnplugsFrom, OneAnswered, «VIRTIO_MEM_REQ_PLUG», «VIRTIO_MEM_RESP_ACK»}
 use Rattle.standard.specs.Runs.{hostAgrees, PluggedByRequest}
-use Rattle.standard.proofs.Config.{constant-fields, usable-only-grows, fields-laid-out}
-use Rattle.standard.proofs.Requests.{plug-standard, unplug-standard, unplug-all-standard, state-standard, unknown-unserved}
+use Rattle.standard.proofs.Config.{constant-fields, usable-only-grows, facts-at}
+use Rattle.standard.proofs.Requests.{whole-block, plug-standard, unplug-standard, unplug-all-standard, state-standard, unknown-unserved}
 use Rattle.standard.proofs.EveryCall.{Ways, each-way}
 use Rattle.standard.proofs.Responses.{by-type}
 
@@ -185,8 +185,5 @@ plugged-inside d cs = always-inside (begun d) cs (λ i l p. clash p refl)
 pub outside-is-unplugged : InEveryRun OutsideIsUnplugged
 outside-is-unplugged d fresh cs c i l past =
     let w = after (begun d) cs .world in
-    let sizes = fields-laid-out d fresh cs c in
-    by-test (blockAt (w .blocks) i) (λ t. absurd (inside (blockSize w) (usable w) (sizes .power-of-two) (sizes .usable-whole) (plugged-inside d cs i l t) (omega arith))) (λ t. t)
-  where
-    inside : (b n : ℕ) → b ≡ 4194304 → n % b ≡ 0 → i * b < n → n < (i + 1) * b → ⊥
-    inside b n e whole p q = let whole′ = rw e at whole in let p′ = rw e at p in let q′ = rw e at q in omega arith
+    let s = facts-at d fresh cs in
+    by-test (blockAt (w .blocks) i) (λ t. let end = whole-block (blockSize w) (usable w) i (s .block-size) (s .usable-blocks) (plugged-inside d cs i l t) in let next-block : (i + 1) * blockSize w ≡ i * blockSize w + blockSize w = omega arith in absurd (omega arith)) (λ t. t)

@@ -167,7 +167,7 @@ pub writes-nothing : WritesNothing
 unfolding step
 writes-nothing w offset buffer = write-cases (λ o. o .world ≡ w) w buffer (λ _. refl) refl
 
-facts-at : (d : Device) → Fresh d → (cs : List Call) → Facts (after (begun d) cs .world .device)
+pub facts-at : (d : Device) → Fresh d → (cs : List Call) → Facts (after (begun d) cs .world .device)
 facts-at d fresh cs = facts-of _ (shaped-when _ (is-shaped d fresh cs))
 
 pub fields-laid-out : InEveryRun FieldsLaidOut

@@ -429,10 +429,11 @@ lowest-same w from i j p q =
     (λ t. by-test (ltb j i) (λ u. clash (q .is-plugged) (p .none-below j (q .from-there) (ltb-true j i u)))
     (λ u. omega (arith, ltb-false i j t, ltb-false j i u)))
 
-module _ (w : World) (sound : Sound w) where
-  whole-block : (b usable i : ℕ) → b ≡ 4194304 → usable % 4194304 ≡ 0 → i * b < usable → i * b + 1 * b ≤ usable
-  whole-block b usable i e u h = let h′ = rw e at h in rw e (omega arith)
+-- a block that begins in a size of whole blocks ends in it
+pub whole-block : (b n i : ℕ) → b ≡ 4194304 → n % 4194304 ≡ 0 → i * b < n → i * b + b ≤ n
+whole-block b n i e u h = let h′ = rw e at h in rw e (omega arith)
 
+module _ (w : World) (sound : Sound w) where
   -- a block that is plugged can be discarded exactly if its unplug is legal
   one-legal : (i : ℕ) → IsPlugged w i → (can : CanDiscard w i)
       → changing w (addressOf w i) 1 false ≡ Legal (blocksIn (blockSize w) (offsetOf w (oneBlock w i))) (record { 0 = offsetOf w (oneBlock w i) }) (can .mapped .host)

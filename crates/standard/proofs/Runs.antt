@@ -21,7 +21,7 @@ use Rattle.record.specs.declared.HostCall.{HostCall}
 use Rattle.record.specs.declared.HostCall.the-variants.{Discard as DiscardCall}
 use Rattle.record.specs.declared.Pending.the-variants.{Discard, DiscardOne}
 use Rattle.record.specs.declared.Device.{Device}
-use Rattle.record.proofs.Laws.{Shaped as Facts, shaped-is as facts-of, parts as parts-of, whole as shaped-when}
+use Rattle.record.proofs.Laws.{shaped-is as facts-of, parts as parts-of}
 use Rattle.step.specs.declared.Answer.{Answer}
 use Rattle.step.specs.declared.Answer.the-variants.{Refused, Wants, Sized, Unserved, Served, Done}
 use Rattle.step.specs.World.{World, Guest, Call, Place, SetRequestedSize, Request, HostAnswer, ReadConfig, WriteConfig, Outcome}
@@ -32,15 +32,14 @@ use Rattle.history.proofs.Shaped.{clash}
 use Rattle.history.proofs.Cases.{plug-cases}
 use Rattle.history.proofs.Observer.{openOf}
 use Rattle.history.proofs.Demand3.{demand-3, open-is}
-use Rattle.history.proofs.KeepsShape.{is-shaped}
 use Rattle.history.proofs.Sizes.{never-12}
 use Rattle.history.proofs.Whole.{whole-or-not-at-all}
 use Rattle.standard.specs.Config.{Constant}
 use Rattle.standard.specs.Requests.{Responds, responseOf, among, AsksFor, CanDiscard, IsPlugged, IsUnplugged, Covers, sizeOf, offsetOf, Hears, CanUnplug, Unplug, UnplugsFrom, AsksLowest, OneAnswered, Awaits, «VIRTIO_MEM_REQ_UNPLUG», «VIRTIO_MEM_RESP_ACK», «VIRTIO_MEM_RESP_ERROR»}
-use Rattle.standard.specs.Runs.{UsableIsMapped, FreeBlocksPlug, PluggedBlocksUnplug, NonePlugged, UnplugAllAcknowledged, PluggedCanBeDiscarded, UnplugAllFailsByHost, AsksToUnplug, ByUnplug, ByUnplugAll, ByOpenUnplug, ByOpenUnplugAll, hostAgrees, UnpluggedByRequest, DiscardsByRequest}
-use Rattle.standard.proofs.Config.{constant-fields}
-use Rattle.standard.proofs.Requests.{plug-standard, unplug-standard, unplug-all-standard, unknown-unserved, to-plug, to-state}
-use Rattle.standard.proofs.EveryCall.{speaks, leaf-unplug, Ways, each-way}
+use Rattle.standard.specs.Runs.{UsableIsMapped, FreeBlocksPlug, PluggedBlocksUnplug, NonePlugged, UnplugAllAcknowledged, PluggedCanBeDiscarded, UnplugAllFailsByHost, AsksToUnplug, ByUnplug, ByUnplugAll, ByOpenUnplug, ByOpenUnplugAll, hostAgrees, UnpluggedByRequest, DiscardsByRequest, CreatesOutside}
+use Rattle.standard.proofs.Config.{constant-fields, facts-at}
+use Rattle.standard.proofs.Requests.{whole-block, plug-standard, unplug-standard, unplug-all-standard, unknown-unserved, to-plug, to-state}
+use Rattle.standard.proofs.EveryCall.{speaks, CreatesPast, leaf-unplug, Ways, each-way}
 use Rattle.standard.proofs.Memory.{InMemory, usable-mapped}
 use Rattle.standard.proofs.Responses.{by-type, mute}
 use Rattle.standard.proofs.Changed.{Changed, ByPlug, ByUnplug as ByHeldUnplug, ByUnplugAll as ByHeldAll, changed, all-same, plugged-inside}
@@ -70,9 +69,6 @@ in-memory d fresh cs =
       single = λ _ p _. clash p (fresh .unplaced);
       asked = λ i last e. let idle = fresh .waits-for-nothing in let z : _≡_ {A = ℕ} 0 1 = cc in absurd (omega arith);
     })
-
-facts-at : (d : Device) → Fresh d → (cs : List Call) → Facts (after (begun d) cs .world .device)
-facts-at d fresh cs = facts-of _ (shaped-when _ (is-shaped d fresh cs))
 
 pub usable-is-mapped : InEveryRun UsableIsMapped
 usable-is-mapped d fresh cs c req p =
@@ -142,12 +138,9 @@ plugged-can-be-discarded d fresh cs c i l p =
     let w = after (begun d) cs .world in
     let s = facts-at d fresh cs in
     let inside = plugged-inside d cs i l p in
-    let end = whole (blockSize w) (usable w) (s .block-size) (s .usable-blocks) inside in
+    let end = whole-block (blockSize w) (usable w) i (s .block-size) (s .usable-blocks) inside in
     record { in-usable = inside; mapped = usable-mapped w (in-memory d fresh cs) s (i * blockSize w) (blockSize w) (omega (arith, s .block-size)) end (λ _. in-one (blockSize w) (s .block-size)) }
   where
-    whole : (b n : ℕ) → b ≡ 4194304 → n % 4194304 ≡ 0 → i * b < n → i * b + b ≤ n
-    whole b n e u h = let h′ = rw e at h in rw e (omega arith)
-
     in-one : (b : ℕ) → b ≡ 4194304 → i * b % mapRegion + b ≤ mapRegion
     in-one b e = rw e (omega arith)
 
@@ -295,3 +288,20 @@ unfolding next
 discards-by-request d fresh cs c offset size host e i low high =
     let w = after (begun d) cs .world in
     rw (open-is d fresh cs) at (each-way w (Discards w) (discards w) c offset size host e i (omega arith) (omega arith))
+
+-- ---- M18: a creation lies outside of the usable region
+abbrev Creates : World → Call → Outcome → Type 0
+Creates w c o = InMemory w → CreatesPast w o
+
+outside : (w : World) → Ways w (Creates w)
+outside w =
+    record {
+      quiet = λ c o q. q .creates-outside;
+      hears = λ g table head req status h l _ guest size slot e. absurd (l .no-creation guest size slot e);
+      unplug-ends = λ first count status a g ok host _ guest size slot e. absurd (leaf-unplug w g first count status ok host .no-creation guest size slot e);
+      one-ends = λ j status a g ok host o h l _ guest size slot e. absurd (l .no-creation guest size slot e);
+    }
+
+pub creates-outside : InEveryRun CreatesOutside
+unfolding next
+creates-outside d fresh cs c guest size slot e = let w = after (begun d) cs .world in each-way w (Creates w) (outside w) c (in-memory d fresh cs) guest size slot e

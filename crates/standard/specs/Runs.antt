@@ -4,13 +4,14 @@ use mathlib.Core.Path.{_≡_}
 use mathlib.Core.Bool.{Bool, true, false}
 use mathlib.Core.List.{[], _∷_}
 use Rattle.units.specs.Numbers.{mapRegion}
+use Rattle.units.specs.declared.GuestAddr.{GuestAddr}
 use Rattle.units.specs.declared.HostAddr.{HostAddr}
 use Rattle.units.specs.declared.RegionOffset.{RegionOffset}
 use Rattle.bitmap.specs.Blocks.{ones}
 use Rattle.wire.specs.declared.VirtioMemReq.{VirtioMemReq}
-use Rattle.record.specs.declared.HostCall.the-variants.{Discard}
+use Rattle.record.specs.declared.HostCall.the-variants.{Create, Discard}
 use Rattle.step.specs.World.{World, Guest, Call, Place, SetRequestedSize, Request, HostAnswer, ReadConfig, WriteConfig, Outcome}
-use Rattle.step.specs.Step.{step, blockSize, several, plugged, requested, regionBlocks}
+use Rattle.step.specs.Step.{step, blockSize, start, several, usable, plugged, requested, regionBlocks}
 use Rattle.history.specs.History.{Open, Unplugging, UnpluggingAll, UnplugAllAck, acknowledges, used, Story, next}
 use Rattle.standard.specs.Requests.{Responds, AsksFor, IsPlugged, IsUnplugged, Covers, Valid, sizeOf, offsetOf, OneMapping, Brings, CanDiscard, «VIRTIO_MEM_REQ_PLUG», «VIRTIO_MEM_REQ_UNPLUG», «VIRTIO_MEM_REQ_UNPLUG_ALL», «VIRTIO_MEM_RESP_ACK», «VIRTIO_MEM_RESP_ERROR»}
 
@@ -81,3 +82,7 @@ abbrev pub DiscardsByRequest : Story → Call → Type 0
 DiscardsByRequest s c = (offset : RegionOffset) (size : ℕ) (host : HostAddr) → AsksFor (step (s .world) c) (Discard offset size host)
     → (i : ℕ) → offset .0 ≤ i * blockSize (s .world) → i * blockSize (s .world) < offset .0 + size
     → AsksToUnplug (s .world) (s .«open») c i × IsPlugged (next s c .world) i
+
+-- a creation touches none either: it begins at the end of the usable region or past it, where no block is plugged (M6)
+abbrev pub CreatesOutside : Story → Call → Type 0
+CreatesOutside s c = (guest : GuestAddr) (size slot : ℕ) → AsksFor (step (s .world) c) (Create guest size slot) → start (next s c .world) + usable (s .world) ≤ guest .0
