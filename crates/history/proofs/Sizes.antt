@@ -86,7 +86,7 @@ discard-is-counted d fresh cs c block status waits =
 
 -- ---- the usable size never shrinks, only a size change moves the requested size, and a plug never takes the plugged size past it
 record Moved (w : World) (c : Call) (o : Outcome) : Type 0 where
-  pub not-shrunk : usable w ≤ usable (o .world)
+  pub not-shrunk : UsableNeverShrinks w c o
   pub requested-kept : OnlySizeChangeMovesRequested w c o
   pub within : PlugWithinRequested w c o
 
@@ -127,9 +127,8 @@ moved w =
       place-asks-whole = λ a _. calm w _ _ (omega arith) (omega arith) refl;
     }
 
-pub usable-never-shrinks : InEveryRun UsableNeverShrinks
-unfolding next
-usable-never-shrinks d fresh cs c = let w = after (begun d) cs .world in each-call w (IsMoved w) (moved w) c .not-shrunk
+pub usable-never-shrinks : FromEveryWorld UsableNeverShrinks
+usable-never-shrinks w c = each-call w (IsMoved w) (moved w) c .not-shrunk
 
 pub only-size-change-moves-requested : FromEveryWorld OnlySizeChangeMovesRequested
 only-size-change-moves-requested w c = each-call w (IsMoved w) (moved w) c .requested-kept

@@ -39,8 +39,8 @@ abbrev pub Never12 : Story → Call → Type 0
 Never12 s c = step (s .world) c .answer ≡ Refused 12 → ⊥
 
 -- the usable size never shrinks
-abbrev pub UsableNeverShrinks : Story → Call → Type 0
-UsableNeverShrinks s c = usable (s .world) ≤ usable (next s c .world)
+abbrev pub UsableNeverShrinks : World → Call → Outcome → Type 0
+UsableNeverShrinks w c o = usable w ≤ usable (o .world)
 
 -- "never below 0, which only a spoiled bitmap could bring" (02, request 5): in a run the block that an unplug-all waits for is counted in the plugged size, so nothing is cut off
 abbrev pub DiscardIsCounted : Story → Call → Type 0

@@ -48,7 +48,7 @@ pub record RulesInHand : Type 0 where
   -- the record
   pub keeps-shape : AfterEveryRun KeepsShape
   pub never-12 : AfterEveryRun Never12
-  pub usable-never-shrinks : AfterEveryRun UsableNeverShrinks
+  pub usable-never-shrinks : OfEveryCall UsableNeverShrinks
   pub discard-is-counted : AfterEveryRun DiscardIsCounted
   -- the host is asked for what is pending and due, and nothing is asked twice or left unanswered
   pub asks-for-pending : OfEveryCall AsksForPending

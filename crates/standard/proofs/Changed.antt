@@ -19,13 +19,14 @@ use Rattle.record.specs.declared.Pending.the-variants.{Discard, DiscardOne}
 use Rattle.step.specs.World.{World, Guest, Call, Place, SetRequestedSize, Request, HostAnswer, ReadConfig, WriteConfig, Outcome}
 use Rattle.step.specs.Step.{step, hostAnswer, blockSize, usable, regionBlocks, cleared, placed}
 use Rattle.history.specs.History.{Story, next, after, begun}
-use Rattle.history.specs.Rules.{InEveryRun, isPlace}
+use Rattle.history.specs.Rules.{InEveryRun, FromEveryWorld, isPlace}
 use Rattle.history.proofs.Shaped.{clash}
+use Rattle.history.proofs.Sizes.{usable-never-shrinks}
 use Rattle.history.proofs.Cases.{on-unplaced, place-cases, placing-cases}
-use Rattle.standard.specs.Config.{InEveryWorld, OutsideIsUnplugged}
+use Rattle.standard.specs.Config.{OutsideIsUnplugged}
 use Rattle.standard.specs.Requests.{Responds, responseOf, among, addressOf, sizeOf, IsPlugged, IsUnplugged, SameBlock, Covers, Awaits, Brings, CarriedOut, WholeOrNothing, UnplugsFrom, OneAnswered, «VIRTIO_MEM_REQ_PLUG», «VIRTIO_MEM_RESP_ACK»}
 use Rattle.standard.specs.Runs.{hostAgrees, PluggedByRequest}
-use Rattle.standard.proofs.Config.{constant-fields, usable-only-grows, facts-at}
+use Rattle.standard.proofs.Config.{constant-fields, facts-at}
 use Rattle.standard.proofs.Requests.{whole-block, plug-standard, unplug-standard, unplug-all-standard, state-standard, unknown-unserved}
 use Rattle.standard.proofs.EveryCall.{Ways, each-way}
 use Rattle.standard.proofs.Responses.{by-type}
@@ -124,11 +125,11 @@ changes w =
       one-ends = λ j status a g ok host o h l _ i moved. one-changes w j status a g ok host o h i moved;
     }
 
-pub changed : InEveryWorld Changes
+pub changed : FromEveryWorld Changes
 changed w c = each-way w (Changes w) (changes w) c
 
 -- ---- M18: a block is plugged by a plug request alone
-pub plugged-by-request : InEveryWorld PluggedByRequest
+pub plugged-by-request : FromEveryWorld PluggedByRequest
 plugged-by-request w c there i was is = go (changed w c (λ _. there) i (λ same. clash (sym same ∙ is) was))
   where
     go : Changed w c (step w c) i → (b : Brings w c «VIRTIO_MEM_REQ_PLUG») × Covers w (b .req) i × Responds (step w c) «VIRTIO_MEM_RESP_ACK»
@@ -154,7 +155,7 @@ kept-inside : (w : World) (c : Call) → isPlace c ≡ false → AllInside w →
 kept-inside w c no-place h i l p =
     let k = constant-fields w c in
     let same : regionBlocks (step w c .world) ≡ regionBlocks w = rw (k .same-region, k .same-block-size) in
-    let grows = usable-only-grows w c in
+    let grows = usable-never-shrinks w c in
     let inside = by-test (blockAt (w .blocks) i) (λ t. h i (rw same at l) t) (λ t. go (changed w c (λ e. clash e no-place) i (λ e. clash (sym e ∙ p) t))) in
     rw (k .same-block-size) (omega arith)
   where

@@ -19,19 +19,17 @@ use Rattle.making.specs.Made.{requestedBad, newDevice, made}
 use Rattle.step.specs.World.{World, Call, SetRequestedSize, Outcome}
 use Rattle.step.specs.Step.{step, readConfig, blockSize, region, usable, requested}
 use Rattle.history.specs.History.{Event, Story, next, after, Fresh, begun}
-use Rattle.history.specs.Rules.{InEveryRun}
+use Rattle.history.specs.Rules.{InEveryRun, FromEveryWorld}
 use Rattle.history.proofs.Shaped.{clash}
 use Rattle.history.proofs.Cases.{write-cases}
 use Rattle.history.proofs.Calls.{Endings, each-call}
 use Rattle.history.proofs.Demand3.{demand-3}
 use Rattle.history.proofs.KeepsShape.{is-shaped}
-use Rattle.standard.specs.Config.{InEveryWorld, configOf, Features, FeaturesFromMaking, ReadsLayout, Constant, ConstantFields, FieldsLaidOut, UsableOnlyGrows, settledByCall, settledBy, settledAfter, RequestedIsUsable, PluggedSizeIsOfBlocks, WritesNothing, RequestedByOwner}
+use Rattle.standard.specs.Config.{configOf, Features, FeaturesFromMaking, ReadsLayout, Constant, ConstantFields, FieldsLaidOut, settledByCall, settledBy, settledAfter, RequestedIsUsable, PluggedSizeIsOfBlocks, WritesNothing}
 
 -- ---- what each call does to the config, in every world
 record Kept (w : World) (c : Call) (o : Outcome) : Type 0 where
   pub constant : Constant w (o .world)
-  pub grows : usable w ≤ usable (o .world)
-  pub not-owner : ((mib : ℕ) → c ≡ SetRequestedSize mib → ⊥) → requested (o .world) ≡ requested w
   -- M5, where it held before if the size was settled then
   pub settles : (before : Bool) → (before ≡ true → requested w ≤ usable w) → settledBy before (o .answer) ≡ true → requested (o .world) ≤ usable (o .world)
 
@@ -52,14 +50,14 @@ module _ (w : World) where
   -- neither size moves, and the size is settled after it only if it was before
   quiet : (c : Call) (o : Outcome) → Constant w (o .world) → usable (o .world) ≡ usable w → requested (o .world) ≡ requested w
       → ((before : Bool) → settledBy before (o .answer) ≡ true → before ≡ true) → Kept w c o
-  quiet c o k u r b = record { constant = k; grows = omega arith; not-owner = λ _. r; settles = λ before h e. rw (u, r) (h (b before e)) }
+  quiet c o k u r b = record { constant = k; settles = λ before h e. rw (u, r) (h (b before e)) }
 
   -- the usable size is worked out for the requested size n
-  sized : (c : Call) (o : Outcome) (n : ℕ) → Facts (w .device) → Constant w (o .world) → (((mib : ℕ) → c ≡ SetRequestedSize mib → ⊥) → n ≡ requested w)
+  sized : (c : Call) (o : Outcome) (n : ℕ) → Facts (w .device) → Constant w (o .world)
       → requested (o .world) ≡ n → n % 4194304 ≡ 0 → n ≤ region w → usable (o .world) ≡ max (usable w) (newSize (blockSize w) (region w) n (w .device .alignment)) → Kept w c o
-  sized c o n s k r q whole within v =
+  sized c o n s k q whole within v =
       let enough = worth (blockSize w) (region w) n (w .device .alignment) (s .block-size) whole within in
-      record { constant = k; grows = rw v (omega arith); not-owner = λ h. q ∙ r h; settles = λ _ _ _. rw (q, v) (omega arith) }
+      record { constant = k; settles = λ _ _ _. rw (q, v) (omega arith) }
 
   kept : Endings w (IsKept w)
   unfolding settledBy settledByCall
@@ -67,20 +65,20 @@ module _ (w : World) where
       let as-before : (before : Bool) → before ≡ true → before ≡ true = λ before e. e in
       let unsettled : (before : Bool) → false ≡ true → before ≡ true = λ before e. clash e refl in
       record {
-        refuses = λ c n bytes _ _. quiet _ _ (constants _ refl refl refl (λ _. refl) refl) refl refl as-before;
+        refuses = λ c n _ _. quiet _ _ (constants _ refl refl refl (λ _. refl) refl) refl refl as-before;
         reads = λ offset buffer bytes. quiet _ _ (constants _ refl refl refl (λ _. refl) refl) refl refl as-before;
         writes = λ offset buffer. quiet _ _ (constants _ refl refl refl (λ _. refl) refl) refl refl as-before;
         unserves = λ a reason. quiet _ _ (constants _ refl refl refl (λ _. refl) refl) refl refl as-before;
         responds = λ a resp. quiet _ _ (constants _ refl refl refl (λ _. refl) refl) refl refl as-before;
         plugs-range = λ a addr count first offset _ _. quiet _ _ (constants _ refl refl refl (λ _. refl) refl) refl refl as-before;
-        asks-range = λ a addr count first offset host _ _. quiet _ _ (constants _ refl refl refl (λ _. refl) refl) refl refl as-before;
+        asks-range = λ a addr count first offset host _ _ _. quiet _ _ (constants _ refl refl refl (λ _. refl) refl) refl refl as-before;
         spoils = λ a addr count first offset _ _. quiet _ _ (constants _ refl refl refl (λ _. refl) refl) refl refl as-before;
         ends-at-once = λ a r. quiet _ _ (constants _ refl refl refl (λ _. refl) refl) refl refl as-before;
         asks-first = λ a block offset host r _. quiet _ _ (constants _ refl refl refl (λ _. refl) refl) refl refl as-before;
         stops-at-once = λ a. quiet _ _ (constants _ refl refl refl (λ _. refl) refl) refl refl as-before;
         maps = λ i last a.
             let s = facts-of (w .device) (shaped-when (w .device) (a .entry .is-shaped)) in
-            sized _ _ (requested w) s (constants _ refl refl refl (λ _. refl) refl) (λ _. refl) refl (s .requested-blocks) (s .requested-in) refl;
+            sized _ _ (requested w) s (constants _ refl refl refl (λ _. refl) refl) refl (s .requested-blocks) (s .requested-in) refl;
         create-fails = λ i last a. quiet _ _ (constants _ refl refl refl (λ _. refl) refl) refl refl as-before;
         unplugs-range = λ first count status a. quiet _ _ (constants _ refl refl refl (λ _. refl) refl) refl refl as-before;
         discard-fails = λ first count status a. quiet _ _ (constants _ refl refl refl (λ _. refl) refl) refl refl as-before;
@@ -90,17 +88,15 @@ module _ (w : World) where
         one-fails = λ j status a. quiet _ _ (constants _ refl refl refl (λ _. refl) refl) refl refl as-before;
         resizes = λ a.
             let s = facts-of (w .device) (shaped-when (w .device) (a .entry .is-shaped)) in
-            sized _ _ (a .mib * 1048576) s (constants _ refl refl refl (λ _. refl) refl) (λ h. absurd (h (a .mib) refl)) refl (rw (s .block-size) at (a .whole)) (a .in-region) refl;
+            sized _ _ (a .mib * 1048576) s (constants _ refl refl refl (λ _. refl) refl) refl (rw (s .block-size) at (a .whole)) (a .in-region) refl;
         resize-asks = λ a i last size _.
             record {
               constant = constants _ refl refl refl (λ _. refl) refl;
-              grows = omega arith;
-              not-owner = λ h. absurd (h (a .mib) refl);
               settles = λ before _ e. clash e refl;
             };
         places = λ a.
             let s = facts-of (w .device) (shaped-when (w .device) (a .entry .is-shaped)) in
-            sized _ _ (requested w) s (constants _ refl refl refl (λ p. clash p (a .not-placed)) refl) (λ _. refl) refl (s .requested-blocks) (s .requested-in) refl;
+            sized _ _ (requested w) s (constants _ refl refl refl (λ p. clash p (a .not-placed)) refl) refl (s .requested-blocks) (s .requested-in) refl;
         place-asks = λ a i last size _. quiet _ _ (constants _ refl refl refl (λ p. clash p (a .not-placed)) refl) refl refl unsettled;
         place-asks-whole = λ a _. quiet _ _ (constants _ refl refl refl (λ p. clash p (a .not-placed)) refl) refl refl unsettled;
       }
@@ -108,14 +104,8 @@ module _ (w : World) where
   kept-by : (c : Call) → Kept w c (step w c)
   kept-by c = each-call w (IsKept w) kept c
 
-pub constant-fields : InEveryWorld ConstantFields
+pub constant-fields : FromEveryWorld ConstantFields
 constant-fields w c = kept-by w c .constant
-
-pub usable-only-grows : InEveryWorld UsableOnlyGrows
-usable-only-grows w c = kept-by w c .grows
-
-pub requested-by-owner : InEveryWorld RequestedByOwner
-requested-by-owner w c = kept-by w c .not-owner
 
 -- ---- M5, over every run
 requested-is-usable-from : (before : Bool) (s : Story) (cs : List Call) → (before ≡ true → requested (s .world) ≤ usable (s .world)) → settledAfter before (s .world) cs ≡ true

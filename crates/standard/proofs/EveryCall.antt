@@ -112,7 +112,7 @@ module _ (w : World) (g : Guest) (status : ℕ) where
         serve-cases P w req status g
         (λ _. plug-cases P w shaped status g (req .addr .0) (req .«nb_blocks») (λ _ _ _ _. leaf-served _ _ (λ m. m)) (leaf-served _ _ (λ m. m)) (leaf-served _ _ (λ m. m)))
         (λ _ _. unplug-cases P w shaped status g (req .addr .0) (req .«nb_blocks»)
-        (λ _ _ _ _ _. leaf-silent _ refl refl (λ _ _. refl) (λ m. other-call _ (no-creation _ _ refl) m) (λ _ _ _ e. let z : _≡_ {A = ℕ} 0 1 = cc in omega arith))
+        (λ _ _ _ _ _ _. leaf-silent _ refl refl (λ _ _. refl) (λ m. other-call _ (no-creation _ _ refl) m) (λ _ _ _ e. let z : _≡_ {A = ℕ} 0 1 = cc in omega arith))
         (λ _ _ _ _. leaf-silent _ refl refl (λ call e. let z : _≡_ {A = ℕ} 0 1 = cc in absurd (omega arith)) (λ m. m) (λ _ _ _ e. let z : _≡_ {A = ℕ} 0 1 = cc in omega arith))
         (leaf-served _ _ (λ m. m)))
         (λ _ _ _. unplug-all-cases P w shaped status g 0

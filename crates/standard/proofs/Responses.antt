@@ -28,9 +28,9 @@ use Rattle.step.specs.declared.Answer.{Answer}
 use Rattle.step.specs.declared.Answer.the-variants.{Refused, Wants, Sized, Unserved, Served, Done}
 use Rattle.step.specs.World.{World, Guest, Call, Place, SetRequestedSize, Request, HostAnswer, ReadConfig, WriteConfig, Outcome}
 use Rattle.step.specs.Step.{step, hostAnswer}
+use Rattle.history.specs.Rules.{FromEveryWorld}
 use Rattle.history.proofs.Shaped.{clash}
 use Rattle.history.proofs.Cases.{on-ready, on-unplaced, read-cases, write-cases}
-use Rattle.standard.specs.Config.{InEveryWorld}
 use Rattle.standard.specs.Requests.{Responds, responseOf, among, isHostAnswer, WaitingStays, lentBy, statusOfChain, statusOfPending, statusFor, Written, Delivered, ResponseIsDelivered, WritableAt, StatusIsWritable, StatusIsKept, SilenceWritesNothing, OneAnswered, NackOnlyPastRequested, PlugPastRequested, NeverBusy, «VIRTIO_MEM_REQ_PLUG», «VIRTIO_MEM_REQ_UNPLUG», «VIRTIO_MEM_REQ_UNPLUG_ALL», «VIRTIO_MEM_REQ_STATE», «VIRTIO_MEM_RESP_NACK», «VIRTIO_MEM_RESP_BUSY»}
 use Rattle.standard.proofs.Requests.{plug-standard, unplug-standard, unplug-all-standard, state-standard, unknown-unserved}
 use Rattle.standard.proofs.EveryCall.{speaks, isConfigCall, Says, Responded, Silent, leaf-unplug, Ways, each-way}
@@ -89,7 +89,7 @@ response-by w =
       one-ends = λ j status a g ok host o _ l resp used e. record { status = status .0; goes-to = rw (a .waits); delivered = delivers g (status .0) o (l .says) resp used e };
     }
 
-pub response-is-delivered : InEveryWorld ResponseIsDelivered
+pub response-is-delivered : FromEveryWorld ResponseIsDelivered
 response-is-delivered w c = each-way w (ResponseIsDelivered w) (response-by w) c
 
 status-by : (w : World) → Ways w (StatusIsKept w)
@@ -102,7 +102,7 @@ status-by w =
       one-ends = λ j status a g ok host o _ l call e. l .keeps-status call e ∙ sym (ap statusOfPending (a .waits));
     }
 
-pub status-is-kept : InEveryWorld StatusIsKept
+pub status-is-kept : FromEveryWorld StatusIsKept
 status-is-kept w c = each-way w (StatusIsKept w) (status-by w) c
 
 -- ---- Q4: where a response goes the driver lets the device write
@@ -219,7 +219,7 @@ given-by w =
       one-ends = λ j status a g ok host o answered l type r. AckOrError (one-by-ok w j ok o answered type r);
     }
 
-pub nack-only-past-requested : InEveryWorld NackOnlyPastRequested
+pub nack-only-past-requested : FromEveryWorld NackOnlyPastRequested
 unfolding among
 nack-only-past-requested w c r = go (each-way w (IsGiven w) (given-by w) c _ r)
   where
@@ -227,7 +227,7 @@ nack-only-past-requested w c r = go (each-way w (IsGiven w) (given-by w) c _ r)
     go (AckOrError e) = clash e refl
     go (Nack e p) = p
 
-pub never-busy : InEveryWorld NeverBusy
+pub never-busy : FromEveryWorld NeverBusy
 unfolding among
 never-busy w c r = go (each-way w (IsGiven w) (given-by w) c _ r)
   where
@@ -236,7 +236,7 @@ never-busy w c r = go (each-way w (IsGiven w) (given-by w) c _ r)
     go (Nack e p) = omega arith
 
 -- ---- while a request waits for the host
-pub waiting-stays : InEveryWorld WaitingStays
+pub waiting-stays : FromEveryWorld WaitingStays
 unfolding step isHostAnswer
 waiting-stays w (Place at size slots bs rows) busy no-answer =
     on-unplaced (λ o. o .world ≡ w) w [] _ (λ n _ _. refl) (length bs) (length rows) (λ p e. clash (e .is-idle) busy)

@@ -18,13 +18,9 @@ use Rattle.making.specs.declared.Made.the-variants.{Device as MadeDevice}
 use Rattle.making.specs.Made.{isGiven, nodeNumber, made}
 use Rattle.step.specs.declared.Answer.{Answer}
 use Rattle.step.specs.declared.Answer.the-variants.{Refused, Wants, Sized, Unserved, Served, Done}
-use Rattle.step.specs.World.{World, Call, SetRequestedSize, ReadConfig, WriteConfig, Outcome}
+use Rattle.step.specs.World.{World, Call, ReadConfig, WriteConfig, Outcome}
 use Rattle.step.specs.Step.{step, blockSize, region, usable, plugged, requested, start, regionBlocks}
 use Rattle.history.specs.History.{used, Story, after, Fresh, begun}
-
--- of any call in any world, whether or not a run leads there; `InEveryRun` of the crate history is the weaker, of any call at any point of any run
-abbrev pub InEveryWorld : (World → Call → Outcome → Type 0) → Type 0
-InEveryWorld P = (w : World) (c : Call) → P w c (step w c)
 
 abbrev pub configOf : World → VirtioMemConfig
 configOf w = w .device .config
@@ -86,10 +82,7 @@ pub record Layout (w : World) : Type 0 where
 abbrev pub FieldsLaidOut : Story → Call → Type 0
 FieldsLaidOut s c = Layout (s .world)
 
--- ---- M5: usable_region_size shrinks at most by an acknowledged unplug-all; here it never does
-abbrev pub UsableOnlyGrows : World → Call → Outcome → Type 0
-UsableOnlyGrows w c o = usable w ≤ usable (o .world)
-
+-- ---- M5: usable_region_size shrinks at most by an acknowledged unplug-all; here it never does (`UsableNeverShrinks` of the crate history)
 -- M5: requested_size is at most usable_region_size. Narrower: once a size is worked out (`Sized`), and until a creation is asked for; one that is pending or has failed leaves the usable size behind until the next `Sized`
 unfoldable pub settledByCall : Bool → HostCall → Bool
 settledByCall before (Create guest size slot) = false
@@ -120,9 +113,6 @@ PluggedSizeIsOfBlocks s c = plugged (s .world) ≡ ones (used (s .world)) * bloc
 abbrev pub OutsideIsUnplugged : Story → Call → Type 0
 OutsideIsUnplugged s c = (i : ℕ) → i < regionBlocks (s .world) → usable (s .world) < (i + 1) * blockSize (s .world) → blockAt (s .world .blocks) i ≡ false
 
--- ---- M7: a config write changes nothing, and requested_size is the owner's to change
+-- ---- M7: a config write changes nothing; requested_size is the host's to change (`OnlySizeChangeMovesRequested` of the crate history)
 abbrev pub WritesNothing : Type 0
 WritesNothing = (w : World) (offset : ℕ) (buffer : List ℕ) → step w (WriteConfig offset buffer) .world ≡ w
-
-abbrev pub RequestedByOwner : World → Call → Outcome → Type 0
-RequestedByOwner w c o = ((mib : ℕ) → c ≡ SetRequestedSize mib → ⊥) → requested (o .world) ≡ requested w
