@@ -1,4 +1,4 @@
--- One turn of `scan`, and one of `put_form`. Assumes nothing.
+-- One turn of `scan`, and one of `put_form`.
 use Prim.Native.Nat.{ℕ, suc, _+_, _-_, _≤_, _<_}
 use mathlib.Core.Path.{_≡_, refl, sym, ap, _∙_}
 use mathlib.Core.Bool.{false}
@@ -13,8 +13,9 @@ use Rattle.units.proofs.Tests.{by-test}
 use Rattle.text.specs.declared.Number.{Number}
 use Rattle.text.specs.declared.Number.the-variants.{At, Bad}
 use Rattle.text.specs.Decimal.{decimal}
-use Rattle.text.specs.Reading.{got, nothing, wordOf, seen}
+use Rattle.text.specs.Reading.{wordOf, numberAt}
 use Rattle.text.specs.Putting.{Put}
+use Rattle.text.proofs.Laws.{read-none, read-rest}
 use Rattle.text.proofs.Puts.{sets-append, then}
 use Rattle.forms.specs.Forms.{filledFrom}
 use Rattle.forms.specs.Scanning.{Scan, found, lost, numbers, push, holeThen, byteThen, endOf, scanOf, Scanned}
@@ -72,16 +73,15 @@ module _ {w : Scan} {before s form values : List ℕ} {i j k : ℕ} (o : Left w 
           let q = at-hole in
           fails (rw (q, z) at (o .left))
 
-      module _ (r : Number) (f : k < length values) (g : seen s r ≡ wordOf (drop i s)) where
+      module _ (r : Number) (f : k < length values) (g : r ≡ numberAt s i) where
         one-less : length before - k ≡ suc (length before - (k + 1))
         one-less = let l = long in omega arith
 
         pub no-number : r ≡ Bad → Scanned before w false values
         unfolding holeThen
         no-number t =
-            let n : wordOf (drop i s) ≡ nothing = sym g ∙ ap (seen s) t in
             let q = at-hole in
-            fails (rw (q, one-less, n) at (o .left))
+            fails (rw (q, one-less, read-none s i (sym g ∙ t)) at (o .left))
 
         module _ (v n : ℕ) where
           first-read : take k values ++ (v ∷ []) ≡ take (k + 1) (set values k v)
@@ -97,13 +97,12 @@ module _ {w : Scan} {before s form values : List ℕ} {i j k : ℕ} (o : Left w 
           pub hole-turn : r ≡ At v n → Left w before s form (set values k v) n (j + 1) (k + 1)
           unfolding holeThen
           hole-turn t =
-              let m : wordOf (drop i s) ≡ got v (drop n s) = sym g ∙ ap (seen s) t in
               let q = at-hole in
               record {
                 within = let l = long in omega arith;
                 kept = stored;
                 left =
-                    rw (q, one-less, m) at (o .left)
+                    rw (q, one-less, read-rest s i v n (sym g ∙ t)) at (o .left)
                     ∙ prepend-push (take k values) v (scanOf (length before - (k + 1)) (drop (suc j) form) (drop n s))
                     ∙ ap (λ (xs : List ℕ). prepend xs (scanOf (length before - (k + 1)) (drop (suc j) form) (drop n s))) first-read
                     ∙ rw (add-one j);

@@ -1,16 +1,18 @@
--- Reading a number undoes writing it: a word that was written is read, and what was read was written so. Assumes nothing.
+-- Reading a number undoes writing it: a word that was written is read, and what was read was written so.
 use Prim.Native.Nat.{ℕ, zero, suc, _+_, _-_, _*_, _/_, _%_, _^_, _≤_, _<_}
 use native.Mathlib.Nat.{div-lt-iff-lt-mul, pow-suc}
-use mathlib.Core.Path.{_≡_, refl, sym, _∙_}
+use mathlib.Core.Path.{_≡_, refl, sym, ap, _∙_}
 use mathlib.Core.Bool.{true, false}
 use mathlib.Core.List.{List, [], _∷_, _++_, append-assoc}
 use native.Mathlib.Omega.{arith}
 use borrow.Author.Tests.{le-leb, lt-leb, lt-ltb, le-ltb, leb-true, ltb-true, ltb-false}
 use lib.Dec.{leb, ltb}
-use lib.ListN.{length, drop, length-append}
+use lib.ListN.{length, drop, length-append, length-drop}
+use lib.Seq.{drop-append-seam, drop-drop}
 use Rattle.units.proofs.Tests.{by-test}
+use Rattle.text.specs.declared.Number.the-variants.{At, Bad}
 use Rattle.text.specs.Decimal.{largest, spell, decimal}
-use Rattle.text.specs.Reading.{Got, got, nothing, isDigit, digitOf, more, numberOf, bounded, wordOf}
+use Rattle.text.specs.Reading.{Got, got, nothing, isDigit, digitOf, more, numberOf, bounded, wordOf, answerIn, numberAt}
 use Rattle.text.proofs.Turns.{is-digit, digit-most, digit-least, more-turn, more-stop}
 
 -- ---- the text of a number
@@ -178,3 +180,33 @@ bounded-got (got w r) v rest h =
 
 pub word-read : (l : List ℕ) (v : ℕ) (rest : List ℕ) → wordOf l ≡ got v rest → (l ≡ decimal v ++ rest) × (v ≤ largest)
 word-read l v rest h = let b = bounded-got (numberOf l) v rest h in (number-read l v rest (b .0), b .1)
+
+-- ---- the answer at a position of s says what was got there
+
+-- the rest after a word stands where that much of s is left
+rest-at : (s : List ℕ) (at v : ℕ) (rest : List ℕ) → wordOf (drop at s) ≡ got v rest → rest ≡ drop (length s - length rest) s
+rest-at s at v rest h =
+    let r = word-read (drop at s) v rest h .0 in
+    let l = simp (length-append, length-drop) at (ap length r) in
+    let some-digit = simp length-append at (ap length (decimal-starts v v rest (omega arith) .2)) in
+    let e : at + length (decimal v) ≡ length s - length rest = omega arith in
+    sym (drop-append-seam (decimal v) rest) ∙ rw (← r, drop-drop, e)
+
+module _ (s : List ℕ) (at : ℕ) where
+  pub read-none : numberAt s at ≡ Bad → wordOf (drop at s) ≡ nothing
+  read-none = go (wordOf (drop at s))
+    where
+      go : (g : Got) → answerIn s g ≡ Bad → g ≡ nothing
+      go nothing h = refl
+      go (got v rest) h = let z : _≡_ {A = ℕ} 0 1 = cc in absurd (omega arith)
+
+  pub read-rest : (v n : ℕ) → numberAt s at ≡ At v n → wordOf (drop at s) ≡ got v (drop n s)
+  read-rest v n = go (wordOf (drop at s)) refl
+    where
+      go : (g : Got) → wordOf (drop at s) ≡ g → answerIn s g ≡ At v n → g ≡ got v (drop n s)
+      go nothing e h = let z : _≡_ {A = ℕ} 0 1 = cc in absurd (omega arith)
+      go (got w rest) e h =
+          let same : w ≡ v = cc in
+          let there : length s - length rest ≡ n = cc in
+          let r = rest-at s at w rest e in
+          cc

@@ -1,4 +1,4 @@
--- What a step of reading does to the text that is left. Assumes nothing.
+-- What a step of reading does to the text that is left.
 use Prim.Native.Nat.{ℕ, _+_, _-_, _*_, _≤_, _<_}
 use mathlib.Core.Path.{_≡_, refl, sym}
 use mathlib.Core.Bool.{Bool, true, false, cond}
@@ -6,11 +6,12 @@ use mathlib.Core.List.{List, [], _∷_}
 use native.Mathlib.Omega.{arith}
 use borrow.Author.Tests.{le-leb, lt-leb, lt-ltb, le-ltb, leb-true, ltb-true, ltb-false}
 use lib.Dec.{leb, ltb}
-use lib.ListN.{length, drop, getD, drop-of-length-le}
+use lib.ListN.{length, drop, getD, length-drop, drop-of-length-le}
 use lib.Seq.{drop-cons, drop-drop}
 use Rattle.units.proofs.Tests.{by-test, and-left, and-right}
+use Rattle.text.specs.declared.Number.the-variants.{At, Bad}
 use Rattle.text.specs.Decimal.{largest}
-use Rattle.text.specs.Reading.{got, nothing, isDigit, digitOf, more, numberOf, bounded, wordOf}
+use Rattle.text.specs.Reading.{got, nothing, isDigit, digitOf, more, numberOf, bounded, answerIn, numberAt}
 
 -- ---- one byte
 
@@ -69,33 +70,45 @@ more-over v [] h = rw (lt-leb v largest h)
 more-over v (x ∷ xs) h =
     by-test (isDigit x) (λ e. rw e (more-over (v * 10 + (x - 48)) xs (omega arith))) (λ e. rw (e, lt-leb v largest h))
 
--- ---- `digits` at position i of s, with v read so far and the digit d there
+-- ---- what is left at a position of s tells the position, so that one answer says it
+
+pub read-once : (s : List ℕ) (v n : ℕ) → n ≤ length s → At v n ≡ answerIn s (got v (drop n s))
+read-once s v n h = let e : length s - length (drop n s) ≡ n = simp length-drop (omega arith) in rw e
+
+-- ---- `digits` at position i of s, with v read so far: the end of s, or the digit d there
+
+pub read-end : (s : List ℕ) (i v : ℕ) → length s ≤ i → v ≤ largest → At v (length s) ≡ answerIn s (bounded (more v (drop i s)))
+unfolding more bounded
+read-end s i v h f = let e : length s - 0 ≡ length s = omega arith in rw (drop-of-length-le s h, le-leb v largest f, e)
+
 module _ (s : List ℕ) (i v d : ℕ) (e : d ≡ digitOf (drop i s)) where
-  pub read-stop : 9 < d → v ≤ largest → got v (drop i s) ≡ bounded (more v (drop i s))
+  pub read-stop : i ≤ length s → 9 < d → v ≤ largest → At v i ≡ answerIn s (bounded (more v (drop i s)))
   unfolding bounded
-  read-stop h f = rw (more-stop v (drop i s) (omega arith), le-leb v largest f)
+  read-stop l h f = rw (more-stop v (drop i s) (omega arith), le-leb v largest f) (read-once s v i l)
 
   pub read-turn : d ≤ 9 → more v (drop i s) ≡ more (v * 10 + d) (drop (i + 1) s)
   read-turn h = rw (more-turn v (drop i s) (omega arith), ← e, drop-drop 1 i s)
 
-  pub read-over : d ≤ 9 → largest < v * 10 + d → nothing ≡ bounded (more v (drop i s))
-  read-over h f = rw (read-turn h) (sym (more-over (v * 10 + d) (drop (i + 1) s) f))
+  pub read-over : d ≤ 9 → largest < v * 10 + d → Bad ≡ answerIn s (bounded (more v (drop i s)))
+  read-over h f = rw (read-turn h, more-over (v * 10 + d) (drop (i + 1) s) f)
 
 -- ---- `read_number`: the first digit d of a number at a position
 module _ (s : List ℕ) (at d : ℕ) (e : d ≡ digitOf (drop at s)) where
-  pub no-number : 9 < d → nothing ≡ wordOf (drop at s)
+  pub no-number : 9 < d → Bad ≡ numberAt s at
   unfolding bounded numberOf
   no-number h = rw (← e, lt-ltb 9 d h)
 
-  pub from-digit : d ≤ 9 → 0 < d → bounded (more d (drop (at + 1) s)) ≡ wordOf (drop at s)
+  pub from-digit : d ≤ 9 → 0 < d → answerIn s (bounded (more d (drop (at + 1) s))) ≡ numberAt s at
   unfolding numberOf
   from-digit h p = rw (← e, le-ltb 9 d h, lt-ltb 0 d p, drop-drop 1 at s)
 
   module _ (n : ℕ) (f : n ≡ digitOf (drop (at + 1) s)) (z : d ≤ 0) where
-    pub more-zeros : n ≤ 9 → nothing ≡ wordOf (drop at s)
+    pub more-zeros : n ≤ 9 → Bad ≡ numberAt s at
     unfolding numberOf bounded
     more-zeros h = rw (← e, le-ltb 9 d (omega arith), le-ltb 0 d z, drop-drop 1 at s, ← f, le-leb n 9 h)
 
-    pub zero-alone : 9 < n → got 0 (drop (at + 1) s) ≡ wordOf (drop at s)
+    pub zero-alone : 9 < n → At 0 (at + 1) ≡ numberAt s at
     unfolding numberOf bounded
-    zero-alone h = rw (← e, le-ltb 9 d (omega arith), le-ltb 0 d z, drop-drop 1 at s, ← f, lt-leb n 9 h)
+    zero-alone h =
+        let inside = digit-inside s at d e (omega arith) in
+        rw (← e, le-ltb 9 d (omega arith), le-ltb 0 d z, drop-drop 1 at s, ← f, lt-leb n 9 h) (read-once s 0 (at + 1) (omega arith))

@@ -3,7 +3,7 @@ use Prim.Native.Nat.{ℕ, _+_, _-_, _*_}
 use mathlib.Core.Bool.{Bool, cond, _&&_}
 use mathlib.Core.List.{List, [], _∷_}
 use lib.Dec.{ltb, leb}
-use lib.ListN.{drop}
+use lib.ListN.{length, drop}
 use Rattle.text.specs.Decimal.{largest}
 use Rattle.text.specs.declared.Number.{Number}
 use Rattle.text.specs.declared.Number.the-variants.{At, Bad}
@@ -43,7 +43,11 @@ bounded (got v rest) = cond (leb v largest) (got v rest) nothing
 abbrev pub wordOf : List ℕ → Got
 wordOf xs = bounded (numberOf xs)
 
--- what the code's answer says of the text s
-abbrev pub seen : List ℕ → Number → Got
-seen s (At v n) = got v (drop n s)
-seen s Bad = nothing
+-- the answer for what was got from the text s: the number, and the one position of s from which on just the rest is left
+abbrev pub answerIn : List ℕ → Got → Number
+answerIn s (got v rest) = At v (length s - length rest)
+answerIn s nothing = Bad
+
+-- the number at a position of the text s, and where s goes on after it
+abbrev pub numberAt : List ℕ → ℕ → Number
+numberAt s at = answerIn s (wordOf (drop at s))

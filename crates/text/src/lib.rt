@@ -3,7 +3,7 @@ ghost use mathlib.Core.Path.{_≡_};
 ghost use mathlib.Core.List.{_∷_, []};
 ghost use lib.ListN.{drop};
 ghost use Rattle.text.specs.Decimal.{decimal};
-ghost use Rattle.text.specs.Reading.{digitOf, more, bounded, wordOf, seen};
+ghost use Rattle.text.specs.Reading.{digitOf, more, bounded, answerIn, numberAt};
 ghost use Rattle.text.specs.Putting.{Put};
 
 // A number that was read, and where the text goes on.
@@ -41,7 +41,7 @@ fn digit(s: &[u8], at: usize) -> u64
 
 // The number whose first digits make `first`, with the digits at `from` and after. No sum is made that could wrap.
 fn digits(s: &[u8], from: usize, first: u64) -> Number
-    ensures { λ r. ⌜ seen (now (s .entry)) r ≡ bounded (more first (drop from (now (s .entry)))) ⌝ }
+    ensures { λ r. ⌜ r ≡ answerIn (now (s .entry)) (bounded (more first (drop from (now (s .entry))))) ⌝ }
 {
     let mut i = from;
     let mut v = first;
@@ -56,12 +56,13 @@ fn digits(s: &[u8], from: usize, first: u64) -> Number
         v = v * 10 + d;
         i += 1;
     }
-    Number::At { value: v, next: i }
+    let next = s.len();
+    Number::At { value: v, next }
 }
 
 // The number at a position: decimal, without leading zeros, below 2^64.
 pub fn read_number(s: &[u8], at: usize) -> Number
-    ensures { λ r. ⌜ seen (now (s .entry)) r ≡ wordOf (drop at (now (s .entry))) ⌝ }
+    ensures { λ r. ⌜ r ≡ numberAt (now (s .entry)) at ⌝ }
 {
     let d = digit(s, at);
     if 9 < d {

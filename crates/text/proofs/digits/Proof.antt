@@ -4,8 +4,8 @@ use mathlib.Core.Path.{_≡_, refl, sym, ap, _∙_}
 use native.Mathlib.Omega.{arith}
 use lib.ListN.{length, drop}
 use Rattle.text.specs.Decimal.{largest}
-use Rattle.text.specs.Reading.{more, bounded}
-use Rattle.text.proofs.Turns.{digit-out, read-stop, read-turn, read-over}
+use Rattle.text.specs.Reading.{more, bounded, answerIn}
+use Rattle.text.proofs.Turns.{read-end, read-stop, read-turn, read-over}
 use Rattle.text.proofs.digits.Statement.{statement}
 use Rattle.text.proofs.digits.Tie as tie
 
@@ -25,7 +25,7 @@ digit-requires c κs = tt
 returns : tie.Need-returns Inv-loop μ-loop
 returns c =
     let o = c .before .before .before .loop in
-    read-stop _ (o .i) (o .v) _ (c .before .digit .ensures) (c .if1 .taken) (o .inv .0) ∙ o .inv .1
+    read-stop _ (o .i) (o .v) _ (c .before .digit .ensures) (omega arith) (c .if1 .taken) (o .inv .0) ∙ ap (answerIn _) (o .inv .1)
 
 sub-if2 : tie.Need-sub-if2 Inv-loop μ-loop
 sub-if2 c = omega arith
@@ -33,7 +33,7 @@ sub-if2 c = omega arith
 returns-2 : tie.Need-returns-2 Inv-loop μ-loop
 returns-2 c =
     let o = c .before .before .before .before .loop in
-    read-over _ (o .i) (o .v) _ (c .before .before .digit .ensures) (c .before .if1 .left) (omega arith) ∙ o .inv .1
+    read-over _ (o .i) (o .v) _ (c .before .before .digit .ensures) (c .before .if1 .left) (omega arith) ∙ ap (answerIn _) (o .inv .1)
 
 mul-v : tie.Need-mul-v Inv-loop μ-loop
 mul-v c = omega arith
@@ -55,7 +55,7 @@ loop-again c =
 returns-3 : tie.Need-returns-3 Inv-loop μ-loop
 returns-3 c =
     let o = c .before .loop in
-    read-stop _ (o .i) (o .v) 10 (digit-out _ (o .i) (c .loop-test .left)) (omega arith) (o .inv .0) ∙ o .inv .1
+    read-end _ (o .i) (o .v) (c .loop-test .left) (o .inv .0) ∙ ap (answerIn _) (o .inv .1)
 
 pub digits-spec : {M : Type 1} → statement M
 digits-spec =
