@@ -1,6 +1,6 @@
 // SPDX-License-Identifier: Apache-2.0 AND BSD-3-Clause
 // What a request may do to a range of blocks: whether it lies inside, which state it is in, and where the host has it.
-// Sums of addresses are tested and not made.
+// Overflow is checked before addresses are added.
 use bitmap::all_in_state;
 use rows::Mapping;
 use rows::mapping_of;

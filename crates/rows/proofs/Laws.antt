@@ -110,7 +110,7 @@ fill-nothing (r ∷ rs) (suc i) n h e = rw (fill-nothing rs i n h (omega arith))
 fill-nothing (r ∷ rs) zero zero h e = refl
 fill-nothing (r ∷ rs) zero (suc n) h e = absurd (omega arith)
 
--- a row that is filled is mapped, its slot as it was and its host address held at 2^64 - 1
+-- a row that is filled is mapped, its slot as it was and its host address saturates at 2^64 - 1
 pub fill-inside : (rs : List MapRow) (i n h j : ℕ) → i ≤ j → j < i + n → j < length rs → rowAt (fillRows rs i n h) j ≡ mappedAt (h + (j - i) * mapRegion) (rowAt rs j)
 unfolding fillRows
 fill-inside [] i n h j p q l = absurd (omega arith)

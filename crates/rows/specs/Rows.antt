@@ -48,7 +48,7 @@ unmappedFrom i (row ∷ rows) = cond (isMapped row) (unmappedFrom (suc i) rows) 
 abbrev pub firstUnmapped : List MapRow → (first last : ℕ) → FirstUnmapped
 firstUnmapped rows first last = unmappedFrom first (take (last + 1 - first) (drop first rows))
 
--- the row mapped at a host address, which is held at 2^64 - 1
+-- the row mapped at a host address, which saturates at 2^64 - 1
 abbrev pub mappedAt : ℕ → MapRow → MapRow
 mappedAt host row = record { slot = row .slot; mapped = 1; host = record { 0 = held host } }
 

@@ -1,5 +1,5 @@
 // SPDX-License-Identifier: Apache-2.0 AND BSD-3-Clause
-// The numbers of the device: three kinds of address, the sizes, the alignment, rounding, and sums that are tested and not made.
+// The numbers of the device: three kinds of address, the sizes, the alignment, rounding, and tests for overflow.
 ghost use mathlib.Core.Path.{_≡_};
 ghost use Prim.Native.Nat.{_+_, _-_, _*_, _/_, _%_, min};
 ghost use lib.Dec.{leb};
@@ -58,28 +58,28 @@ impl GuestAddr {
 }
 
 impl RegionOffset {
-    // Where a block starts, held at 2^64 - 1.
+    // Where a block starts, saturating at 2^64 - 1.
     pub fn of_block(block: u64) -> RegionOffset
         ensures { λ r. ⌜ r .0 ≡ held (bytesOf 4194304 block) ⌝ }
     {
         RegionOffset(held_product(block, MemTool::BLOCK_SIZE))
     }
 
-    // Where a map region starts, held at 2^64 - 1.
+    // Where a map region starts, saturating at 2^64 - 1.
     pub fn of_map_region(row: u64) -> RegionOffset
         ensures { λ r. ⌜ r .0 ≡ held (row * mapRegion) ⌝ }
     {
         RegionOffset(held_product(row, MemTool::MAP_REGION_SIZE))
     }
 
-    // The guest's address of an offset, held at 2^64 - 1.
+    // The guest's address of an offset, saturating at 2^64 - 1.
     pub fn guest_from(self, start: GuestAddr) -> GuestAddr
         ensures { λ r. ⌜ r .0 ≡ held (start .0 + self .0) ⌝ }
     {
         GuestAddr(held_sum(start.0, self.0))
     }
 
-    // The host's address of an offset from what is mapped at `host`, held at 2^64 - 1.
+    // The host's address of an offset from what is mapped at `host`, saturating at 2^64 - 1.
     pub fn host_from(self, host: HostAddr) -> HostAddr
         ensures { λ r. ⌜ r .0 ≡ held (host .0 + self .0) ⌝ }
     {
@@ -138,7 +138,7 @@ pub fn product_within(a: u64, b: u64, limit: u64) -> bool
     a <= limit / b
 }
 
-// a + b, held at 2^64 - 1.
+// a + b, saturating at 2^64 - 1.
 fn held_sum(a: u64, b: u64) -> u64
     ensures { λ r. ⌜ r ≡ held (a + b) ⌝ }
 {
@@ -148,7 +148,7 @@ fn held_sum(a: u64, b: u64) -> u64
     MAX
 }
 
-// a * b, held at 2^64 - 1.
+// a * b, saturating at 2^64 - 1.
 fn held_product(a: u64, b: u64) -> u64
     ensures { λ r. ⌜ r ≡ held (a * b) ⌝ }
 {
@@ -178,7 +178,7 @@ pub fn alignment_of(boot: u64) -> u64
     1 << held_between(u64::trailing_zeros(boot))
 }
 
-// A number rounded up to a multiple of another, held at 2^64 - 1.
+// A number rounded up to a multiple of another, saturating at 2^64 - 1.
 pub fn round_up(n: u64, to: u64) -> u64
     ensures { λ r. ⌜ r ≡ held (roundUp n to) ⌝ }
 {
