@@ -17,9 +17,9 @@ use Rattle.record.specs.Changes.{pendingTo}
 use Rattle.step.specs.declared.Answer.the-variants.{Refused}
 use Rattle.step.specs.declared.Answered.{Answered}
 use Rattle.step.specs.Answers.{answerWords}
-use Rattle.step.specs.World.{Guest, Outcome, Meets, worldOf}
+use Rattle.step.specs.World.{Guest, noGuest, Outcome, Meets, worldOf}
 use Rattle.step.specs.Step.{coveredBy, creates, hostAnswer}
-use Rattle.serving.specs.Hosts.{noGuest, Heard}
+use Rattle.serving.specs.Hosts.{Heard}
 
 module _ (d : Device) (tb : List ℕ) (ok : Bool) (host i last : ℕ) where
   pub failed : (d′ : Device) → d′ ≡ pendingTo Nothing d → not ok ≡ true → Heard (hostAnswer (Create i last) (worldOf d [] tb) noGuest ok host) (record { device = d′; answer = Refused 10 }) tb tb

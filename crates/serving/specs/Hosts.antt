@@ -1,7 +1,7 @@
 -- What the host is asked for by a request, and what its answer to a creation leaves.
 use Prim.Native.Nat.{ℕ, _+_}
 use mathlib.Core.Bool.{false}
-use mathlib.Core.List.{List, []}
+use mathlib.Core.List.{List}
 use mathlib.Core.Path.{_≡_}
 use Rattle.units.specs.Numbers.{bytesOf}
 use Rattle.units.specs.declared.RegionOffset.{RegionOffset}
@@ -28,10 +28,6 @@ unplugOne w block status g = oneAs (changing w (start w + bytesOf (blockSize w) 
 abbrev pub asksFor : Device → Pending → RegionOffset → (size : ℕ) → HostAddr → Answered
 asksFor d pending offset size host =
     record { device = pendingTo pending d; answer = Wants (DiscardCall offset size host) }
-
--- a creation is answered with no guest memory
-abbrev pub noGuest : Guest
-noGuest = record { mem = []; base = 0 }
 
 -- the host's answer to a creation: the record, the answer and the map table are those of the outcome
 pub record Heard (o : Outcome) (s : Answered) (table table′ : List ℕ) : Type 0 where

@@ -38,10 +38,10 @@ ghost use Rattle.change.specs.Change.{rangeOf, stateOf};
 ghost use Rattle.record.specs.declared.Pending.the-variants.{Create, Discard, DiscardOne};
 ghost use Rattle.record.specs.Shape.{shapedOf};
 ghost use Rattle.record.specs.Changes.{pendingTo, pluggedTo};
-ghost use Rattle.step.specs.World.{Request, HostAnswer, guestOf, worldOf, Responded, Meets};
+ghost use Rattle.step.specs.World.{Request, HostAnswer, guestOf, noGuest, worldOf, Responded, Meets};
 ghost use Rattle.step.specs.Step.{step, plug as plugOf, unplugAll, stateType, serve as serveOf, creates, coveredBy, hostAnswer, respond as respondOf};
 ghost use Rattle.units.specs.Numbers.{blocksIn};
-ghost use Rattle.serving.specs.Hosts.{asksFor, unplug as unplugOf, unplugOne, noGuest, Heard};
+ghost use Rattle.serving.specs.Hosts.{asksFor, unplug as unplugOf, unplugOne, Heard};
 
 const MAX: u64 = 18446744073709551615;
 

@@ -29,7 +29,7 @@ use Rattle.record.specs.declared.Pending.the-variants.{Nothing, Create, Discard
 use Rattle.record.specs.Shape.{shapedOf, isIdle}
 use Rattle.step.specs.declared.Answer.{Answer}
 use Rattle.step.specs.declared.Answer.the-variants.{Refused, Wants, Sized, Unserved, Served, Done}
-use Rattle.step.specs.World.{World, Guest, Call, Place, SetRequestedSize, Request, HostAnswer, ReadConfig, WriteConfig, Outcome}
+use Rattle.step.specs.World.{World, Guest, noGuest, Call, Place, SetRequestedSize, Request, HostAnswer, ReadConfig, WriteConfig, Outcome}
 use Rattle.step.specs.Step.{step, blockSize, usable, plugged, requested, start, several, regionBlocks, tablesFit, cleared}
 use Rattle.standard.specs.Config.{configOf}
 
@@ -200,12 +200,12 @@ WaitingStays w c o = isIdle (w .device .pending) ≡ false → isHostAnswer c �
 -- ---- M8: the response in the guest's bytes
 -- the guest memory that a call lends; what lends none has no byte of it
 unfoldable pub lentBy : Call → Guest
-lentBy (Place at size slots blocks rows) = record { mem = []; base = 0 }
-lentBy (SetRequestedSize mib) = record { mem = []; base = 0 }
+lentBy (Place at size slots blocks rows) = noGuest
+lentBy (SetRequestedSize mib) = noGuest
 lentBy (Request guest table head) = guest
 lentBy (HostAnswer guest ok host) = guest
-lentBy (ReadConfig offset buffer) = record { mem = []; base = 0 }
-lentBy (WriteConfig offset buffer) = record { mem = []; base = 0 }
+lentBy (ReadConfig offset buffer) = noGuest
+lentBy (WriteConfig offset buffer) = noGuest
 
 -- where a response goes: to the status address of the chain that the call brings, or of the request that waits for the host
 unfoldable pub statusOfChain : Parsed → Option ℕ

@@ -20,7 +20,7 @@ use Rattle.resize.specs.Resize.{newSize, creationSize, growthAt, growthOf}
 use Rattle.change.specs.Change.{rangeOf, insideOf, hostOf, hostIn, hostSum, legalAt, changeIn}
 use Rattle.step.specs.declared.Answer.{Answer}
 use Rattle.step.specs.declared.Answer.the-variants.{Refused, Wants, Sized, Unserved, Served, Done}
-use Rattle.step.specs.World.{World, Outcome, SetRequestedSize}
+use Rattle.step.specs.World.{World, noGuest, Outcome, SetRequestedSize}
 use Rattle.step.specs.Step.{plug, plugAs, tablesFit, readyRefusal, unless, resizes, setRequestedSize, step}
 
 -- a placed device at 4 GiB with alignment 128 MiB; a row is mapped where the list says so
@@ -59,7 +59,7 @@ answerType (Unserved reason) = 100
 answerType Done = 100
 
 plugged : World → (addr count : ℕ) → List ℕ
-plugged w addr count = answerType (plug w addr count 0 (record { mem = []; base = 0 }) .answer) ∷ []
+plugged w addr count = answerType (plug w addr count 0 noGuest .answer) ∷ []
 
 -- a size change that asks for a creation: its rows, and its size
 rowsOfCall : Pending → List ℕ → List ℕ

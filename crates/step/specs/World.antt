@@ -1,7 +1,7 @@
 -- What a call works on, what it brings, and what it ends in. A definition of `Step.antt` goes from a World and a Call to an Outcome.
 use Prim.Native.Nat.{ℕ}
 use mathlib.Core.Bool.{Bool, cond}
-use mathlib.Core.List.{List}
+use mathlib.Core.List.{List, []}
 use mathlib.Core.Path.{_≡_}
 use Rattle.bitmap.specs.Blocks.{blocks}
 use Rattle.chain.specs.Chain.{reaches, delivered}
@@ -28,6 +28,10 @@ pub record Guest : Type 0 where
 
 abbrev pub guestOf : List ℕ → GuestAddr → Guest
 guestOf mem base = record { mem = mem; base = base .0 }
+
+-- no guest memory
+abbrev pub noGuest : Guest
+noGuest = record { mem = []; base = 0 }
 
 -- every call of the device, with all that it brings; placing brings the tables too
 pub data Call : Type 0 where
