@@ -1,0 +1,46 @@
+-- The queue (02, request 1): the next head of the available ring, and a head put into the used ring.
+use Prim.Native.Nat.{ℕ, _+_, _-_, _*_, _%_}
+use mathlib.Core.Bool.{Bool, cond, not, _&&_}
+use mathlib.Core.List.{List}
+use lib.Dec.{ltb, eqb}
+use lib.ListN.{length}
+use Rattle.little_endian.specs.Bytes.{put, littleEndian}
+use Rattle.descriptors.specs.Descriptors.{inside}
+use Rattle.rings.specs.declared.Queue.{Queue}
+use Rattle.rings.specs.declared.Next.{Next}
+use Rattle.rings.specs.declared.Next.the-variants.{Head, Empty, Refused}
+use Rattle.rings.specs.Standard.{availableBytes, usedBytes, availableIndex, availableHead, usedElement}
+
+-- "Queue size 128"
+abbrev pub queueSize : ℕ
+queueSize = 128
+
+-- "with 16-bit indices that wrap"
+abbrev pub indexAfter : ℕ → ℕ
+indexAfter index = (index + 1) % 65536
+
+-- how far an index is ahead of another
+abbrev pub aheadOf : (index of : ℕ) → ℕ
+aheadOf index of = (index + 65536 - of) % 65536
+
+-- "A ring not wholly inside guest memory is refused as new number 14"
+unfoldable pub ringsInside : (len base : ℕ) → Queue → Bool
+ringsInside len base q =
+    inside len base (q .available .0) (availableBytes queueSize) && inside len base (q .used .0) (usedBytes queueSize)
+
+-- 14; "An available index more than 128 ahead is refused as 15, tested after 14"; then "take the next head", if there is one
+unfoldable pub nextHead : List ℕ → (base : ℕ) → Queue → Next
+nextHead mem base q =
+    let at = q .available .0 - base in
+    let ahead = aheadOf (availableIndex mem at) (q .«next_available») in
+    cond (not (ringsInside (length mem) base q)) (Refused 14)
+    (cond (ltb queueSize ahead) (Refused 15)
+    (cond (eqb ahead 0) Empty
+    (Head (availableHead mem at (q .«next_available» % queueSize)))))
+
+-- "put head and length in the used ring": the element, then the index after it
+unfoldable pub reported : List ℕ → (base used index head length : ℕ) → List ℕ
+reported mem base used index head len =
+    cond (inside (length mem) base used (usedBytes queueSize))
+    (put (put mem (used - base + 4 + 8 * (index % queueSize)) (usedElement head len)) (used - base + 2) (littleEndian 2 (indexAfter index)))
+    mem
