@@ -1,0 +1,232 @@
+// SPDX-License-Identifier: Apache-2.0 AND BSD-3-Clause
+// The device on its queue: a call takes one head, and reports it used when its request has ended.
+use record::Device;
+use record::Pending;
+use rings::Next;
+use rings::Queue;
+use rings::Taken;
+use rings::index_after;
+use rings::next_head;
+use rings::report;
+use rings::rings_inside;
+use serving::request;
+use step::Answer;
+use step::Answered;
+use step::pending_refusal;
+use step::ready_refusal;
+use units::GuestAddr;
+use units::HostAddr;
+ghost use mathlib.Core.Path.{_≡_};
+ghost use lib.ListN.{length};
+ghost use Rattle.step.specs.World.{worldOf, guestOf};
+ghost use Rattle.queue.specs.Queue.{discarding, queueOk, tookHead, gaveBack, endingOf, Settled, turned, nextUnless, noneTold, serveNext, canReport, firstOf, hostAnswers, MeetsTurn};
+
+// What a call on the queue tells: that no head is there, or the device's answer.
+pub enum QueueAnswer {
+    Empty,
+    Of(Answer),
+}
+
+// A call's answer, with the record and the queue as they are then.
+pub struct Turn {
+    pub device: Device,
+    pub queue: Queue,
+    pub answer: QueueAnswer,
+}
+
+// What becomes of a head: it stays where it was, it is out, or it is reported used with a length.
+pub enum Ending {
+    Stays,
+    Out,
+    Used(u32),
+}
+
+// Whether a discard is pending.
+fn discards(pending: Pending) -> bool
+    ensures { λ r. ⌜ r ≡ discarding pending ⌝ }
+{
+    match pending {
+        Pending::Nothing => false,
+        Pending::Create { first: _, last: _ } => false,
+        Pending::Discard {
+            first: _,
+            count: _,
+            status: _,
+        } => true,
+        Pending::DiscardOne {
+            block: _,
+            status: _,
+        } => true,
+    }
+}
+
+// The queue's part of 12: a head is out only while a discard is pending.
+fn queue_ok(taken: Taken, pending: Pending) -> bool
+    ensures { λ r. ⌜ r ≡ queueOk taken pending ⌝ }
+{
+    let discarding = discards(pending);
+    match taken {
+        Taken::Nothing => true,
+        Taken::Head(_) => discarding,
+    }
+}
+
+// The queue with a head taken: it is out.
+fn took_head(q: Queue, head: u16) -> Queue
+    ensures { λ r. ⌜ r ≡ tookHead q head ⌝ }
+{
+    let next = index_after(q.next_available);
+    let taken = Taken::Head(head);
+    Queue {
+        next_available: next,
+        taken: taken,
+        ..q
+    }
+}
+
+// The queue after the head that was out is reported used.
+fn gave_back(q: Queue) -> Queue
+    ensures { λ r. ⌜ r ≡ gaveBack q ⌝ }
+{
+    let next = index_after(q.next_used);
+    let none = Taken::Nothing;
+    Queue {
+        next_used: next,
+        taken: none,
+        ..q
+    }
+}
+
+// What the device's answer means for the head that it is about.
+fn ending_of(answer: Answer) -> Ending
+    ensures { λ r. ⌜ r ≡ endingOf answer ⌝ }
+{
+    match answer {
+        Answer::Refused(_) => Ending::Stays,
+        Answer::Wants(_) => Ending::Out,
+        Answer::Sized => Ending::Stays,
+        Answer::Unserved(_) => Ending::Used(0),
+        Answer::Served(_, length) => Ending::Used(length),
+        Answer::Done => Ending::Stays,
+    }
+}
+
+// The queue by a head's ending; a head that is given back goes into the used ring.
+fn settle(
+    ending: Ending,
+    head: u16,
+    before: Queue,
+    out: Queue,
+    mem: &mut [u8],
+    base: GuestAddr,
+) -> Queue
+    ensures { λ r. ⌜ Settled ending head (base .0) before out (now (mem .entry)) r (now (mem .exit)) ⌝ }
+{
+    match ending {
+        Ending::Stays => before,
+        Ending::Out => out,
+        Ending::Used(length) => {
+            report(mem, base, out.used, out.next_used, head, length);
+            gave_back(out)
+        }
+    }
+}
+
+fn tells(d: Device, q: Queue, answer: QueueAnswer) -> Turn
+    ensures { λ r. ⌜ r ≡ turned d q answer ⌝ }
+{
+    Turn {
+        device: d,
+        queue: q,
+        answer: answer,
+    }
+}
+
+// What is told where no head is taken: the device's refusal first.
+fn none_told(number: u64, next: Next) -> QueueAnswer
+    ensures { λ r. ⌜ r ≡ noneTold (nextUnless number next) ⌝ }
+{
+    if number != 0 {
+        return QueueAnswer::Of(Answer::Refused(number));
+    }
+    match next {
+        Next::Head(_) => QueueAnswer::Empty,
+        Next::Empty => QueueAnswer::Empty,
+        Next::Refused(n) => QueueAnswer::Of(Answer::Refused(n)),
+    }
+}
+
+// Takes the next head, and walks it.
+pub fn serve_next(
+    d: Device,
+    q: Queue,
+    bitmap: &mut [u8],
+    table: &[u64],
+    mem: &mut [u8],
+    base: GuestAddr,
+) -> Turn
+    ensures { λ r. ⌜ MeetsTurn (serveNext (worldOf d (now (bitmap .entry)) (now (table .entry))) q (guestOf (now (mem .entry)) base)) r (now (bitmap .exit)) (now (table .entry)) (now (table .entry)) (now (mem .exit)) ⌝ }
+{
+    let taken = q.taken;
+    let pending = d.pending;
+    if !queue_ok(taken, pending) {
+        return tells(d, q, QueueAnswer::Of(Answer::Refused(12)));
+    }
+    let next = next_head(&mem[..], base, q);
+    let Next::Head(head) = next else {
+        let number = ready_refusal(d, bitmap.len(), table.len());
+        return tells(d, q, none_told(number, next));
+    };
+    let s = request(d, bitmap, table, mem, base, q.descriptors, head);
+    let answer = s.answer;
+    let queue = settle(ending_of(answer), head, q, took_head(q, head), mem, base);
+    tells(s.device, queue, QueueAnswer::Of(answer))
+}
+
+// Whether the head that is out, if one is, can be reported.
+fn can_report(taken: Taken, mem: &[u8], base: GuestAddr, q: Queue) -> bool
+    ensures { λ r. ⌜ r ≡ canReport taken (length (now (mem .entry))) (base .0) q ⌝ }
+{
+    match taken {
+        Taken::Nothing => true,
+        Taken::Head(_) => rings_inside(mem, base, q),
+    }
+}
+
+// The first number, unless it is 0.
+fn first_of(n: u64, m: u64) -> u64
+    ensures { λ r. ⌜ r ≡ firstOf n m ⌝ }
+{
+    if n == 0 { m } else { n }
+}
+
+// The host's answer to what it was asked last; it may end the request of the head that is out.
+pub fn host_answer(
+    d: Device,
+    q: Queue,
+    bitmap: &mut [u8],
+    table: &mut [u64],
+    mem: &mut [u8],
+    base: GuestAddr,
+    ok: bool,
+    host: HostAddr,
+) -> Turn
+    ensures { λ r. ⌜ MeetsTurn (hostAnswers (worldOf d (now (bitmap .entry)) (now (table .entry))) q (guestOf (now (mem .entry)) base) ok (host .0)) r (now (bitmap .exit)) (now (table .entry)) (now (table .exit)) (now (mem .exit)) ⌝ }
+{
+    let taken = q.taken;
+    let pending = d.pending;
+    if !queue_ok(taken, pending) {
+        return tells(d, q, QueueAnswer::Of(Answer::Refused(12)));
+    }
+    if !can_report(taken, &mem[..], base, q) {
+        let number = first_of(pending_refusal(d, bitmap.len(), table.len()), 14);
+        return tells(d, q, QueueAnswer::Of(Answer::Refused(number)));
+    }
+    let s = serving::host_answer(d, bitmap, table, mem, base, ok, host);
+    let answer = s.answer;
+    let Taken::Head(head) = taken else {
+        return tells(s.device, q, QueueAnswer::Of(answer));
+    };
+    let queue = settle(ending_of(answer), head, q, q, mem, base);
+    tells(s.device, queue, QueueAnswer::Of(answer))
+}
