@@ -1,9 +1,10 @@
 -- Laws on the rings, for callers: what a report leaves, whatever overlaps, and what indices that wrap come to. Assumes nothing.
-use Prim.Native.Nat.{ℕ, suc, _+_, _-_, _*_, _%_, _≤_, _<_, _^_}
+use Prim.Native.Nat.{ℕ, _+_, _-_, _*_, _%_, _≤_, _<_, _^_}
 use mathlib.Core.Path.{_≡_, ap, _∙_}
 use mathlib.Core.Bool.{true}
 use mathlib.Core.List.{List}
 use native.Mathlib.Omega.{arith}
+use lib.Dec.{ltb, eqb}
 use lib.ListN.{length, length-append}
 use Rattle.units.proofs.Tests.{by-test, and-left, and-right}
 use Rattle.little_endian.specs.Bytes.{value, littleEndian, part, put}
@@ -12,7 +13,7 @@ use Rattle.descriptors.specs.Descriptors.{inside}
 use Rattle.descriptors.proofs.Laws.{Inside, inside-facts}
 use Rattle.rings.specs.declared.Queue.{Queue}
 use Rattle.rings.specs.declared.Next.the-variants.{Head}
-use Rattle.rings.specs.Standard.{usedElement, usedIndex, usedId, usedLength}
+use Rattle.rings.specs.Standard.{availableIndex, availableHead, usedElement, usedIndex, usedId, usedLength, Apart, Before, Behind}
 use Rattle.rings.specs.Rings.{indexAfter, aheadOf, ringsInside, nextHead, reported}
 
 -- an index that wraps has the entry of the number that it stands for: 128 goes into 65,536
@@ -20,7 +21,7 @@ pub entry-of : (n : ℕ) → n % 65536 % 128 ≡ n % 128
 entry-of n = omega arith
 
 -- n heads after an index, wrapped, and one more
-pub index-counts : (n : ℕ) → indexAfter (n % 65536) ≡ suc n % 65536
+pub index-counts : (n : ℕ) → indexAfter (n % 65536) ≡ (n + 1) % 65536
 index-counts n = omega arith
 
 -- what the guest has made available and is not taken: where it is n ahead of a counter, the wrapped index says so
@@ -45,6 +46,20 @@ pub head-inside : (mem : List ℕ) (base : ℕ) (q : Queue) (head : ℕ) → nex
 unfolding nextHead
 head-inside mem base q head e =
     by-test (ringsInside (length mem) base q) (λ t. t)
+    (λ t. let f = rw t at e in let z : _≡_ {A = ℕ} 0 1 = cc in absurd (omega arith))
+
+-- and it is what the next entry of the available ring holds
+pub head-reads : (mem : List ℕ) (base : ℕ) (q : Queue) (head : ℕ) → nextHead mem base q ≡ Head head → head ≡ availableHead mem (q .available .0 - base) (q .«next_available» % 128)
+unfolding nextHead
+head-reads mem base q head e =
+    let at = q .available .0 - base in
+    let ahead = aheadOf (availableIndex mem at) (q .«next_available») in
+    by-test (ringsInside (length mem) base q)
+    (λ t. by-test (ltb 128 ahead)
+    (λ s. let f = rw (t, s) at e in let z : _≡_ {A = ℕ} 0 1 = cc in absurd (omega arith))
+    (λ s. by-test (eqb ahead 0)
+    (λ r. let f = rw (t, s, r) at e in let z : _≡_ {A = ℕ} 0 1 = cc in absurd (omega arith))
+    (λ r. let f = rw (t, s, r) at e in cc)))
     (λ t. let f = rw t at e in let z : _≡_ {A = ℕ} 0 1 = cc in absurd (omega arith))
 
 -- a number that was written reads back
@@ -99,30 +114,22 @@ module _ (mem : List ℕ) (base used index head len : ℕ) (lies : inside (lengt
       })
 
 -- ---- which bytes a report writes: those of the used ring
--- a byte that does not lie in the n bytes from `at` on
-pub data Apart (i at n : ℕ) : Type 0 where
-  Before : i < at → Apart i at n
-  Behind : at + n ≤ i → Apart i at n
 
 put-apart : (xs : List ℕ) (at : ℕ) (ys : List ℕ) (i : ℕ) → Apart i at (length ys) → part (put xs at ys) i 1 ≡ part xs i 1
 put-apart xs at ys i (Before h) = part-put-before xs at ys i 1 (omega arith)
 put-apart xs at ys i (Behind h) = part-put-behind xs at ys i 1 h
 
--- bytes inside of others
-narrower : (i at n at′ n′ : ℕ) → at ≤ at′ → at′ + n′ ≤ at + n → Apart i at n → Apart i at′ n′
-narrower i at n at′ n′ l r (Before h) = Before (omega arith)
-narrower i at n at′ n′ l r (Behind h) = Behind (omega arith)
-
-pub report-apart : (mem : List ℕ) (base used index head len i : ℕ) → Apart i (used - base) 1030 → part (reported mem base used index head len) i 1 ≡ part mem i 1
+-- and of those its index and one element
+pub report-apart : (mem : List ℕ) (base used index head len i : ℕ) → Apart i (used - base + 2) 2 → Apart i (used - base + 4 + 8 * (index % 128)) 8
+    → part (reported mem base used index head len) i 1 ≡ part mem i 1
 unfolding reported
-report-apart mem base used index head len i a =
+report-apart mem base used index head len i a b =
     let at = used - base in
     let element = at + 4 + 8 * (index % 128) in
     let eight : length (usedElement head len) ≡ 8 = length-append (littleEndian 4 head) (littleEndian 4 len) ∙ rw (length-littleEndian 4 head, length-littleEndian 4 len) in
     let two = length-littleEndian 2 (indexAfter index) in
-    let one = put mem element (usedElement head len) in
     by-test (inside (length mem) base used 1030)
     (λ t. rw t
-    (put-apart one (at + 2) (littleEndian 2 (indexAfter index)) i (narrower i at 1030 (at + 2) _ (omega arith) (omega arith) a)
-    ∙ put-apart mem element (usedElement head len) i (narrower i at 1030 element _ (omega arith) (omega arith) a)))
+    (put-apart (put mem element (usedElement head len)) (at + 2) (littleEndian 2 (indexAfter index)) i (rw two a)
+    ∙ put-apart mem element (usedElement head len) i (rw eight b)))
     (λ t. rw t)
