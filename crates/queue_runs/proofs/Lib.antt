@@ -6,3 +6,5 @@ pub mod Bytes
 pub mod Reports
 pub mod Refused
 pub mod Writes
+pub mod Numbers
+pub mod Rules

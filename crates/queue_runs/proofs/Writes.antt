@@ -77,3 +77,146 @@ writes-only w q (Host g ok host) guest i far (a, b) =
     (λ t. rw t (heard-only w q g i a b ok host (q .taken) (rw t at far)))
     (λ t. rw t)
 writes-only w q (PastIt b) guest i far _ = clash guest refl
+
+-- ---- a head that is reported
+module _ (w : World) (q : Queue) (g : Guest) where
+  -- what is written for a call of the device that ended, and its length
+  pub record Ended (call : Call) (bytes : List ℕ) (head len : ℕ) : Type 0 where
+    pub counts : (resp : VirtioMemResp) (used : ℕ) → step w call .answer ≡ Served resp used → len ≡ used
+    pub none-counted : responseOf (step w call .answer) ≡ none → len ≡ 0
+    pub in-turn : bytes ≡ reported (step w call .bytes) (g .base) (q .used .0) (q .«next_used») head len
+
+  length-of : (a : Answer) (len : ℕ) → endingOf a ≡ Used len → ((resp : VirtioMemResp) (used : ℕ) → a ≡ Served resp used → len ≡ used) × (responseOf a ≡ none → len ≡ 0)
+  unfolding responseOf
+  length-of (Refused n) len e = let z : _≡_ {A = ℕ} 0 1 = cc in absurd (omega arith)
+  length-of (Wants call) len e = let z : _≡_ {A = ℕ} 0 1 = cc in absurd (omega arith)
+  length-of Sized len e = let z : _≡_ {A = ℕ} 0 1 = cc in absurd (omega arith)
+  length-of (Unserved reason) len e = (λ resp used f. let z : _≡_ {A = ℕ} 0 1 = cc in absurd (omega arith), λ _. cc)
+  length-of (Served given n) len e = (λ resp used f. cc, λ f. let z : _≡_ {A = ℕ} 0 1 = cc in absurd (omega arith))
+  length-of Done len e = let z : _≡_ {A = ℕ} 0 1 = cc in absurd (omega arith)
+
+  about-ended : (head : ℕ) (out : Queue) → out .used ≡ q .used → out .«next_used» ≡ q .«next_used» → (call : Call) (len : ℕ) → endingOf (step w call .answer) ≡ Used len
+      → Ended call (about head (g .base) q out (step w call) .bytes) head len
+  unfolding bytesBy
+  about-ended head out u n call len e =
+      let l = length-of (step w call .answer) len e in
+      record { counts = l .0; none-counted = l .1; in-turn = rw (e, u, n) }
+
+  record WrittenBy (calls : List Call) (bytes : List ℕ) (head len : ℕ) : Type 0 where
+    pub call : Call
+    pub made : calls ≡ call ∷ []
+    pub lends : lentBy call ≡ g
+    pub keeps : Keeps w call g (step w call .answer) (step w call .bytes)
+    pub ended : Ended call bytes head len
+
+  -- taking: the head that stands next
+  abbrev TakenWritten : (there x : Next) → Type 0
+  TakenWritten there x = (head len : ℕ) → usedBy (endingTold (takes x w q g .answer)) (headOf there) ≡ head ∷ [] → endingTold (takes x w q g .answer) ≡ Used len
+      → WrittenBy (requestsOf x q g) (takes x w q g .bytes) head len
+
+  stays-not : {len : ℕ} {A : Type 0} → Stays ≡ Used len → A
+  stays-not e = let z : _≡_ {A = ℕ} 0 1 = cc in absurd (omega arith)
+
+  taken-written : (x : Next) → TakenWritten x x
+  unfolding takes requestsOf endingTold headOf usedBy lentBy
+  taken-written HasNone head len r e = stays-not e
+  taken-written (HasRefused n) head len r e = stays-not e
+  taken-written (HasHead h) head len r e =
+      let same : h ≡ head = cc-head (rw e at r) in
+      let call = Request g (q .descriptors .0) h in
+      record { call = call; made = refl; lends = refl; keeps = request-keeps w g (q .descriptors .0) h; ended = rw (← same) (about-ended h (tookHead q h) refl refl call len e) }
+    where
+      cc-head : h ∷ [] ≡ head ∷ [] → h ≡ head
+      cc-head f = cc
+
+  refused-written : (there : Next) (n : ℕ) → TakenWritten there (HasRefused n)
+  unfolding takes endingTold
+  refused-written there n head len r e = stays-not e
+
+  -- a host's answer: the head that is out
+  heard-written : (ok : Bool) (host : ℕ) (t : Taken) (head len : ℕ) → let call = HostAnswer g ok host in let o = answers t q (g .base) (step w call) in
+      usedBy (endingTold (o .answer)) (outOf t) ≡ head ∷ [] → endingTold (o .answer) ≡ Used len → WrittenBy (call ∷ []) (o .bytes) head len
+  unfolding answers endingTold outOf usedBy lentBy
+  heard-written ok host Nothing head len r e = let f : [] ≡ head ∷ [] = rw e at r in let z : _≡_ {A = ℕ} 0 1 = cc in absurd (omega arith)
+  heard-written ok host (Head h) head len r e =
+      let call = HostAnswer g ok host in
+      let f : h ∷ [] ≡ head ∷ [] = rw e at r in
+      let same : h ≡ head = cc in
+      record { call = call; made = refl; lends = refl; keeps = answer-keeps w g ok host; ended = rw (← same) (about-ended h q refl refl call len e) }
+
+  whole : (c : QueueCall) → lentTo c ≡ g → (o : QueueOutcome) (head len : ℕ) → WrittenBy (callsOf w q c) (o .bytes) head len → Written w q c o head len
+  whole c lent o head len b =
+      record {
+        call = b .call;
+        made = b .made;
+        counts = λ resp used e. (b .ended .counts resp used e, response-is-delivered w (b .call) resp used e);
+        none-counted = λ e. (b .ended .none-counted e, rw lent (b .keeps .silent e));
+        in-turn = rw lent (b .ended .in-turn);
+      }
+
+pub report-is-written : FromEveryQueue ReportIsWritten
+unfolding queueStep unlessRefused callsOf lentTo newlyReported endingTold
+report-is-written w q (TakeNext g) head len r =
+    whole w q g (TakeNext g) refl (queueStep w q (TakeNext g)) head len
+    (let there = nextHead (g .mem) (g .base) q in
+    next-cases w q g (TakenWritten w q g there) (refused-written w q g there) (λ _. taken-written w q g there) head len (r .reported) (r .ended))
+report-is-written w q (Host g ok host) head len r =
+    whole w q g (Host g ok host) refl (queueStep w q (Host g ok host)) head len
+    (by-test (eqb (answerRefusal (w .device) q (length (w .blocks)) (length (w .rows)) g) 0)
+    (λ t. rw t (heard-written w q g ok host (q .taken) head len (rw t at (r .reported)) (rw t at (r .ended))))
+    (λ t. stays-not w q g (rw t at (r .ended))))
+report-is-written w q (PastIt b) head len r = let e = r .reported in let z : _≡_ {A = ℕ} 0 1 = cc in absurd (omega arith)
+
+-- ---- a call that reports no head
+unused : (a : Answer) (h : ℕ) → usedBy (endingOf a) (h ∷ []) ≡ [] → (out : Queue) (head base : ℕ) (bytes : List ℕ) → (responseOf a ≡ none) × (bytesBy (endingOf a) out head base bytes ≡ bytes)
+unfolding usedBy responseOf bytesBy
+unused (Refused n) h e out head base bytes = (refl, refl)
+unused (Wants call) h e out head base bytes = (refl, refl)
+unused Sized h e out head base bytes = (refl, refl)
+unused (Unserved reason) h e out head base bytes = let z : _≡_ {A = ℕ} 0 1 = cc in absurd (omega arith)
+unused (Served resp len) h e out head base bytes = let z : _≡_ {A = ℕ} 0 1 = cc in absurd (omega arith)
+unused Done h e out head base bytes = (refl, refl)
+
+-- with no discard pending there is nowhere to put a response
+no-status : (p : Pending) → discarding p ≡ false → statusOfPending p ≡ none
+unfolding statusOfPending
+no-status Idle e = refl
+no-status (Create first last) e = refl
+no-status (Discard first count status) e = clash refl e
+no-status (DiscardOne block status) e = clash refl e
+
+module _ (w : World) (q : Queue) (g : Guest) where
+  about-unused : (head : ℕ) (out : Queue) (call : Call) → Keeps w call g (step w call .answer) (step w call .bytes) → usedBy (endingOf (step w call .answer)) (head ∷ []) ≡ []
+      → about head (g .base) q out (step w call) .bytes ≡ g .mem
+  about-unused head out call k e =
+      let u = unused (step w call .answer) head e out head (g .base) (step w call .bytes) in
+      u .1 ∙ k .silent (u .0)
+
+  taken-unused : (x : Next) → usedBy (endingTold (takes x w q g .answer)) (headOf x) ≡ [] → takes x w q g .bytes ≡ g .mem
+  unfolding takes endingTold headOf
+  taken-unused HasNone e = refl
+  taken-unused (HasRefused n) e = refl
+  taken-unused (HasHead h) e = about-unused h (tookHead q h) (Request g (q .descriptors .0) h) (request-keeps w g (q .descriptors .0) h) e
+
+  heard-unused : (ok : Bool) (host : ℕ) (t : Taken) → isOut t ≡ discarding (w .device .pending) → let o = answers t q (g .base) (step w (HostAnswer g ok host)) in
+      usedBy (endingTold (o .answer)) (outOf t) ≡ [] → o .bytes ≡ g .mem
+  unfolding answers endingTold outOf isOut statusFor
+  heard-unused ok host Nothing k e = answer-keeps w g ok host .nowhere (no-status (w .device .pending) (sym k))
+  heard-unused ok host (Head h) k e = about-unused h q (HostAnswer g ok host) (answer-keeps w g ok host) e
+
+unreported : (w : World) (q : Queue) → isOut (q .taken) ≡ discarding (w .device .pending) → (c : QueueCall) → onGuest c ≡ true
+    → newlyReported q c (queueStep w q c .answer) ≡ [] → queueStep w q c .bytes ≡ lentTo c .mem
+unfolding queueStep unlessRefused newlyReported lentTo onGuest takes endingTold
+unreported w q k (TakeNext g) guest =
+    let there = nextHead (g .mem) (g .base) q in
+    next-cases w q g (λ x. usedBy (endingTold (takes x w q g .answer)) (headOf there) ≡ [] → takes x w q g .bytes ≡ g .mem) (λ n e. refl) (λ _. taken-unused w q g there)
+unreported w q k (Host g ok host) guest =
+    by-cond (λ (o : QueueOutcome). usedBy (endingTold (o .answer)) (outOf (q .taken)) ≡ [] → o .bytes ≡ g .mem)
+    (eqb (answerRefusal (w .device) q (length (w .blocks)) (length (w .rows)) g) 0) _ _
+    (λ _. heard-unused w q g ok host (q .taken) k) (λ _ e. refl)
+unreported w q k (PastIt b) guest = clash guest refl
+
+pub unreported-writes-nothing : InEveryQueueRun UnreportedWritesNothing
+unreported-writes-nothing d fresh q new cs c guest =
+    let s = afterAll (opened d q) cs in
+    unreported (s .world) (s .queue) (out-while-open d fresh q new cs c) c guest
