@@ -1,2 +1,3 @@
 mod Ways
+mod QueueWays
 pub mod Once

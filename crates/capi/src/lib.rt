@@ -1,5 +1,5 @@
 // SPDX-License-Identifier: Apache-2.0 AND BSD-3-Clause
-// The static library: each call of the device for C and Rust, the record as words. Words that are no record are refused with 12.
+// The static library: each call of the device and of its queue for C and Rust, the record and the queue as words. Words that are no record, or no queue, are refused with 12.
 use answer_words::number_of;
 use answer_words::tell;
 use device::read_config;
@@ -9,6 +9,14 @@ use making::Mem;
 use making::Node;
 use placing::place;
 use placing::set_requested_size;
+use queue::serve_next;
+use queue_words::DecodedQueue;
+use queue_words::QUEUE_WORDS;
+use queue_words::decode_queue;
+use queue_words::encode_queue;
+use queue_words::tell_queue;
+use rings::Queue;
+use rings::Taken;
 use serving::host_answer;
 use serving::request;
 use step::Answer;
@@ -25,7 +33,9 @@ ghost use Rattle.rows.specs.Rows.{rowsOf};
 ghost use Rattle.making.specs.Made.{made};
 ghost use Rattle.step.specs.World.{worldOf, Place, SetRequestedSize, Request, HostAnswer, ReadConfig, WriteConfig};
 ghost use Rattle.step.specs.Step.{step};
+ghost use Rattle.queue.specs.Queue.{serveNext, hostAnswers};
 ghost use Rattle.capi.specs.Exports.{nodeOf, MadeIn, lent, Exported};
+ghost use Rattle.capi.specs.Queue.{newQueue, QueueMadeIn, queueLent, QueueExported};
 
 // The node of a device, as the enum of its constructor has it.
 fn node_of(node_given: bool, node: u16) -> Node
@@ -178,6 +188,107 @@ pub extern "C" fn jambcopper_host_answer(
     let a = s.answer;
     encode(d, words);
     tell(a, answer)
+}
+
+// Makes a queue from the addresses of its three parts. Words that have no room for a queue are refused with 12.
+#[no_mangle]
+pub extern "C" fn jambcopper_queue_make(
+    queue: &mut [u64],
+    descriptors: u64,
+    available: u64,
+    used: u64,
+) -> u64
+    ensures { λ r. ⌜ QueueMadeIn (now (queue .entry)) (newQueue descriptors available used) r (now (queue .exit)) ⌝ }
+{
+    if queue.len() < QUEUE_WORDS {
+        return 12;
+    }
+    let none = Taken::Nothing;
+    let q = Queue {
+        descriptors: GuestAddr(descriptors),
+        available: GuestAddr(available),
+        used: GuestAddr(used),
+        next_available: 0,
+        next_used: 0,
+        taken: none,
+    };
+    encode_queue(q, queue);
+    0
+}
+
+// The next head of the queue.
+#[no_mangle]
+pub extern "C" fn jambcopper_serve(
+    words: &mut [u64],
+    queue: &mut [u64],
+    bitmap: &mut [u8],
+    table: &[u64],
+    mem: &mut [u8],
+    base: u64,
+    answer: &mut [u64],
+) -> u64
+    ensures { λ r. ⌜
+        QueueExported (λ d q. serveNext (worldOf d (now (bitmap .entry)) (now (table .entry))) q (record { mem = now (mem .entry); base = base }))
+        (queueLent (now (queue .entry)) (lent (now (words .entry)) (now (answer .entry)) (now (bitmap .entry)) (now (table .entry)) (now (mem .entry))))
+        (queueLent (now (queue .exit)) (lent (now (words .exit)) (now (answer .exit)) (now (bitmap .exit)) (now (table .entry)) (now (mem .exit)))) r
+        ⌝ }
+{
+    let Decoded::Is(d) = decode(&words[..]) else {
+        return tell(Answer::Refused(12), answer);
+    };
+    let DecodedQueue::Is(q) = decode_queue(&queue[..]) else {
+        return tell(Answer::Refused(12), answer);
+    };
+    let s = serve_next(d, q, bitmap, table, mem, GuestAddr(base));
+    let d = s.device;
+    let q = s.queue;
+    let a = s.answer;
+    encode(d, words);
+    encode_queue(q, queue);
+    tell_queue(a, answer)
+}
+
+// The host's answer to what it was asked; it may end the request of the head that is out.
+#[no_mangle]
+pub extern "C" fn jambcopper_serve_answer(
+    words: &mut [u64],
+    queue: &mut [u64],
+    bitmap: &mut [u8],
+    table: &mut [u64],
+    mem: &mut [u8],
+    base: u64,
+    ok: bool,
+    host: u64,
+    answer: &mut [u64],
+) -> u64
+    ensures { λ r. ⌜
+        QueueExported (λ d q. hostAnswers (worldOf d (now (bitmap .entry)) (now (table .entry))) q (record { mem = now (mem .entry); base = base }) ok host)
+        (queueLent (now (queue .entry)) (lent (now (words .entry)) (now (answer .entry)) (now (bitmap .entry)) (now (table .entry)) (now (mem .entry))))
+        (queueLent (now (queue .exit)) (lent (now (words .exit)) (now (answer .exit)) (now (bitmap .exit)) (now (table .exit)) (now (mem .exit)))) r
+        ⌝ }
+{
+    let Decoded::Is(d) = decode(&words[..]) else {
+        return tell(Answer::Refused(12), answer);
+    };
+    let DecodedQueue::Is(q) = decode_queue(&queue[..]) else {
+        return tell(Answer::Refused(12), answer);
+    };
+    let s = queue::host_answer(
+        d,
+        q,
+        bitmap,
+        table,
+        mem,
+        GuestAddr(base),
+        ok,
+        HostAddr(host),
+    );
+    let d = s.device;
+    let q = s.queue;
+    let a = s.answer;
+    encode(d, words);
+    encode_queue(q, queue);
+    tell_queue(a, answer)
 }
 
 // Reads the config.
