@@ -24,7 +24,7 @@ use Rattle.linked.specs.Runs.{Function, «jambcopper_place», «jambcopp
 use Rattle.linked.specs.Refused.{lendsBytes, Untouched, RefusedExportChangesNothing}
 
 -- an answer whose number is not 0 is a refusal with it
-refused-with : (a : Answer) → (numberOf a ≡ 0 → ⊥) → a ≡ Refused (numberOf a)
+pub refused-with : (a : Answer) → (numberOf a ≡ 0 → ⊥) → a ≡ Refused (numberOf a)
 refused-with (Refused n) h = refl
 refused-with (Wants (Create guest size slot)) h = absurd (h refl)
 refused-with (Wants (Discard offset size host)) h = absurd (h refl)

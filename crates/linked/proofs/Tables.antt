@@ -95,7 +95,7 @@ module _ (d : Device) (bs bs′ : List Bool) (rows rows′ : List MapRow) where
   refuse-early n n′ m bytes o o′ p q e = rw (p, q, e) (refuse-both m bytes)
 
   module _ (unplaced : d .placed ≡ false) (idle : isIdle (d .pending) ≡ true) where
-    not-ready : (b r : ℕ) → readyRefusal d b r ≡ cond (shapedOf d) 5 12
+    pub not-ready : (b r : ℕ) → readyRefusal d b r ≡ cond (shapedOf d) 5 12
     unfolding readyRefusal
     not-ready b r = simp (idle, unplaced)
 
@@ -103,7 +103,7 @@ module _ (d : Device) (bs bs′ : List Bool) (rows rows′ : List MapRow) where
     unfolding pendingRefusal
     not-pending b r = simp idle
 
-    not-0 : (t : Bool) (n : ℕ) → eqb n 0 ≡ false → eqb (cond t n 12) 0 ≡ false
+    pub not-0 : (t : Bool) (n : ℕ) → eqb n 0 ≡ false → eqb (cond t n 12) 0 ≡ false
     not-0 true n e = e
     not-0 false n e = refl
 

@@ -45,7 +45,7 @@ module _ (w : World) (q : Queue) where
   taken-is HasNone g call e = let z : _≡_ {A = ℕ} 0 1 = cc in absurd (omega arith)
   taken-is (HasRefused n) g call e = let z : _≡_ {A = ℕ} 0 1 = cc in absurd (omega arith)
 
-  kinds : (c : QueueCall) (call : Call) → callsOf w q c ≡ call ∷ [] → (isSizeChange call ≡ isSizing c) × (isPlace call ≡ isPlacing c)
+  pub kinds : (c : QueueCall) (call : Call) → callsOf w q c ≡ call ∷ [] → (isSizeChange call ≡ isSizing c) × (isPlace call ≡ isPlacing c)
   unfolding callsOf isSizeChange isPlace isSizing isPlacing callOf
   kinds (TakeNext g) call e = taken-is (nextOf w q g) g call e
   kinds (Host g ok host) call e =
@@ -79,7 +79,7 @@ touches-nothing w q c sizes =
     moves w q c Untouched (λ v. record { same-blocks = refl; same-rows = refl; same-plugged = refl }) (λ call e. size-change-touches-nothing w call (kinds w q c call e .0 ∙ sizes))
 
 -- ---- over any calls
-demand-3-on-queue : InEveryQueueRun Demand3
+pub demand-3-on-queue : InEveryQueueRun Demand3
 demand-3-on-queue d fresh q new cs c =
     let r = runs-the-device d q cs in
     let t = demand-3 d fresh (allCalls (opened d q) cs) in

@@ -1,0 +1,4 @@
+pub mod Steps
+pub mod Linked
+pub mod Refused
+pub mod Contracts
