@@ -1,13 +1,11 @@
 -- What the ways through a call of the queue come to: each lemma takes what the code knows on a way and shows the ending of `Queue.antt` there. Assumes nothing.
 use Prim.Native.Nat.{ℕ, _*_, _/_}
 use mathlib.Core.Path.{_≡_, refl, sym, ap, _∙_}
-use mathlib.Core.Bool.{Bool, true, false, not}
+use mathlib.Core.Bool.{Bool, true, false, cond, not}
 use mathlib.Core.List.{List, [], _∷_}
 use native.Mathlib.Omega.{arith}
 use lib.Dec.{eqb}
 use lib.ListN.{length}
-use types.Run.{OneOf, miss}
-use denote.Enum.Declared.{tagOf}
 use Rattle.units.proofs.Tests.{by-test, passed, refused}
 use Rattle.bitmap.proofs.Laws.{blocks-length}
 use Rattle.rows.proofs.Words.{count, whole}
@@ -18,8 +16,7 @@ use Rattle.rings.specs.declared.Taken.{Taken}
 use Rattle.rings.specs.declared.Taken.the-variants.{Nothing, Head}
 use Rattle.rings.specs.declared.Next.{Next}
 use Rattle.rings.specs.declared.Next.the-variants.{Head as HasHead, Empty as HasNone, Refused as HasRefused}
-use Rattle.rings.proofs.Next.{the-type as next-type}
-use Rattle.rings.specs.Rings.{nextHead}
+use Rattle.rings.specs.Rings.{ringsInside, nextHead}
 use Rattle.step.specs.declared.Answered.{Answered}
 use Rattle.step.specs.declared.Answer.the-variants.{Refused}
 use Rattle.step.specs.World.{World, Guest, Request, HostAnswer, Outcome, worldOf, Meets}
@@ -27,8 +24,10 @@ use Rattle.step.specs.Step.{step, unless, readyRefusal, pendingRefusal}
 use Rattle.queue.specs.declared.QueueAnswer.{QueueAnswer}
 use Rattle.queue.specs.declared.QueueAnswer.the-variants.{Of}
 use Rattle.queue.specs.declared.Ending.{Ending}
+use Rattle.queue.specs.declared.Taking.{Taking}
+use Rattle.queue.specs.declared.Taking.the-variants.{Walk, Told}
 use Rattle.queue.specs.declared.Turn.{Turn}
-use Rattle.queue.specs.Queue.{queueOk, tookHead, endingOf, queueBy, bytesBy, unmoved, aside, about, takingRefusal, nextUnless, nextOf, noneTold, takes, serveNext, firstOf, canReport, outRefusal, answerRefusal, answers, unlessRefused, hostAnswers, Settled, turned, MeetsTurn}
+use Rattle.queue.specs.Queue.{QueueOutcome, queueOk, tookHead, endingOf, queueBy, bytesBy, unmoved, aside, about, takingRefusal, nextUnless, nextOf, noneTold, takes, serveNext, standing, takingOf, walks, firstOf, canReport, outRefusal, answerRefusal, queueRefusal, answers, unlessRefused, hostAnswers, Settled, turned, MeetsTurn}
 
 clash : {A : Type 0} {t : Bool} → t ≡ true → t ≡ false → A
 clash p q = let z : _≡_ {A = ℕ} 0 1 = cc in absurd (omega arith)
@@ -55,25 +54,20 @@ module _ {o : Outcome} {s : Answered} {t : Turn} {bitmap table table′ bytes : 
 
 -- ---- the refusals of the device, which its own call tests again
 module _ (w : World) (q : Queue) (g : Guest) where
-  -- where no head stands next
-  none-of : (x : Next) → OneOf (1 ∷ 2 ∷ []) (tagOf next-type x) → takes x w q g ≡ unmoved (noneTold x) w q (g .mem)
-  unfolding takes noneTold
-  none-of (HasHead head) k = absurd (miss (1 ∷ 2 ∷ []) 0 tt k)
-  none-of HasNone k = refl
-  none-of (HasRefused n) k = refl
+  -- with what stands next, and the device's number n
+  stands : (n : ℕ) → n ≡ readyRefusal (w .device) (length (w .blocks)) (length (w .rows)) → (x : Next) → takes (nextUnless n x) w q g ≡ walks (standing x n) w q g
+  unfolding nextUnless takes noneTold standing walks step unless queueBy bytesBy
+  stands n e HasNone = by-test (eqb n 0) (λ t. rw t) (λ t. rw t)
+  stands n e (HasRefused m) = by-test (eqb n 0) (λ t. rw t) (λ t. rw t)
+  stands n e (HasHead head) = by-test (eqb n 0) (λ t. rw t) (λ t. rw (t, ← e, t))
 
-  none-taken : (n : ℕ) (x : Next) → OneOf (1 ∷ 2 ∷ []) (tagOf next-type x) → takes (nextUnless n x) w q g ≡ unmoved (noneTold (nextUnless n x)) w q (g .mem)
-  unfolding nextUnless takes noneTold
-  none-taken n x k = by-test (eqb n 0) (λ t. rw t (none-of x k)) (λ t. rw t)
-
-  -- a head that stands next: a refused call takes none
-  head-taken : (head : ℕ) → queueOk (q .taken) (w .device .pending) ≡ true → nextHead (g .mem) (g .base) q ≡ HasHead head → serveNext w q g ≡ about head (g .base) q (tookHead q head) (step w (Request g (q .descriptors .0) head))
-  unfolding takingRefusal nextUnless takes step unless queueBy bytesBy
-  head-taken head k e =
-      let n = readyRefusal (w .device) (length (w .blocks)) (length (w .rows)) in
-      by-test (eqb n 0)
-      (λ t. let there : nextOf w q g ≡ HasHead head = rw (k, e, t) in ap (λ (x : Next). takes x w q g) there)
-      (λ t. let none : nextOf w q g ≡ HasRefused n = rw (k, t) in ap (λ (x : Next). takes x w q g) none ∙ rw t)
+  -- "a refused call takes none": where the device refuses, the head stays
+  pub by-taking : serveNext w q g ≡ walks (takingOf (w .device) q (length (w .blocks)) (length (w .rows)) (g .mem) (g .base)) w q g
+  unfolding takingRefusal takingOf nextUnless takes walks
+  by-taking =
+      by-test (queueOk (q .taken) (w .device .pending))
+      (λ t. rw t (stands (readyRefusal (w .device) (length (w .blocks)) (length (w .rows))) refl (nextHead (g .mem) (g .base) q)))
+      (λ t. rw t)
 
   -- a host's answer, where a head that is out can be reported
   heard : (taken : Taken) (ok : Bool) (host : ℕ) → canReport taken (length (g .mem)) (g .base) q ≡ true
@@ -84,14 +78,25 @@ module _ (w : World) (q : Queue) (g : Guest) where
   heard (Head head) ok host e =
       by-test (eqb (pendingRefusal (w .device) (length (w .blocks)) (length (w .rows))) 0) (λ t. rw (e, t)) (λ t. rw (t, t))
 
--- and where it cannot: 14 comes last
-outside : (taken : Taken) (d : Device) (q : Queue) (n m : ℕ) (g : Guest) → canReport taken (length (g .mem)) (g .base) q ≡ false → outRefusal taken d q n m g ≡ firstOf (pendingRefusal d n m) 14
-unfolding canReport outRefusal
-outside Nothing d q n m g e = clash refl e
-outside (Head head) d q n m g e = rw e
+  -- and where it cannot: 14 comes last
+  outside : (taken : Taken) (n m : ℕ) → canReport taken (length (g .mem)) (g .base) q ≡ false → outRefusal taken (w .device) q n m g ≡ firstOf (pendingRefusal (w .device) n m) 14
+  unfolding canReport outRefusal
+  outside Nothing n m e = clash refl e
+  outside (Head head) n m e = rw e
 
-some-number : (n : ℕ) → eqb (firstOf n 14) 0 ≡ false
-some-number n = by-test (eqb n 0) (λ t. rw t) (λ t. rw t t)
+  alike : (taken : Taken) (ok : Bool) (host : ℕ) → let n = pendingRefusal (w .device) (length (w .blocks)) (length (w .rows)) in let o = answers taken q (g .base) (step w (HostAnswer g ok host)) in
+      unlessRefused (outRefusal taken (w .device) q (length (w .blocks)) (length (w .rows)) g) w q (g .mem) o ≡ unlessRefused (cond (canReport taken (length (g .mem)) (g .base) q) 0 (firstOf n 14)) w q (g .mem) o
+  unfolding unlessRefused
+  alike taken ok host =
+      by-test (canReport taken (length (g .mem)) (g .base) q)
+      (λ t. rw t (heard taken ok host t))
+      (λ t. rw (t, outside taken (length (w .blocks)) (length (w .rows)) t))
+
+  pub by-refusal : (ok : Bool) (host : ℕ) → hostAnswers w q g ok host
+      ≡ unlessRefused (queueRefusal (w .device) q (length (w .blocks)) (length (w .rows)) (length (g .mem)) (g .base)) w q (g .mem) (answers (q .taken) q (g .base) (step w (HostAnswer g ok host)))
+  unfolding answerRefusal queueRefusal
+  by-refusal ok host =
+      by-test (queueOk (q .taken) (w .device .pending)) (λ t. rw t (alike (q .taken) ok host)) (λ t. rw t)
 
 module _ (d : Device) (bitmap table : List ℕ) (q : Queue) (g : Guest) where
   -- a call that changes nothing
@@ -99,41 +104,32 @@ module _ (d : Device) (bitmap table : List ℕ) (q : Queue) (g : Guest) where
   unchanged told is =
       record { answered = rw is; told = rw is; recorded = rw is; queued = rw is; marked = refl; mapped = sym (whole table); left = refl }
 
-  module _ (fine : Bool) (fine-is : fine ≡ queueOk (q .taken) (d .pending)) where
-    -- ---- taking the next head
-    pub next-spoiled : {t : Turn} → not fine ≡ true → t ≡ turned d q (Of (Refused 12)) → MeetsTurn (serveNext (worldOf d bitmap table) q g) t bitmap table table (g .mem)
-    unfolding takingRefusal nextUnless takes
-    next-spoiled bad is = rw (refused _ _ fine-is bad) (unchanged (Of (Refused 12)) is)
+  -- ---- taking the next head
+  taken-as : (x : Taking) → x ≡ takingOf d q (8 * length bitmap) (length table / 3) (g .mem) (g .base) → serveNext (worldOf d bitmap table) q g ≡ walks x (worldOf d bitmap table) q g
+  taken-as x e = by-taking (worldOf d bitmap table) q g ∙ rw (blocks-length bitmap, count table, ← e)
 
-    module _ (passes : not fine ≡ false) (x : Next) (x-is : x ≡ nextHead (g .mem) (g .base) q) where
-      pub next-none : {t : Turn} (number : ℕ) → number ≡ readyRefusal d (8 * length bitmap) (length table / 3) → OneOf (1 ∷ 2 ∷ []) (tagOf next-type x)
-          → (told : QueueAnswer) → told ≡ noneTold (nextUnless number x) → t ≡ turned d q told → MeetsTurn (serveNext (worldOf d bitmap table) q g) t bitmap table table (g .mem)
-      unfolding takingRefusal
-      next-none number number-is k told told-is is =
-          rw (passed _ _ fine-is passes, blocks-length bitmap, count table, ← number-is, ← x-is, none-taken (worldOf d bitmap table) q g number x k, ← told-is) (unchanged told is)
+  pub next-none : {t : Turn} (x : Taking) → x ≡ takingOf d q (8 * length bitmap) (length table / 3) (g .mem) (g .base) → (told : QueueAnswer) → x ≡ Told told
+      → t ≡ turned d q told → MeetsTurn (serveNext (worldOf d bitmap table) q g) t bitmap table table (g .mem)
+  unfolding walks
+  next-none x e told f is = rw (taken-as x e, f) (unchanged told is)
 
-      pub next-taken : {t : Turn} {bitmap′ table′ bytes : List ℕ} (head : ℕ) → x ≡ HasHead head → (out : Queue) → out ≡ tookHead q head
-          → MeetsTurn (about head (g .base) q out (step (worldOf d bitmap table) (Request g (q .descriptors .0) head))) t bitmap′ table table′ bytes → MeetsTurn (serveNext (worldOf d bitmap table) q g) t bitmap′ table table′ bytes
-      next-taken head e out out-is m =
-          rw (head-taken (worldOf d bitmap table) q g head (passed _ _ fine-is passes) (sym x-is ∙ e)) (rw out-is at m)
+  pub next-taken : {t : Turn} {bitmap′ table′ bytes : List ℕ} (x : Taking) → x ≡ takingOf d q (8 * length bitmap) (length table / 3) (g .mem) (g .base) → (head : ℕ) → x ≡ Walk head → (out : Queue) → out ≡ tookHead q head
+      → MeetsTurn (about head (g .base) q out (step (worldOf d bitmap table) (Request g (q .descriptors .0) head))) t bitmap′ table table′ bytes → MeetsTurn (serveNext (worldOf d bitmap table) q g) t bitmap′ table table′ bytes
+  unfolding walks
+  next-taken x e head f out out-is m = rw (taken-as x e, f) (rw out-is at m)
 
-    -- ---- the host's answer
-    module _ (ok : Bool) (host : ℕ) where
-      pub answer-spoiled : {t : Turn} → not fine ≡ true → t ≡ turned d q (Of (Refused 12)) → MeetsTurn (hostAnswers (worldOf d bitmap table) q g ok host) t bitmap table table (g .mem)
-      unfolding answerRefusal unlessRefused
-      answer-spoiled bad is = rw (refused _ _ fine-is bad) (unchanged (Of (Refused 12)) is)
+  -- ---- the host's answer
+  module _ (ok : Bool) (host n : ℕ) (n-is : n ≡ queueRefusal d q (8 * length bitmap) (length table / 3) (length (g .mem)) (g .base)) where
+    answered-as : hostAnswers (worldOf d bitmap table) q g ok host ≡ unlessRefused n (worldOf d bitmap table) q (g .mem) (answers (q .taken) q (g .base) (step (worldOf d bitmap table) (HostAnswer g ok host)))
+    answered-as = by-refusal (worldOf d bitmap table) q g ok host ∙ rw (blocks-length bitmap, count table, ← n-is)
 
-      module _ (passes : not fine ≡ false) (can : Bool) (can-is : can ≡ canReport (q .taken) (length (g .mem)) (g .base) q) where
-        pub answer-outside : {t : Turn} → not can ≡ true → (pending number : ℕ) → pending ≡ pendingRefusal d (8 * length bitmap) (length table / 3) → number ≡ firstOf pending 14
-            → t ≡ turned d q (Of (Refused number)) → MeetsTurn (hostAnswers (worldOf d bitmap table) q g ok host) t bitmap table table (g .mem)
-        unfolding answerRefusal unlessRefused
-        answer-outside cannot pending number pending-is number-is is =
-            rw (passed _ _ fine-is passes, blocks-length bitmap, count table, outside (q .taken) d q (8 * length bitmap) (length table / 3) g (refused _ _ can-is cannot), ← pending-is, some-number pending, ← number-is)
-            (unchanged (Of (Refused number)) is)
+    pub answer-refused : {t : Turn} → eqb n 0 ≡ false → t ≡ turned d q (Of (Refused n)) → MeetsTurn (hostAnswers (worldOf d bitmap table) q g ok host) t bitmap table table (g .mem)
+    unfolding unlessRefused
+    answer-refused some is = rw (answered-as, some) (unchanged (Of (Refused n)) is)
 
-        pub answer-heard : {t : Turn} {bitmap′ table′ bytes : List ℕ} → not can ≡ false → (taken : Taken) → q .taken ≡ taken
-            → MeetsTurn (answers taken q (g .base) (step (worldOf d bitmap table) (HostAnswer g ok host))) t bitmap′ table table′ bytes → MeetsTurn (hostAnswers (worldOf d bitmap table) q g ok host) t bitmap′ table table′ bytes
-        unfolding answerRefusal
-        answer-heard inside taken e m =
-            let o = step (worldOf d bitmap table) (HostAnswer g ok host) in
-            rw (passed _ _ fine-is passes, heard (worldOf d bitmap table) q g (q .taken) ok host (passed _ _ can-is inside), ap (λ (x : Taken). answers x q (g .base) o) e) m
+    pub answer-heard : {t : Turn} {bitmap′ table′ bytes : List ℕ} → eqb n 0 ≡ true → (taken : Taken) → q .taken ≡ taken
+        → MeetsTurn (answers taken q (g .base) (step (worldOf d bitmap table) (HostAnswer g ok host))) t bitmap′ table table′ bytes → MeetsTurn (hostAnswers (worldOf d bitmap table) q g ok host) t bitmap′ table table′ bytes
+    unfolding unlessRefused
+    answer-heard none taken e m =
+        let o = step (worldOf d bitmap table) (HostAnswer g ok host) in
+        rw (answered-as, none, ap (λ (x : Taken). answers x q (g .base) o) e) m

@@ -25,6 +25,8 @@ use Rattle.queue.specs.declared.QueueAnswer.{QueueAnswer}
 use Rattle.queue.specs.declared.QueueAnswer.the-variants.{Empty, Of}
 use Rattle.queue.specs.declared.Ending.{Ending}
 use Rattle.queue.specs.declared.Ending.the-variants.{Stays, Out, Used}
+use Rattle.queue.specs.declared.Taking.{Taking}
+use Rattle.queue.specs.declared.Taking.the-variants.{Walk, Told}
 use Rattle.queue.specs.declared.Turn.{Turn}
 
 -- the world, the queue and the guest's bytes afterwards, and what is told: that the ring is empty, or the device's answer
@@ -129,6 +131,20 @@ takes (HasRefused n) w q g = unmoved (Of (Refused n)) w q (g .mem)
 abbrev pub serveNext : World → Queue → Guest → QueueOutcome
 serveNext w q g = takes (nextOf w q g) w q g
 
+-- the same, as code finds it: the head that stands next is looked for first, and where there is one the device's own call gives its refusals (`by-taking`)
+unfoldable pub standing : Next → (n : ℕ) → Taking
+standing (HasHead head) n = Walk head
+standing HasNone n = Told (noneTold (nextUnless n HasNone))
+standing (HasRefused m) n = Told (noneTold (nextUnless n (HasRefused m)))
+
+unfoldable pub takingOf : Device → Queue → (blocks rows : ℕ) → (mem : List ℕ) (base : ℕ) → Taking
+takingOf d q blocks rows mem base =
+    cond (queueOk (q .taken) (d .pending)) (standing (nextHead mem base q) (readyRefusal d blocks rows)) (Told (Of (Refused 12)))
+
+unfoldable pub walks : Taking → World → Queue → Guest → QueueOutcome
+walks (Walk head) w q g = about head (g .base) q (tookHead q head) (step w (Request g (q .descriptors .0) head))
+walks (Told t) w q g = unmoved t w q (g .mem)
+
 -- ---- the host's answer
 -- the first number that is given, or 0
 abbrev pub firstOf : (n m : ℕ) → ℕ
@@ -162,6 +178,11 @@ abbrev pub hostAnswers : World → Queue → Guest → (ok : Bool) (host : ℕ) 
 hostAnswers w q g ok host =
     unlessRefused (answerRefusal (w .device) q (length (w .blocks)) (length (w .rows)) g) w q (g .mem)
     (answers (q .taken) q (g .base) (step w (HostAnswer g ok host)))
+
+-- the same, as code finds it: where the head can be reported, the device's own call gives its refusals (`by-refusal`)
+unfoldable pub queueRefusal : Device → Queue → (blocks rows len base : ℕ) → ℕ
+queueRefusal d q blocks rows len base =
+    cond (queueOk (q .taken) (d .pending)) (cond (canReport (q .taken) len base q) 0 (firstOf (pendingRefusal d blocks rows) 14)) 12
 
 -- ---- what code promises
 -- the head went where the ending says

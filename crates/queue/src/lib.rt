@@ -17,9 +17,10 @@ use step::ready_refusal;
 use units::GuestAddr;
 use units::HostAddr;
 ghost use mathlib.Core.Path.{_≡_};
+ghost use Prim.Native.Nat.{_*_, _/_};
 ghost use lib.ListN.{length};
 ghost use Rattle.step.specs.World.{worldOf, guestOf};
-ghost use Rattle.queue.specs.Queue.{discarding, queueOk, tookHead, gaveBack, endingOf, Settled, turned, nextUnless, noneTold, serveNext, canReport, firstOf, hostAnswers, MeetsTurn};
+ghost use Rattle.queue.specs.Queue.{discarding, queueOk, tookHead, gaveBack, endingOf, Settled, turned, nextUnless, noneTold, takingOf, serveNext, canReport, firstOf, queueRefusal, hostAnswers, MeetsTurn};
 
 // What a call on the queue tells: that no head is there, or the device's answer.
 pub enum QueueAnswer {
@@ -39,6 +40,12 @@ pub enum Ending {
     Stays,
     Out,
     Used(u32),
+}
+
+// What a call finds before a head is walked: the head, or what it tells where it takes none.
+pub enum Taking {
+    Walk(u16),
+    Told(QueueAnswer),
 }
 
 // Whether a discard is pending.
@@ -72,7 +79,7 @@ fn queue_ok(taken: Taken, pending: Pending) -> bool
 }
 
 // The queue with a head taken: it is out.
-fn took_head(q: Queue, head: u16) -> Queue
+pub fn took_head(q: Queue, head: u16) -> Queue
     ensures { λ r. ⌜ r ≡ tookHead q head ⌝ }
 {
     let next = index_after(q.next_available);
@@ -98,7 +105,7 @@ fn gave_back(q: Queue) -> Queue
 }
 
 // What the device's answer means for the head that it is about.
-fn ending_of(answer: Answer) -> Ending
+pub fn ending_of(answer: Answer) -> Ending
     ensures { λ r. ⌜ r ≡ endingOf answer ⌝ }
 {
     match answer {
@@ -112,7 +119,7 @@ fn ending_of(answer: Answer) -> Ending
 }
 
 // The queue by a head's ending; a head that is given back goes into the used ring.
-fn settle(
+pub fn settle(
     ending: Ending,
     head: u16,
     before: Queue,
@@ -156,6 +163,30 @@ fn none_told(number: u64, next: Next) -> QueueAnswer
     }
 }
 
+// The head that a call is to walk, or what it tells. Where there is a head, the device's own call gives its refusals.
+pub fn next_taking(
+    d: Device,
+    q: Queue,
+    bitmap: usize,
+    table: usize,
+    mem: &[u8],
+    base: GuestAddr,
+) -> Taking
+    ensures { λ r. ⌜ r ≡ takingOf d q (8 * bitmap) (table / 3) (now (mem .entry)) (base .0) ⌝ }
+{
+    let taken = q.taken;
+    let pending = d.pending;
+    if !queue_ok(taken, pending) {
+        return Taking::Told(QueueAnswer::Of(Answer::Refused(12)));
+    }
+    let next = next_head(mem, base, q);
+    let Next::Head(head) = next else {
+        let number = ready_refusal(d, bitmap, table);
+        return Taking::Told(none_told(number, next));
+    };
+    Taking::Walk(head)
+}
+
 // Takes the next head, and walks it.
 pub fn serve_next(
     d: Device,
@@ -167,20 +198,15 @@ pub fn serve_next(
 ) -> Turn
     ensures { λ r. ⌜ MeetsTurn (serveNext (worldOf d (now (bitmap .entry)) (now (table .entry))) q (guestOf (now (mem .entry)) base)) r (now (bitmap .exit)) (now (table .entry)) (now (table .entry)) (now (mem .exit)) ⌝ }
 {
-    let taken = q.taken;
-    let pending = d.pending;
-    if !queue_ok(taken, pending) {
-        return tells(d, q, QueueAnswer::Of(Answer::Refused(12)));
+    match next_taking(d, q, bitmap.len(), table.len(), &mem[..], base) {
+        Taking::Told(told) => tells(d, q, told),
+        Taking::Walk(head) => {
+            let s = request(d, bitmap, table, mem, base, q.descriptors, head);
+            let answer = s.answer;
+            let queue = settle(ending_of(answer), head, q, took_head(q, head), mem, base);
+            tells(s.device, queue, QueueAnswer::Of(answer))
+        }
     }
-    let next = next_head(&mem[..], base, q);
-    let Next::Head(head) = next else {
-        let number = ready_refusal(d, bitmap.len(), table.len());
-        return tells(d, q, none_told(number, next));
-    };
-    let s = request(d, bitmap, table, mem, base, q.descriptors, head);
-    let answer = s.answer;
-    let queue = settle(ending_of(answer), head, q, took_head(q, head), mem, base);
-    tells(s.device, queue, QueueAnswer::Of(answer))
 }
 
 // Whether the head that is out, if one is, can be reported.
@@ -200,6 +226,28 @@ fn first_of(n: u64, m: u64) -> u64
     if n == 0 { m } else { n }
 }
 
+// The number that the queue refuses a host's answer with, or 0. Where it is 0, the device's own call gives its refusals.
+pub fn queue_refusal(
+    d: Device,
+    q: Queue,
+    bitmap: usize,
+    table: usize,
+    mem: &[u8],
+    base: GuestAddr,
+) -> u64
+    ensures { λ r. ⌜ r ≡ queueRefusal d q (8 * bitmap) (table / 3) (length (now (mem .entry))) (base .0) ⌝ }
+{
+    let taken = q.taken;
+    let pending = d.pending;
+    if !queue_ok(taken, pending) {
+        return 12;
+    }
+    if can_report(taken, mem, base, q) {
+        return 0;
+    }
+    first_of(pending_refusal(d, bitmap, table), 14)
+}
+
 // The host's answer to what it was asked last; it may end the request of the head that is out.
 pub fn host_answer(
     d: Device,
@@ -213,17 +261,13 @@ pub fn host_answer(
 ) -> Turn
     ensures { λ r. ⌜ MeetsTurn (hostAnswers (worldOf d (now (bitmap .entry)) (now (table .entry))) q (guestOf (now (mem .entry)) base) ok (host .0)) r (now (bitmap .exit)) (now (table .entry)) (now (table .exit)) (now (mem .exit)) ⌝ }
 {
-    let taken = q.taken;
-    let pending = d.pending;
-    if !queue_ok(taken, pending) {
-        return tells(d, q, QueueAnswer::Of(Answer::Refused(12)));
-    }
-    if !can_report(taken, &mem[..], base, q) {
-        let number = first_of(pending_refusal(d, bitmap.len(), table.len()), 14);
+    let number = queue_refusal(d, q, bitmap.len(), table.len(), &mem[..], base);
+    if number != 0 {
         return tells(d, q, QueueAnswer::Of(Answer::Refused(number)));
     }
     let s = serving::host_answer(d, bitmap, table, mem, base, ok, host);
     let answer = s.answer;
+    let taken = q.taken;
     let Taken::Head(head) = taken else {
         return tells(s.device, q, QueueAnswer::Of(answer));
     };

@@ -1,42 +1,26 @@
--- `queue::host_answer` meets its contract: 12, 14 behind the device's refusals, or its answer and the head that is out by it. Assumes nothing.
+-- `queue::host_answer` meets its contract: a number of the queue's, or the device's answer, about the head that is out if one is.
 use native.Mathlib.Omega.{arith}
+use borrow.Author.Tests.{eq-eqb, ne-eqb}
 use Rattle.step.specs.World.{guestOf}
 use Rattle.queue.specs.Queue.{answers}
-use Rattle.queue.proofs.Turns.{about-met, aside-met, answer-spoiled, answer-outside, answer-heard}
+use Rattle.queue.proofs.Turns.{about-met, aside-met, answer-refused, answer-heard}
 use borrow.Author.Needs.{needs}
 use Rattle.queue.proofs.host_answer.Statement.{statement}
 use Rattle.queue.proofs.host_answer.Tie as tie
 
-queue-ok-requires : tie.Need-queue-ok-requires
-queue-ok-requires c κs = search needs
+queue-refusal-requires : tie.Need-queue-refusal-requires
+queue-refusal-requires c κs = search needs
 
 tells-requires : tie.Need-tells-requires
 tells-requires c κs = search needs
 
-returns : tie.Need-returns
-returns c =
-    let a = c .before .before .before .before .before .before .args in
-    answer-spoiled (a .d) (a .bitmap .now) (a .table .now) (a .q) (guestOf (a .mem .now) (a .base)) _ (c .before .before .queue-ok .ensures) _ _ (c .before .if1 .taken) (c .tells .ensures)
-
-can-report-requires : tie.Need-can-report-requires
-can-report-requires c κs = search needs
-
-pending-refusal-requires : tie.Need-pending-refusal-requires
-pending-refusal-requires c κs = search needs
-
-first-of-requires : tie.Need-first-of-requires
-first-of-requires c κs = search needs
-
-tells-requires-2 : tie.Need-tells-requires-2
-tells-requires-2 c κs = search needs
-
 same-length : tie.Need-same-length
 same-length c = search needs
 
-returns-2 : tie.Need-returns-2
-returns-2 c =
-    let a = c .before .before .before .before .before .before .before .before .before .before .before .args in
-    answer-outside (a .d) (a .bitmap .now) (a .table .now) (a .q) (guestOf (a .mem .now) (a .base)) _ (c .before .before .before .before .before .before .before .queue-ok .ensures) _ _ (c .before .before .before .before .before .before .if1 .left) _ (c .before .before .before .before .can-report .ensures) (c .before .before .before .if2 .taken) _ _ (c .before .before .pending-refusal .ensures) (c .before .first-of .ensures) (c .tells2 .ensures)
+returns : tie.Need-returns
+returns c =
+    let a = c .before .before .before .before .before .before .before .args in
+    answer-refused (a .d) (a .bitmap .now) (a .table .now) (a .q) (guestOf (a .mem .now) (a .base)) _ _ _ (c .before .before .queue-refusal .ensures) (ne-eqb _ _ (c .before .if1 .taken)) (c .tells .ensures)
 
 host-answer-requires : tie.Need-host-answer-requires
 host-answer-requires c κs = search needs
@@ -47,8 +31,8 @@ enum-known-taken c = search needs
 enum-told : tie.Need-enum-told
 enum-told c = search needs
 
-tells-requires-3 : tie.Need-tells-requires-3
-tells-requires-3 c κs = search needs
+tells-requires-2 : tie.Need-tells-requires-2
+tells-requires-2 c κs = search needs
 
 same-length-2 : tie.Need-same-length-2
 same-length-2 c = search needs
@@ -59,12 +43,12 @@ same-length-3 c = search needs
 same-length-4 : tie.Need-same-length-4
 same-length-4 c = search needs
 
-returns-3 : tie.Need-returns-3
+returns-2 : tie.Need-returns-2
 unfolding answers
-returns-3 c =
-    let a = c .before .before .before .before .before .before .before .before .before .before .before .before .before .before .before .before .before .before .before .before .before .args in
-    answer-heard (a .d) (a .bitmap .now) (a .table .now) (a .q) (guestOf (a .mem .now) (a .base)) _ (c .before .before .before .before .before .before .before .before .before .before .before .before .before .before .before .before .before .queue-ok .ensures) _ _ (c .before .before .before .before .before .before .before .before .before .before .before .before .before .before .before .before .if1 .left) _ (c .before .before .before .before .before .before .before .before .before .before .before .before .before .before .can-report .ensures) (c .before .before .before .before .before .before .before .before .before .before .before .before .before .if2 .left) _ (c .before .enum-told .given .1)
-    (aside-met (c .before .before .before .before .before .before .before .before .before .host-answer .ensures) _ (c .tells3 .ensures))
+returns-2 c =
+    let a = c .before .before .before .before .before .before .before .before .before .before .before .before .before .before .before .before .before .before .before .args in
+    answer-heard (a .d) (a .bitmap .now) (a .table .now) (a .q) (guestOf (a .mem .now) (a .base)) _ _ _ (c .before .before .before .before .before .before .before .before .before .before .before .before .before .before .queue-refusal .ensures) (eq-eqb _ _ (c .before .before .before .before .before .before .before .before .before .before .before .before .before .if1 .left)) _ (c .before .enum-told .given .1)
+    (aside-met (c .before .before .before .before .before .before .before .before .before .host-answer .ensures) _ (c .tells2 .ensures))
 
 ending-of-requires : tie.Need-ending-of-requires
 ending-of-requires c κs = search needs
@@ -72,8 +56,8 @@ ending-of-requires c κs = search needs
 settle-requires : tie.Need-settle-requires
 settle-requires c κs = search needs
 
-tells-requires-4 : tie.Need-tells-requires-4
-tells-requires-4 c κs = search needs
+tells-requires-3 : tie.Need-tells-requires-3
+tells-requires-3 c κs = search needs
 
 same-length-5 : tie.Need-same-length-5
 same-length-5 c = let h = c .before .before .before .before .before .before .before .before .before .before .before .before .before .before .bitmap .given in omega arith
@@ -84,38 +68,33 @@ same-length-6 c = let h = c .before .before .before .before .before .before .bef
 same-length-7 : tie.Need-same-length-7
 same-length-7 c = search needs
 
-returns-4 : tie.Need-returns-4
+returns-3 : tie.Need-returns-3
 unfolding answers
-returns-4 c =
-    let a = c .before .before .before .before .before .before .before .before .before .before .before .before .before .before .before .before .before .before .before .before .before .before .before .before .before .before .before .args in
-    answer-heard (a .d) (a .bitmap .now) (a .table .now) (a .q) (guestOf (a .mem .now) (a .base)) _ (c .before .before .before .before .before .before .before .before .before .before .before .before .before .before .before .before .before .before .before .before .before .before .before .queue-ok .ensures) _ _ (c .before .before .before .before .before .before .before .before .before .before .before .before .before .before .before .before .before .before .before .before .before .before .if1 .left) _ (c .before .before .before .before .before .before .before .before .before .before .before .before .before .before .before .before .before .before .before .before .can-report .ensures) (c .before .before .before .before .before .before .before .before .before .before .before .before .before .before .before .before .before .before .before .if2 .left) _ (c .before .before .before .before .before .before .before .taken .given .1)
-    (about-met (c .before .before .before .before .before .before .before .before .before .before .before .before .before .before .before .host-answer .ensures) _ _ _ _ _ _ (c .before .before .before .before .before .ending-of .ensures) (c .before .before .before .settle .ensures) (c .tells4 .ensures))
+returns-3 c =
+    let a = c .before .before .before .before .before .before .before .before .before .before .before .before .before .before .before .before .before .before .before .before .before .before .before .before .before .args in
+    answer-heard (a .d) (a .bitmap .now) (a .table .now) (a .q) (guestOf (a .mem .now) (a .base)) _ _ _ (c .before .before .before .before .before .before .before .before .before .before .before .before .before .before .before .before .before .before .before .before .queue-refusal .ensures) (eq-eqb _ _ (c .before .before .before .before .before .before .before .before .before .before .before .before .before .before .before .before .before .before .before .if1 .left)) _ (c .before .before .before .before .before .before .before .taken .given .1)
+    (about-met (c .before .before .before .before .before .before .before .before .before .before .before .before .before .before .before .host-answer .ensures) _ _ _ _ _ _ (c .before .before .before .before .before .ending-of .ensures) (c .before .before .before .settle .ensures) (c .tells3 .ensures))
 
 pub host-answer-spec : {M : Type 1} → statement M
 host-answer-spec =
     tie.close
     (tie.spec
-    queue-ok-requires
+    queue-refusal-requires
     tells-requires
-    returns
-    can-report-requires
-    pending-refusal-requires
-    first-of-requires
-    tells-requires-2
     same-length
-    returns-2
+    returns
     host-answer-requires
     enum-known-taken
     enum-told
-    tells-requires-3
+    tells-requires-2
     same-length-2
     same-length-3
     same-length-4
-    returns-3
+    returns-2
     ending-of-requires
     settle-requires
-    tells-requires-4
+    tells-requires-3
     same-length-5
     same-length-6
     same-length-7
-    returns-4)
+    returns-3)

@@ -1,0 +1,45 @@
+-- `queue::queue_refusal` meets its contract: 12, then nothing where the head can be reported, and 14 behind the device's numbers.
+use Rattle.units.proofs.Tests.{passed, refused}
+use Rattle.queue.specs.Queue.{queueRefusal}
+use borrow.Author.Needs.{needs}
+use Rattle.queue.proofs.queue_refusal.Statement.{statement}
+use Rattle.queue.proofs.queue_refusal.Tie as tie
+
+queue-ok-requires : tie.Need-queue-ok-requires
+queue-ok-requires c κs = search needs
+
+returns : tie.Need-returns
+unfolding queueRefusal
+returns c = rw (refused _ _ (c .before .queue-ok .ensures) (c .if1 .taken))
+
+can-report-requires : tie.Need-can-report-requires
+can-report-requires c κs = search needs
+
+returns-2 : tie.Need-returns-2
+unfolding queueRefusal
+returns-2 c =
+    rw (passed _ _ (c .before .before .before .queue-ok .ensures) (c .before .before .if1 .left), ← c .before .can-report .ensures, c .if2 .taken)
+
+pending-refusal-requires : tie.Need-pending-refusal-requires
+pending-refusal-requires c κs = search needs
+
+first-of-requires : tie.Need-first-of-requires
+first-of-requires c κs = search needs
+
+returns-3 : tie.Need-returns-3
+unfolding queueRefusal
+returns-3 c =
+    rw (passed _ _ (c .before .before .before .before .before .queue-ok .ensures) (c .before .before .before .before .if1 .left), ← c .before .before .before .can-report .ensures, c .before .before .if2 .left, ← c .before .pending-refusal .ensures)
+    (c .first-of .ensures)
+
+pub queue-refusal-spec : {M : Type 1} → statement M
+queue-refusal-spec =
+    tie.close
+    (tie.spec
+    queue-ok-requires
+    returns
+    can-report-requires
+    returns-2
+    pending-refusal-requires
+    first-of-requires
+    returns-3)
