@@ -5,3 +5,4 @@ pub mod InTable
 pub mod Behind
 pub mod Edges
 pub mod Once
+pub mod Lengths
