@@ -1,53 +1,128 @@
 -- The ways through the exports on a queue: what the queue's call promises, as words, and 12 where there is no record, or no queue. Assumes nothing.
-use Prim.Native.Nat.{ℕ, _≤_, _<_}
+use Prim.Native.Nat.{ℕ, _+_, _≤_, _<_}
 use mathlib.Core.Path.{_≡_, refl, sym, ap, _∙_}
-use mathlib.Core.List.{List}
-use lib.ListN.{length}
+use mathlib.Core.List.{List, [], append-nil}
+use native.Mathlib.Omega.{arith}
+use lib.ListN.{length, drop}
+use lib.Seq.{drop-length}
 use borrow.Author.Tests.{le-leb, lt-leb}
+use Rattle.rows.proofs.Words.{whole}
 use Rattle.little_endian.specs.Bytes.{put}
+use Rattle.little_endian.proofs.Laws.{put-fits}
 use Rattle.record.specs.declared.Device.{Device}
 use Rattle.rings.specs.declared.Queue.{Queue}
-use Rattle.step.specs.declared.Answer.the-variants.{Refused}
+use Rattle.record.specs.declared.HostCall.the-variants.{Create, Discard}
+use Rattle.step.specs.declared.Answer.{Answer}
+use Rattle.step.specs.declared.Answer.the-variants.{Refused, Wants, Sized, Unserved, Served, Done}
+use Rattle.step.specs.World.{Outcome, worldOf}
 use Rattle.step.specs.Answers.{answerWords}
-use Rattle.queue.specs.declared.Turn.{Turn}
-use Rattle.queue.specs.Queue.{QueueOutcome, MeetsTurn, queueAnswerWords, queueNumberOf}
+use Rattle.step.proofs.Lengths.{Short}
+use Rattle.queue.specs.declared.QueueAnswer.{QueueAnswer}
+use Rattle.queue.specs.declared.Ending.{Ending}
+use Rattle.queue.specs.Queue.{QueueOutcome, endingOf, queueBy, unmoved, aside, about, Settled, queueAnswerWords, queueNumberOf}
 use Rattle.words.specs.declared.Decoded.{Decoded}
 use Rattle.words.specs.declared.Decoded.the-variants.{Is, NoRecord}
 use Rattle.words.specs.Record.{wordsOf, decodedOf}
-use Rattle.words.proofs.Laws.{decoded-long}
+use Rattle.words.proofs.Laws.{decoded-encodes}
 use Rattle.queue_words.specs.declared.DecodedQueue.{DecodedQueue}
 use Rattle.queue_words.specs.declared.DecodedQueue.the-variants.{Is as IsQueue, NoQueue}
-use Rattle.queue_words.specs.Words.{queueWords, decodedQueueOf}
-use Rattle.queue_words.proofs.Laws.{decoded-long as queue-long}
-use Rattle.capi.specs.Exports.{lent}
+use Rattle.queue_words.specs.Words.{queueWords, decodedQueueOf, endingWords}
+use Rattle.queue_words.proofs.Laws.{decoded-long as queue-long, decoded-encodes as queue-encodes, ending-told}
+use Rattle.capi.specs.Exports.{lent, Told, Called, Exported}
 use Rattle.capi.specs.Queue.{QueueMadeIn, queueLent, QueueCalled, QueueExported}
 
--- what the queue's call promises, written out as words, is what the export promises
-pub turned : (call : Device → Queue → QueueOutcome) (words queue : List ℕ)
-    → (r : Decoded) → r ≡ decodedOf words → (d : Device) → r ≡ Is d
-    → (x : DecodedQueue) → x ≡ decodedQueueOf queue → (q : Queue) → x ≡ IsQueue q
-    → (s : Turn) (words′ queue′ answer answer′ bitmap bitmap′ table table′ bytes bytes′ : List ℕ) (number : ℕ)
-    → MeetsTurn (call d q) s bitmap′ table table′ bytes′
-    → (words′ ≡ put words 0 (wordsOf (s .device))) × (15 ≤ length words → decodedOf words′ ≡ Is (s .device))
-    → (queue′ ≡ put queue 0 (queueWords (s .queue))) × (6 ≤ length queue → decodedQueueOf queue′ ≡ IsQueue (s .queue))
-    → (number ≡ queueNumberOf (s .answer)) × (answer′ ≡ put answer 0 (queueAnswerWords (s .answer)))
-    → QueueExported call (queueLent queue (lent words answer bitmap table bytes)) (queueLent queue′ (lent words′ answer′ bitmap′ table′ bytes′)) number
-unfolding QueueCalled
-turned call words queue r e d f x h q i s words′ queue′ answer answer′ bitmap bitmap′ table table′ bytes bytes′ number m w v t =
-    let is : decodedOf words ≡ Is d = sym e ∙ f in
-    let is-queue : decodedQueueOf queue ≡ IsQueue q = sym h ∙ i in
-    rw (is, is-queue)
-    (record {
-      numbered = t .0 ∙ ap queueNumberOf (m .answered);
-      recorded = w .0 ∙ ap (λ (d : Device). put words 0 (wordsOf d)) (m .recorded);
-      decodes = w .1 (decoded-long words d is) ∙ ap Is (m .recorded);
-      queued = v .0 ∙ ap (λ (q : Queue). put queue 0 (queueWords q)) (m .queued);
-      queue-decodes = v .1 (queue-long queue q is-queue) ∙ ap IsQueue (m .queued);
-      told = t .1 ∙ ap (put answer 0) (m .told);
-      marked = m .marked;
-      mapped = m .mapped;
-      left = m .left;
-    })
+-- ---- an answer's nine words
+nine : (a : Answer) → length (answerWords a) ≡ 9
+nine (Refused n) = refl
+nine (Wants (Create guest size slot)) = refl
+nine (Wants (Discard offset size host)) = refl
+nine Sized = refl
+nine (Unserved reason) = refl
+nine (Served resp used) = refl
+nine Done = refl
+
+-- where there is just room for them, they are all that stands there
+put-whole : (xs ys : List ℕ) → length xs ≡ length ys → put xs 0 ys ≡ ys
+put-whole xs ys e =
+    let none : drop (length ys) xs ≡ [] = rw (← e) (drop-length xs) in
+    let sum : 0 + length ys ≡ length ys = omega arith in
+    put-fits xs 0 ys (omega arith) ∙ rw (sum, none) (append-nil ys)
+
+module _ (call : Device → Queue → QueueOutcome) (words queue : List ℕ) (r : Decoded) (e : r ≡ decodedOf words) (d : Device) (f : r ≡ Is d)
+    (x : DecodedQueue) (h : x ≡ decodedQueueOf queue) (q : Queue) (i : x ≡ IsQueue q) where
+  is : decodedOf words ≡ Is d
+  is = sym e ∙ f
+
+  is-queue : decodedQueueOf queue ≡ IsQueue q
+  is-queue = sym h ∙ i
+
+  -- a call that takes no head and changes nothing: only the answer is written
+  pub unmoved-told : (t : QueueAnswer) (answer answer′ bitmap table bytes : List ℕ) (number : ℕ) → call d q ≡ unmoved t (worldOf d bitmap table) q bytes
+      → (number ≡ queueNumberOf t) × (answer′ ≡ put answer 0 (queueAnswerWords t))
+      → QueueExported call (queueLent queue (lent words answer bitmap table bytes)) (queueLent queue (lent words answer′ bitmap table bytes)) number
+  unfolding QueueCalled
+  unmoved-told t answer answer′ bitmap table bytes number same told =
+      rw (is, is-queue, same)
+      (record {
+        numbered = told .0;
+        recorded = sym (decoded-encodes words d is);
+        decodes = is;
+        queued = sym (queue-encodes queue q is-queue);
+        queue-decodes = is-queue;
+        told = told .1;
+        marked = refl;
+        mapped = sym (whole table);
+        left = refl;
+      })
+
+  -- a call of the device on the same words
+  module _ (device : Device → Outcome) (told told′ words′ bitmap bitmap′ table table′ bytes bytes′ : List ℕ) (number : ℕ)
+      (kept : Exported device (lent words told bitmap table bytes) (lent words′ told′ bitmap′ table′ bytes′) number) where
+    tells : Told (device d) (lent words told bitmap table bytes) (lent words′ told′ bitmap′ table′ bytes′) number
+    unfolding Called
+    tells = rw is at kept
+
+    -- that is about no head: its answer is the call's
+    pub aside-told : call d q ≡ aside q (device d)
+        → QueueExported call (queueLent queue (lent words told bitmap table bytes)) (queueLent queue (lent words′ told′ bitmap′ table′ bytes′)) number
+    unfolding QueueCalled
+    aside-told same =
+        rw (is, is-queue, same)
+        (record {
+          numbered = tells .numbered;
+          recorded = tells .recorded;
+          decodes = tells .decodes;
+          queued = sym (queue-encodes queue q is-queue);
+          queue-decodes = is-queue;
+          told = tells .told;
+          marked = tells .marked;
+          mapped = tells .mapped;
+          left = tells .left;
+        })
+
+    -- that is about a head: its ending is read from its nine words, which are passed on
+    pub about-told : length told ≡ 9 → Short (device d .answer) → (head base : ℕ) (before out : Queue) → call d q ≡ about head base before out (device d)
+        → (ending : Ending) → ending ≡ endingWords told′ → (now : Queue) (queue′ answer answer′ bytes″ : List ℕ) → Settled ending head base before out bytes′ now bytes″
+        → (queue′ ≡ put queue 0 (queueWords now)) × (6 ≤ length queue → decodedQueueOf queue′ ≡ IsQueue now) → answer′ ≡ put answer 0 told′
+        → QueueExported call (queueLent queue (lent words answer bitmap table bytes)) (queueLent queue′ (lent words′ answer′ bitmap′ table′ bytes″)) number
+    unfolding QueueCalled
+    about-told room short head base before out same ending ending-is now queue′ answer answer′ bytes″ settled written passed =
+        let a = device d .answer in
+        let said : told′ ≡ answerWords a = tells .told ∙ put-whole told (answerWords a) (room ∙ sym (nine a)) in
+        let ends : ending ≡ endingOf a = ending-is ∙ ap endingWords said ∙ ending-told a short in
+        let now-is : now ≡ queueBy (endingOf a) before out = rw ends at (settled .queued) in
+        rw (is, is-queue, same)
+        (record {
+          numbered = tells .numbered;
+          recorded = tells .recorded;
+          decodes = tells .decodes;
+          queued = written .0 ∙ ap (λ (k : Queue). put queue 0 (queueWords k)) now-is;
+          queue-decodes = written .1 (queue-long queue q is-queue) ∙ ap IsQueue now-is;
+          told = passed ∙ ap (put answer 0) said;
+          marked = tells .marked;
+          mapped = tells .mapped;
+          left = rw (ends, tells .left) at (settled .left);
+        })
 
 -- no record: only the answer is written
 pub no-record : (call : Device → Queue → QueueOutcome) (words queue : List ℕ) (r : Decoded) → r ≡ decodedOf words → r ≡ NoRecord

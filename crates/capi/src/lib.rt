@@ -1,6 +1,8 @@
 // SPDX-License-Identifier: Apache-2.0 AND BSD-3-Clause
 // The static library: each call of the device and of its queue for C and Rust, the record and the queue as words. Words that are no record, or no queue, are refused with 12.
+use answer_words::ANSWER_WORDS;
 use answer_words::number_of;
+use answer_words::pass_on;
 use answer_words::tell;
 use device::read_config;
 use device::write_config;
@@ -9,11 +11,16 @@ use making::Mem;
 use making::Node;
 use placing::place;
 use placing::set_requested_size;
-use queue::serve_next;
+use queue::Taking;
+use queue::next_taking;
+use queue::queue_refusal;
+use queue::settle;
+use queue::took_head;
 use queue_words::DecodedQueue;
 use queue_words::QUEUE_WORDS;
 use queue_words::decode_queue;
 use queue_words::encode_queue;
+use queue_words::ending_told;
 use queue_words::tell_queue;
 use rings::Queue;
 use rings::Taken;
@@ -239,13 +246,28 @@ pub extern "C" fn jambcopper_serve(
     let DecodedQueue::Is(q) = decode_queue(&queue[..]) else {
         return tell(Answer::Refused(12), answer);
     };
-    let s = serve_next(d, q, bitmap, table, mem, GuestAddr(base));
-    let d = s.device;
-    let q = s.queue;
-    let a = s.answer;
-    encode(d, words);
-    encode_queue(q, queue);
-    tell_queue(a, answer)
+    match next_taking(d, q, bitmap.len(), table.len(), &mem[..], GuestAddr(base)) {
+        Taking::Told(told) => tell_queue(told, answer),
+        Taking::Walk(head) => {
+            // Words of its own: those that are lent may be too few to read the head's ending from.
+            let mut told: [u64; ANSWER_WORDS] = [0; ANSWER_WORDS];
+            let number = jambcopper_request(
+                words,
+                bitmap,
+                table,
+                mem,
+                base,
+                q.descriptors.0,
+                head,
+                &mut told,
+            );
+            let ending = ending_told(told);
+            let now = settle(ending, head, q, took_head(q, head), mem, GuestAddr(base));
+            encode_queue(now, queue);
+            pass_on(told, answer);
+            number
+        }
+    }
 }
 
 // The host's answer to what it was asked; it may end the request of the head that is out.
@@ -273,22 +295,21 @@ pub extern "C" fn jambcopper_serve_answer(
     let DecodedQueue::Is(q) = decode_queue(&queue[..]) else {
         return tell(Answer::Refused(12), answer);
     };
-    let s = queue::host_answer(
-        d,
-        q,
-        bitmap,
-        table,
-        mem,
-        GuestAddr(base),
-        ok,
-        HostAddr(host),
-    );
-    let d = s.device;
-    let q = s.queue;
-    let a = s.answer;
-    encode(d, words);
-    encode_queue(q, queue);
-    tell_queue(a, answer)
+    let refused = queue_refusal(d, q, bitmap.len(), table.len(), &mem[..], GuestAddr(base));
+    if refused != 0 {
+        return tell(Answer::Refused(refused), answer);
+    }
+    let taken = q.taken;
+    let Taken::Head(head) = taken else {
+        return jambcopper_host_answer(words, bitmap, table, mem, base, ok, host, answer);
+    };
+    let mut told: [u64; ANSWER_WORDS] = [0; ANSWER_WORDS];
+    let number = jambcopper_host_answer(words, bitmap, table, mem, base, ok, host, &mut told);
+    let ending = ending_told(told);
+    let now = settle(ending, head, q, q, mem, GuestAddr(base));
+    encode_queue(now, queue);
+    pass_on(told, answer);
+    number
 }
 
 // Reads the config.

@@ -105,31 +105,36 @@ module _ (d : Device) (bitmap table : List ℕ) (q : Queue) (g : Guest) where
       record { answered = rw is; told = rw is; recorded = rw is; queued = rw is; marked = refl; mapped = sym (whole table); left = refl }
 
   -- ---- taking the next head
-  taken-as : (x : Taking) → x ≡ takingOf d q (8 * length bitmap) (length table / 3) (g .mem) (g .base) → serveNext (worldOf d bitmap table) q g ≡ walks x (worldOf d bitmap table) q g
-  taken-as x e = by-taking (worldOf d bitmap table) q g ∙ rw (blocks-length bitmap, count table, ← e)
+  module _ (x : Taking) (x-is : x ≡ takingOf d q (8 * length bitmap) (length table / 3) (g .mem) (g .base)) where
+    taken-as : serveNext (worldOf d bitmap table) q g ≡ walks x (worldOf d bitmap table) q g
+    taken-as = by-taking (worldOf d bitmap table) q g ∙ rw (blocks-length bitmap, count table, ← x-is)
 
-  pub next-none : {t : Turn} (x : Taking) → x ≡ takingOf d q (8 * length bitmap) (length table / 3) (g .mem) (g .base) → (told : QueueAnswer) → x ≡ Told told
-      → t ≡ turned d q told → MeetsTurn (serveNext (worldOf d bitmap table) q g) t bitmap table table (g .mem)
-  unfolding walks
-  next-none x e told f is = rw (taken-as x e, f) (unchanged told is)
+    pub told-as : (told : QueueAnswer) → x ≡ Told told → serveNext (worldOf d bitmap table) q g ≡ unmoved told (worldOf d bitmap table) q (g .mem)
+    unfolding walks
+    told-as told e = taken-as ∙ rw e
 
-  pub next-taken : {t : Turn} {bitmap′ table′ bytes : List ℕ} (x : Taking) → x ≡ takingOf d q (8 * length bitmap) (length table / 3) (g .mem) (g .base) → (head : ℕ) → x ≡ Walk head → (out : Queue) → out ≡ tookHead q head
-      → MeetsTurn (about head (g .base) q out (step (worldOf d bitmap table) (Request g (q .descriptors .0) head))) t bitmap′ table table′ bytes → MeetsTurn (serveNext (worldOf d bitmap table) q g) t bitmap′ table table′ bytes
-  unfolding walks
-  next-taken x e head f out out-is m = rw (taken-as x e, f) (rw out-is at m)
+    pub walk-as : (head : ℕ) → x ≡ Walk head → (out : Queue) → out ≡ tookHead q head
+        → serveNext (worldOf d bitmap table) q g ≡ about head (g .base) q out (step (worldOf d bitmap table) (Request g (q .descriptors .0) head))
+    unfolding walks
+    walk-as head e out out-is = taken-as ∙ rw (e, out-is)
+
+    pub next-none : {t : Turn} (told : QueueAnswer) → x ≡ Told told → t ≡ turned d q told → MeetsTurn (serveNext (worldOf d bitmap table) q g) t bitmap table table (g .mem)
+    next-none told e is = rw (told-as told e) (unchanged told is)
 
   -- ---- the host's answer
   module _ (ok : Bool) (host n : ℕ) (n-is : n ≡ queueRefusal d q (8 * length bitmap) (length table / 3) (length (g .mem)) (g .base)) where
     answered-as : hostAnswers (worldOf d bitmap table) q g ok host ≡ unlessRefused n (worldOf d bitmap table) q (g .mem) (answers (q .taken) q (g .base) (step (worldOf d bitmap table) (HostAnswer g ok host)))
     answered-as = by-refusal (worldOf d bitmap table) q g ok host ∙ rw (blocks-length bitmap, count table, ← n-is)
 
-    pub answer-refused : {t : Turn} → eqb n 0 ≡ false → t ≡ turned d q (Of (Refused n)) → MeetsTurn (hostAnswers (worldOf d bitmap table) q g ok host) t bitmap table table (g .mem)
+    pub refused-as : eqb n 0 ≡ false → hostAnswers (worldOf d bitmap table) q g ok host ≡ unmoved (Of (Refused n)) (worldOf d bitmap table) q (g .mem)
     unfolding unlessRefused
-    answer-refused some is = rw (answered-as, some) (unchanged (Of (Refused n)) is)
+    refused-as some = answered-as ∙ rw some
 
-    pub answer-heard : {t : Turn} {bitmap′ table′ bytes : List ℕ} → eqb n 0 ≡ true → (taken : Taken) → q .taken ≡ taken
-        → MeetsTurn (answers taken q (g .base) (step (worldOf d bitmap table) (HostAnswer g ok host))) t bitmap′ table table′ bytes → MeetsTurn (hostAnswers (worldOf d bitmap table) q g ok host) t bitmap′ table table′ bytes
+    pub heard-as : eqb n 0 ≡ true → (taken : Taken) → q .taken ≡ taken → hostAnswers (worldOf d bitmap table) q g ok host ≡ answers taken q (g .base) (step (worldOf d bitmap table) (HostAnswer g ok host))
     unfolding unlessRefused
-    answer-heard none taken e m =
+    heard-as none taken e =
         let o = step (worldOf d bitmap table) (HostAnswer g ok host) in
-        rw (answered-as, none, ap (λ (x : Taken). answers x q (g .base) o) e) m
+        answered-as ∙ rw (none, ap (λ (x : Taken). answers x q (g .base) o) e)
+
+    pub answer-refused : {t : Turn} → eqb n 0 ≡ false → t ≡ turned d q (Of (Refused n)) → MeetsTurn (hostAnswers (worldOf d bitmap table) q g ok host) t bitmap table table (g .mem)
+    answer-refused some is = rw (refused-as some) (unchanged (Of (Refused n)) is)

@@ -1,7 +1,7 @@
 -- Encoding and decoding are inverse: a queue reads back from its words, and words that are a queue's are what it is written as. Assumes nothing.
 use Prim.Native.Nat.{ℕ, _+_, _-_, _≤_}
 use mathlib.Core.Path.{_≡_, refl, sym, ap}
-use mathlib.Core.Bool.{Bool, true, false, _&&_}
+use mathlib.Core.Bool.{Bool, true, false, cond, _&&_}
 use mathlib.Core.List.{List, _++_}
 use native.Mathlib.Omega.{arith}
 use lib.Dec.{leb, eqb}
@@ -17,7 +17,16 @@ use Rattle.rings.specs.declared.Taken.{Taken}
 use Rattle.rings.specs.declared.Taken.the-variants.{Nothing, Head}
 use Rattle.queue_words.specs.declared.DecodedQueue.{DecodedQueue}
 use Rattle.queue_words.specs.declared.DecodedQueue.the-variants.{Is, NoQueue}
-use Rattle.queue_words.specs.Words.{takenWord, takenOf, queueWords, isQueue, queueOf, decodedQueueOf}
+use Rattle.wire.specs.declared.VirtioMemResp.{VirtioMemResp}
+use Rattle.record.specs.declared.HostCall.{HostCall}
+use Rattle.record.specs.declared.HostCall.the-variants.{Create, Discard}
+use Rattle.step.specs.declared.Answer.{Answer}
+use Rattle.step.specs.declared.Answer.the-variants.{Refused, Wants, Sized, Unserved, Served, Done}
+use Rattle.step.specs.Answers.{answerWords}
+use Rattle.step.proofs.Lengths.{Short}
+use Rattle.queue.specs.declared.Ending.the-variants.{Out, Used}
+use Rattle.queue.specs.Queue.{endingOf}
+use Rattle.queue_words.specs.Words.{takenWord, takenOf, queueWords, isQueue, queueOf, decodedQueueOf, endingWords}
 
 -- ---- the tests of a queue
 -- what the tests of `isQueue` say
@@ -112,3 +121,23 @@ decoded-long ws q h = queue-fits ws (decoded-fits ws q h .0) .long
 -- what decodes encodes to the same words
 pub decoded-encodes : (ws : List ℕ) (q : Queue) → decodedQueueOf ws ≡ Is q → put ws 0 (queueWords q) ≡ ws
 decoded-encodes ws q h = rw (← decoded-fits ws q h .1) (queue-written ws)
+
+-- ---- an answer's ending reads back from its words
+ending-question : (call : HostCall) → endingWords (answerWords (Wants call)) ≡ Out
+unfolding endingWords
+ending-question (Create guest size slot) = refl
+ending-question (Discard offset size host) = refl
+
+ending-served : (resp : VirtioMemResp) (t : Bool) → endingWords (answerWords (Served resp (cond t 10 0))) ≡ Used (cond t 10 0)
+unfolding endingWords
+ending-served resp true = refl
+ending-served resp false = refl
+
+pub ending-told : (a : Answer) → Short a → endingWords (answerWords a) ≡ endingOf a
+unfolding endingWords Short
+ending-told (Refused n) s = refl
+ending-told (Wants call) s = ending-question call
+ending-told Sized s = refl
+ending-told (Unserved reason) s = refl
+ending-told (Served resp len) s = rw (s .1) (ending-served resp (s .0))
+ending-told Done s = refl

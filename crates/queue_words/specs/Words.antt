@@ -8,6 +8,8 @@ use Rattle.rings.specs.declared.Queue.{Queue}
 use Rattle.rings.specs.declared.Taken.{Taken}
 use Rattle.rings.specs.declared.Taken.the-variants.{Nothing, Head}
 use Rattle.words.specs.Record.{word}
+use Rattle.queue.specs.declared.Ending.{Ending}
+use Rattle.queue.specs.declared.Ending.the-variants.{Stays, Out, Used}
 use Rattle.queue_words.specs.declared.DecodedQueue.{DecodedQueue}
 use Rattle.queue_words.specs.declared.DecodedQueue.the-variants.{Is, NoQueue}
 
@@ -51,3 +53,11 @@ queueOf ws =
 -- what words mean: no queue where they are no encoding of one
 unfoldable pub decodedQueueOf : List ℕ → DecodedQueue
 decodedQueueOf ws = cond (isQueue ws) (Is (queueOf ws)) NoQueue
+
+-- ---- what the nine words of an answer mean for the head that it is about: kinds 1 and 2 ask the host, 4 serves no request, 5 responds with a used length of 10 or 0 (`ending-told`)
+unfoldable pub endingWords : List ℕ → Ending
+endingWords ws =
+    cond (eqb (word ws 0) 1) Out
+    (cond (eqb (word ws 0) 2) Out
+    (cond (eqb (word ws 0) 4) (Used 0)
+    (cond (eqb (word ws 0) 5) (cond (eqb (word ws 7) 0) (Used 0) (Used 10)) Stays)))

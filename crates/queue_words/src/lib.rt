@@ -2,6 +2,7 @@
 // The queue as words, and what a call on it tells, for callers that have no enums: what is no encoding of a queue is told apart from one.
 use answer_words::ANSWER_WORDS;
 use answer_words::tell;
+use queue::Ending;
 use queue::QueueAnswer;
 use rings::Queue;
 use rings::Taken;
@@ -14,7 +15,7 @@ ghost use lib.ListN.{length};
 ghost use Rattle.little_endian.specs.Bytes.{put};
 ghost use Rattle.queue.specs.Queue.{queueAnswerWords, queueNumberOf};
 ghost use Rattle.queue_words.specs.declared.DecodedQueue.the-variants.{Is};
-ghost use Rattle.queue_words.specs.Words.{takenWord, takenOf, queueWords, isQueue, decodedQueueOf};
+ghost use Rattle.queue_words.specs.Words.{takenWord, takenOf, queueWords, isQueue, decodedQueueOf, endingWords};
 
 // A queue's length in words.
 pub const QUEUE_WORDS: usize = 6;
@@ -130,5 +131,26 @@ pub fn tell_queue(answer: QueueAnswer, words: &mut [u64]) -> u64
             0
         }
         QueueAnswer::Of(a) => tell(a, words),
+    }
+}
+
+// What the words of an answer mean for the head that it is about.
+pub fn ending_told(told: [u64; ANSWER_WORDS]) -> Ending
+    ensures { λ r. ⌜ r ≡ endingWords told ⌝ }
+{
+    let kind = told[0];
+    let length = told[7];
+    match kind {
+        1 => Ending::Out,
+        2 => Ending::Out,
+        4 => Ending::Used(0),
+        5 => {
+            if length == 0 {
+                Ending::Used(0)
+            } else {
+                Ending::Used(10)
+            }
+        }
+        _ => Ending::Stays,
     }
 }

@@ -1,5 +1,11 @@
--- `capi::jambcopper_serve_answer` meets its contract: 12 where there is no record, or no queue, else the queue's call. Assumes nothing.
-use Rattle.capi.proofs.QueueWays.{turned, no-record, no-queue}
+-- `capi::jambcopper_serve_answer` meets its contract: 12 where there is no record, or no queue; a number of the queue's; or the device's answer, and the head that is out by it. Assumes nothing.
+use native.Mathlib.Omega.{arith}
+use mathlib.Core.Path.{refl}
+use borrow.Author.Tests.{eq-eqb, ne-eqb}
+use Rattle.step.proofs.Lengths.{answered-short}
+use Rattle.queue.specs.Queue.{answers}
+use Rattle.queue.proofs.Turns.{refused-as, heard-as}
+use Rattle.capi.proofs.QueueWays.{no-record, no-queue, unmoved-told, aside-told, about-told}
 use borrow.Author.Needs.{needs}
 use Rattle.capi.proofs.jambcopper_serve_answer.Statement.{statement}
 use Rattle.capi.proofs.jambcopper_serve_answer.Tie as tie
@@ -48,20 +54,13 @@ same-length-5 c = search needs
 
 returns-2 : tie.Need-returns-2
 returns-2 c =
-    no-queue _ _ _ _ (c .before .before .before .before .before .before .before .before .before .before .before .decode .ensures) _ (c .before .before .before .before .before .before .before .before .before .d .given .1) _ (c .before .before .before .before .before .before .decode-queue .ensures) (c .before .before .before .before .enum-told2 .given .1) _ _ _ _ _ _
-    (c .before .before .tell2 .ensures)
+    no-queue _ _ _ _ (c .before .before .before .before .before .before .before .before .before .before .before .decode .ensures) _ (c .before .before .before .before .before .before .before .before .before .d .given .1) _ (c .before .before .before .before .before .before .decode-queue .ensures) (c .before .before .before .before .enum-told2 .given .1) _ _ _ _ _ _ (c .before .before .tell2 .ensures)
 
-host-answer-requires : tie.Need-host-answer-requires
-host-answer-requires c κs = search needs
+queue-refusal-requires : tie.Need-queue-refusal-requires
+queue-refusal-requires c κs = search needs
 
-encode-requires : tie.Need-encode-requires
-encode-requires c κs = search needs
-
-encode-queue-requires : tie.Need-encode-queue-requires
-encode-queue-requires c κs = search needs
-
-tell-queue-requires : tie.Need-tell-queue-requires
-tell-queue-requires c κs = search needs
+tell-requires-3 : tie.Need-tell-requires-3
+tell-requires-3 c κs = search needs
 
 same-length-6 : tie.Need-same-length-6
 same-length-6 c = search needs
@@ -75,22 +74,90 @@ same-length-8 c = search needs
 same-length-9 : tie.Need-same-length-9
 same-length-9 c = search needs
 
+returns-3 : tie.Need-returns-3
+returns-3 c =
+    unmoved-told _ _ _ _ (c .before .before .before .before .before .before .before .before .before .before .before .before .before .before .before .decode .ensures) _ (c .before .before .before .before .before .before .before .before .before .before .before .before .before .d .given .1) _ (c .before .before .before .before .before .before .before .before .before .before .decode-queue .ensures) _ (c .before .before .before .before .before .before .before .before .q .given .1) _ _ _ _ _ _ _
+    (refused-as _ _ _ _ _ _ _ _ (c .before .before .before .before .before .queue-refusal .ensures) (ne-eqb _ _ (c .before .before .before .before .if1 .taken)))
+    (c .before .before .tell3 .ensures)
+
+enum-known-taken : tie.Need-enum-known-taken
+enum-known-taken c = search needs
+
+enum-told-3 : tie.Need-enum-told-3
+enum-told-3 c = search needs
+
+jambcopper-host-answer-requires : tie.Need-jambcopper-host-answer-requires
+jambcopper-host-answer-requires c κs = search needs
+
 same-length-10 : tie.Need-same-length-10
 same-length-10 c = search needs
 
 same-length-11 : tie.Need-same-length-11
 same-length-11 c = search needs
 
-returns-3 : tie.Need-returns-3
-returns-3 c =
-    turned _ _ _
-    _ (c .before .before .before .before .before .before .before .before .before .before .before .before .before .before .before .before .before .before .before .before .before .before .before .before .before .before .before .before .before .before .before .before .decode .ensures) _ (c .before .before .before .before .before .before .before .before .before .before .before .before .before .before .before .before .before .before .before .before .before .before .before .before .before .before .before .before .before .before .d .given .1)
-    _ (c .before .before .before .before .before .before .before .before .before .before .before .before .before .before .before .before .before .before .before .before .before .before .before .before .before .before .before .decode-queue .ensures) _ (c .before .before .before .before .before .before .before .before .before .before .before .before .before .before .before .before .before .before .before .before .before .before .before .before .before .q .given .1)
-    _ _ _ _ _ _ _ _ _ _ _ _
-    (c .before .before .before .before .before .before .before .before .before .before .before .before .before .before .before .before .before .before .before .before .host-answer .ensures)
-    (c .before .before .before .before .before .before .before .before .before .before .encode .ensures)
-    (c .before .before .before .before .before .before .encode-queue .ensures)
-    (c .before .before .tell-queue .ensures)
+same-length-12 : tie.Need-same-length-12
+same-length-12 c = search needs
+
+same-length-13 : tie.Need-same-length-13
+same-length-13 c = search needs
+
+same-length-14 : tie.Need-same-length-14
+same-length-14 c = search needs
+
+same-length-15 : tie.Need-same-length-15
+same-length-15 c = search needs
+
+returns-4 : tie.Need-returns-4
+unfolding answers
+returns-4 c =
+    aside-told _ _ _ _ (c .before .before .before .before .before .before .before .before .before .before .before .before .before .before .before .before .before .before .before .before .before .before .before .before .before .before .before .before .before .decode .ensures) _ (c .before .before .before .before .before .before .before .before .before .before .before .before .before .before .before .before .before .before .before .before .before .before .before .before .before .before .before .d .given .1) _ (c .before .before .before .before .before .before .before .before .before .before .before .before .before .before .before .before .before .before .before .before .before .before .before .before .decode-queue .ensures) _ (c .before .before .before .before .before .before .before .before .before .before .before .before .before .before .before .before .before .before .before .before .before .before .q .given .1)
+    _ _ _ _ _ _ _ _ _ _ _ (c .before .before .before .before .before .before .before .before .before .before .jambcopper-host-answer .ensures)
+    (heard-as _ _ _ _ _ _ _ _ (c .before .before .before .before .before .before .before .before .before .before .before .before .before .before .before .before .before .before .before .queue-refusal .ensures) (eq-eqb _ _ (c .before .before .before .before .before .before .before .before .before .before .before .before .before .before .before .before .before .before .if1 .left)) _ (c .before .before .before .before .before .before .before .before .before .before .before .before .before .before .before .before .enum-told3 .given .1))
+
+slice-aggregate-jambcopper-host-answer : tie.Need-slice-aggregate-jambcopper-host-answer
+slice-aggregate-jambcopper-host-answer c = search needs
+
+jambcopper-host-answer-requires-2 : tie.Need-jambcopper-host-answer-requires-2
+jambcopper-host-answer-requires-2 c κs = search needs
+
+ending-told-requires : tie.Need-ending-told-requires
+ending-told-requires c κs = search needs
+
+settle-requires : tie.Need-settle-requires
+settle-requires c κs = search needs
+
+encode-queue-requires : tie.Need-encode-queue-requires
+encode-queue-requires c κs = search needs
+
+pass-on-requires : tie.Need-pass-on-requires
+pass-on-requires c κs = search needs
+
+same-length-16 : tie.Need-same-length-16
+same-length-16 c = search needs
+
+same-length-17 : tie.Need-same-length-17
+same-length-17 c = search needs
+
+same-length-18 : tie.Need-same-length-18
+same-length-18 c = search needs
+
+same-length-19 : tie.Need-same-length-19
+same-length-19 c = search needs
+
+same-length-20 : tie.Need-same-length-20
+same-length-20 c = search needs
+
+same-length-21 : tie.Need-same-length-21
+same-length-21 c = search needs
+
+returns-5 : tie.Need-returns-5
+unfolding answers
+returns-5 c =
+    about-told _ _ _ _ (c .before .before .before .before .before .before .before .before .before .before .before .before .before .before .before .before .before .before .before .before .before .before .before .before .before .before .before .before .before .before .before .before .before .before .before .before .before .before .before .before .before .before .decode .ensures) _ (c .before .before .before .before .before .before .before .before .before .before .before .before .before .before .before .before .before .before .before .before .before .before .before .before .before .before .before .before .before .before .before .before .before .before .before .before .before .before .before .before .d .given .1) _ (c .before .before .before .before .before .before .before .before .before .before .before .before .before .before .before .before .before .before .before .before .before .before .before .before .before .before .before .before .before .before .before .before .before .before .before .before .before .decode-queue .ensures) _ (c .before .before .before .before .before .before .before .before .before .before .before .before .before .before .before .before .before .before .before .before .before .before .before .before .before .before .before .before .before .before .before .before .before .before .before .q .given .1)
+    _ _ _ _ _ _ _ _ _ _ _ (c .before .before .before .before .before .before .before .before .before .before .before .before .before .before .before .before .before .before .before .before .before .before .jambcopper-host-answer2 .ensures)
+    refl (answered-short _ _ _ _) _ _ _ _
+    (heard-as _ _ _ _ _ _ _ _ (c .before .before .before .before .before .before .before .before .before .before .before .before .before .before .before .before .before .before .before .before .before .before .before .before .before .before .before .before .before .before .before .before .queue-refusal .ensures) (eq-eqb _ _ (c .before .before .before .before .before .before .before .before .before .before .before .before .before .before .before .before .before .before .before .before .before .before .before .before .before .before .before .before .before .before .before .if1 .left)) _ (c .before .before .before .before .before .before .before .before .before .before .before .before .before .before .before .before .before .before .before .before .before .before .before .before .before .before .before .before .before .taken .given .1))
+    _ (c .before .before .before .before .before .before .before .before .before .before .before .before .ending-told .ensures) _ _ _ _ _ (c .before .before .before .before .before .before .before .before .before .before .settle .ensures) (c .before .before .before .before .before .before .encode-queue .ensures) (c .before .before .pass-on .ensures)
 
 pub jambcopper-serve-answer-spec : {M : Type 1} → statement M
 jambcopper-serve-answer-spec =
@@ -111,14 +178,33 @@ jambcopper-serve-answer-spec =
     same-length-4
     same-length-5
     returns-2
-    host-answer-requires
-    encode-requires
-    encode-queue-requires
-    tell-queue-requires
+    queue-refusal-requires
+    tell-requires-3
     same-length-6
     same-length-7
     same-length-8
     same-length-9
+    returns-3
+    enum-known-taken
+    enum-told-3
+    jambcopper-host-answer-requires
     same-length-10
     same-length-11
-    returns-3)
+    same-length-12
+    same-length-13
+    same-length-14
+    same-length-15
+    returns-4
+    slice-aggregate-jambcopper-host-answer
+    jambcopper-host-answer-requires-2
+    ending-told-requires
+    settle-requires
+    encode-queue-requires
+    pass-on-requires
+    same-length-16
+    same-length-17
+    same-length-18
+    same-length-19
+    same-length-20
+    same-length-21
+    returns-5)

@@ -3,7 +3,7 @@ use native.Mathlib.Omega.{arith}
 use borrow.Author.Tests.{eq-eqb, ne-eqb}
 use Rattle.step.specs.World.{guestOf}
 use Rattle.queue.specs.Queue.{answers}
-use Rattle.queue.proofs.Turns.{about-met, aside-met, answer-refused, answer-heard}
+use Rattle.queue.proofs.Turns.{about-met, aside-met, answer-refused, heard-as}
 use borrow.Author.Needs.{needs}
 use Rattle.queue.proofs.host_answer.Statement.{statement}
 use Rattle.queue.proofs.host_answer.Tie as tie
@@ -47,7 +47,7 @@ returns-2 : tie.Need-returns-2
 unfolding answers
 returns-2 c =
     let a = c .before .before .before .before .before .before .before .before .before .before .before .before .before .before .before .before .before .before .before .args in
-    answer-heard (a .d) (a .bitmap .now) (a .table .now) (a .q) (guestOf (a .mem .now) (a .base)) _ _ _ (c .before .before .before .before .before .before .before .before .before .before .before .before .before .before .queue-refusal .ensures) (eq-eqb _ _ (c .before .before .before .before .before .before .before .before .before .before .before .before .before .if1 .left)) _ (c .before .enum-told .given .1)
+    rw (heard-as (a .d) (a .bitmap .now) (a .table .now) (a .q) (guestOf (a .mem .now) (a .base)) _ _ _ (c .before .before .before .before .before .before .before .before .before .before .before .before .before .before .queue-refusal .ensures) (eq-eqb _ _ (c .before .before .before .before .before .before .before .before .before .before .before .before .before .if1 .left)) _ (c .before .enum-told .given .1))
     (aside-met (c .before .before .before .before .before .before .before .before .before .host-answer .ensures) _ (c .tells2 .ensures))
 
 ending-of-requires : tie.Need-ending-of-requires
@@ -72,7 +72,7 @@ returns-3 : tie.Need-returns-3
 unfolding answers
 returns-3 c =
     let a = c .before .before .before .before .before .before .before .before .before .before .before .before .before .before .before .before .before .before .before .before .before .before .before .before .before .args in
-    answer-heard (a .d) (a .bitmap .now) (a .table .now) (a .q) (guestOf (a .mem .now) (a .base)) _ _ _ (c .before .before .before .before .before .before .before .before .before .before .before .before .before .before .before .before .before .before .before .before .queue-refusal .ensures) (eq-eqb _ _ (c .before .before .before .before .before .before .before .before .before .before .before .before .before .before .before .before .before .before .before .if1 .left)) _ (c .before .before .before .before .before .before .before .taken .given .1)
+    rw (heard-as (a .d) (a .bitmap .now) (a .table .now) (a .q) (guestOf (a .mem .now) (a .base)) _ _ _ (c .before .before .before .before .before .before .before .before .before .before .before .before .before .before .before .before .before .before .before .before .queue-refusal .ensures) (eq-eqb _ _ (c .before .before .before .before .before .before .before .before .before .before .before .before .before .before .before .before .before .before .before .if1 .left)) _ (c .before .before .before .before .before .before .before .taken .given .1))
     (about-met (c .before .before .before .before .before .before .before .before .before .before .before .before .before .before .before .host-answer .ensures) _ _ _ _ _ _ (c .before .before .before .before .before .ending-of .ensures) (c .before .before .before .settle .ensures) (c .tells3 .ensures))
 
 pub host-answer-spec : {M : Type 1} → statement M

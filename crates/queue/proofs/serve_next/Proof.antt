@@ -1,7 +1,7 @@
 -- `queue::serve_next` meets its contract: no head that is taken, or a head by the device's answer.
 use native.Mathlib.Omega.{arith}
 use Rattle.step.specs.World.{guestOf}
-use Rattle.queue.proofs.Turns.{about-met, next-none, next-taken}
+use Rattle.queue.proofs.Turns.{about-met, next-none, walk-as}
 use borrow.Author.Needs.{needs}
 use Rattle.queue.proofs.serve_next.Statement.{statement}
 use Rattle.queue.proofs.serve_next.Tie as tie
@@ -50,7 +50,7 @@ same-length-3 c = search needs
 returns-2 : tie.Need-returns-2
 returns-2 c =
     let a = c .before .before .before .before .before .before .before .before .before .before .before .before .before .before .before .before .before .before .before .before .before .before .args in
-    next-taken (a .d) (a .bitmap .now) (a .table .now) (a .q) (guestOf (a .mem .now) (a .base)) _ (c .before .before .before .before .before .before .before .before .before .before .before .before .before .before .before .before .before .next-taking .ensures) _ (c .before .before .before .before .before .before .before .before .before .before .before .before .before .before .before .head .given .1) _ (c .before .before .before .before .before .took-head .ensures)
+    rw (walk-as (a .d) (a .bitmap .now) (a .table .now) (a .q) (guestOf (a .mem .now) (a .base)) _ (c .before .before .before .before .before .before .before .before .before .before .before .before .before .before .before .before .before .next-taking .ensures) _ (c .before .before .before .before .before .before .before .before .before .before .before .before .before .before .before .head .given .1) _ (c .before .before .before .before .before .took-head .ensures))
     (about-met (c .before .before .before .before .before .before .before .before .before .before .before .request .ensures) _ _ _ _ _ _ (c .before .before .before .before .before .before .ending-of .ensures) (c .before .before .before .settle .ensures) (c .tells2 .ensures))
 
 pub serve-next-spec : {M : Type 1} → statement M
