@@ -1,4 +1,5 @@
 pub mod Laws
+pub mod Kept
 pub mod Mapped
 pub mod Entry
 pub mod InTable
