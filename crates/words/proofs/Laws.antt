@@ -1,13 +1,13 @@
 -- Words written one at a time are words written at once. Encoding and decoding are inverse: a record reads back from its words, and words that are a record's are what it is written as. Assumes nothing.
 use Prim.Native.Nat.{ℕ, _+_, _≤_, _<_}
-use mathlib.Core.Path.{_≡_, refl, sym, ap}
+use mathlib.Core.Path.{_≡_, refl, sym, ap, _∙_}
 use mathlib.Core.Bool.{Bool, true, false, _&&_}
 use mathlib.Core.List.{List, [], _∷_, _++_}
 use native.Mathlib.Omega.{arith}
 use native.Mathlib.Numerals.{add-one}
 use lib.Dec.{leb, eqb}
 use lib.ListN.{length, drop, getD, set, length-append, drop-of-length-le}
-use lib.Seq.{drop-cons, set-getD}
+use lib.Seq.{drop-cons, set-getD, getD-set-other}
 use borrow.Author.Tests.{le-leb, leb-true, eqb-true, eqb-false}
 use Rattle.units.proofs.Tests.{by-test, and-left, and-right}
 use Rattle.little_endian.specs.Bytes.{put}
@@ -15,12 +15,12 @@ use Rattle.little_endian.proofs.Laws.{put-fits}
 use Rattle.record.specs.declared.Device.{Device}
 use Rattle.record.specs.declared.Pending.{Pending}
 use Rattle.record.specs.declared.Pending.the-variants.{Nothing, Create, Discard, DiscardOne}
-use Rattle.record.specs.Changes.{pendingTo}
+use Rattle.record.specs.Changes.{pendingTo, placedTo, pluggedTo, usableTo}
 use Rattle.words.specs.declared.Call.{Call}
 use Rattle.words.specs.declared.Call.the-variants.{Known, Unknown}
 use Rattle.words.specs.declared.Decoded.{Decoded}
 use Rattle.words.specs.declared.Decoded.the-variants.{Is, NoRecord}
-use Rattle.words.specs.Record.{bit, word, pendingWords, wordsOf, pendingOf, pendingFits, callOf, isRecord, recordOf, decodedOf}
+use Rattle.words.specs.Record.{bit, word, pendingWords, wordsOf, pendingOf, pendingFits, callOf, isRecord, recordOf, decodedOf, afterRequest, afterAnswer}
 
 -- ---- words one at a time
 
@@ -34,6 +34,15 @@ put-next xs i ys h = rw (drop-cons ys i 0 h, add-one i)
 pub put-none : (xs : List ℕ) (i : ℕ) (ys : List ℕ) → length ys ≤ i → put xs i (drop i ys) ≡ xs
 unfolding put
 put-none xs i ys h = rw (drop-of-length-le ys h)
+
+-- the four words of a pending call, one at a time
+pub four : (p : Pending)
+    → (getD (pendingWords p) 0 0 ∷ getD (pendingWords p) 1 0 ∷ getD (pendingWords p) 2 0 ∷ getD (pendingWords p) 3 0 ∷ [])
+    ≡ pendingWords p
+four Nothing = refl
+four (Create first last) = refl
+four (Discard first count status) = refl
+four (DiscardOne block status) = refl
 
 -- ---- the tests of a record
 
@@ -227,3 +236,72 @@ decoded-long ws d h = record-fits ws (decoded-fits ws d h .0) .long
 -- what decodes encodes to the same words
 pub decoded-encodes : (ws : List ℕ) (d : Device) → decodedOf ws ≡ Is d → put ws 0 (wordsOf d) ≡ ws
 decoded-encodes ws d h = let f = decoded-fits ws d h in rw (← f .1) (record-written ws (f .0))
+
+-- ---- a record in part: where words are a record's, the ones that a call may change are enough
+
+-- a word that is as it was, written again
+again : (xs ws : List ℕ) (j : ℕ) → getD xs j 0 ≡ getD ws j 0 → set xs j (getD ws j 0) ≡ xs
+again xs ws j e = ap (set xs j) (sym e) ∙ set-getD xs j 0
+
+-- beside one that was written, and beside two
+beside : (ws : List ℕ) (a j : ℕ) → 5 < j → set (set ws 5 a) j (getD ws j 0) ≡ set ws 5 a
+beside ws a j h = again (set ws 5 a) ws j (getD-set-other ws 5 j a 0 (λ e. omega arith))
+
+beside-two : (ws : List ℕ) (a b j : ℕ) → 5 < j → set (set (set ws 4 a) 5 b) j (getD ws j 0) ≡ set (set ws 4 a) 5 b
+beside-two ws a b j h =
+    again (set (set ws 4 a) 5 b) ws j
+    (getD-set-other (set ws 4 a) 5 j b 0 (λ e. omega arith) ∙ getD-set-other ws 4 j a 0 (λ e. omega arith))
+
+module _ (ws : List ℕ) (d : Device) (is : decodedOf ws ≡ Is d) where
+  -- a record of the same node reads back
+  reads-back : (d′ : Device) → d′ .config .«node_id» ≡ d .config .«node_id» → decodedOf (put ws 0 (wordsOf d′)) ≡ Is d′
+  unfolding recordOf
+  reads-back d′ same =
+      let f = decoded-fits ws d is in
+      let t = record-fits ws (f .0) in
+      let e : word ws 1 ≡ d .config .«node_id» = ap (λ (d : Device). d .config .«node_id») (f .1) in
+      encoded-decodes d′ ws (rw (same, ← e) (t .node)) (t .long)
+
+  -- of a request
+  pub request-encodes : (plugged : ℕ) (pending : Pending) → let d′ = pendingTo pending (pluggedTo plugged d) in
+      (afterRequest ws d′ ≡ put ws 0 (wordsOf d′)) × (decodedOf (afterRequest ws d′) ≡ Is d′)
+  unfolding afterRequest wordsOf recordOf put
+  request-encodes plugged pending =
+      let f = decoded-fits ws d is in
+      let t = record-fits ws (f .0) in
+      let d′ = pendingTo pending (pluggedTo plugged d) in
+      let e : afterRequest ws d′ ≡ put ws 0 (wordsOf d′) =
+      rw (← f .1)
+      (simp (
+        le-leb _ _ (t .long),
+        flag-written (word ws 8) (t .several),
+        flag-written (word ws 10) (t .placed),
+        set-getD,
+        beside ws plugged 6 (omega arith),
+        beside ws plugged 7 (omega arith),
+        beside ws plugged 8 (omega arith),
+        beside ws plugged 9 (omega arith),
+        beside ws plugged 10 (omega arith),
+      )) in
+      (e, ap decodedOf e ∙ reads-back d′ refl)
+
+  -- of a host's answer
+  pub answer-encodes : (usable plugged : ℕ) (placed : Bool) (pending : Pending) → let d′ = pendingTo pending (placedTo placed (pluggedTo plugged (usableTo usable d))) in
+      (afterAnswer ws d′ ≡ put ws 0 (wordsOf d′)) × (decodedOf (afterAnswer ws d′) ≡ Is d′)
+  unfolding afterAnswer wordsOf recordOf put
+  answer-encodes usable plugged placed pending =
+      let f = decoded-fits ws d is in
+      let t = record-fits ws (f .0) in
+      let d′ = pendingTo pending (placedTo placed (pluggedTo plugged (usableTo usable d))) in
+      let e : afterAnswer ws d′ ≡ put ws 0 (wordsOf d′) =
+      rw (← f .1)
+      (simp (
+        le-leb _ _ (t .long),
+        flag-written (word ws 8) (t .several),
+        set-getD,
+        beside-two ws usable plugged 6 (omega arith),
+        beside-two ws usable plugged 7 (omega arith),
+        beside-two ws usable plugged 8 (omega arith),
+        beside-two ws usable plugged 9 (omega arith),
+      )) in
+      (e, ap decodedOf e ∙ reads-back d′ refl)

@@ -4,6 +4,7 @@ use mathlib.Core.Bool.{Bool, true, false, cond, _&&_}
 use mathlib.Core.List.{List, [], _∷_}
 use lib.Dec.{leb, eqb}
 use lib.ListN.{length, getD}
+use Rattle.little_endian.specs.Bytes.{put}
 use Rattle.record.specs.declared.Device.{Device}
 use Rattle.record.specs.declared.Pending.{Pending}
 use Rattle.record.specs.declared.Pending.the-variants.{Nothing, Create, Discard, DiscardOne}
@@ -39,6 +40,19 @@ wordsOf d =
     ∷ d .«avail_features»
     ∷ bit (d .placed)
     ∷ pendingWords (d .pending)
+
+-- ---- in part
+-- words with what a request may change of a record: the plugged size and the pending call
+unfoldable pub afterRequest : List ℕ → Device → List ℕ
+afterRequest ws d =
+    cond (leb 15 (length ws)) (put (put ws 5 (d .config .«plugged_size» ∷ [])) 11 (pendingWords (d .pending))) ws
+
+-- and with what a host's answer may change: the usable size and whether the device is placed too
+unfoldable pub afterAnswer : List ℕ → Device → List ℕ
+afterAnswer ws d =
+    cond (leb 15 (length ws))
+    (put (put ws 4 (d .config .«usable_region_size» ∷ d .config .«plugged_size» ∷ [])) 10 (bit (d .placed) ∷ pendingWords (d .pending)))
+    ws
 
 -- ---- and back
 -- what four words mean as a pending call

@@ -9,7 +9,7 @@ ghost use Prim.Native.Nat.{_≤_};
 ghost use lib.ListN.{length};
 ghost use Rattle.little_endian.specs.Bytes.{put};
 ghost use Rattle.words.specs.declared.Decoded.the-variants.{Is};
-ghost use Rattle.words.specs.Record.{bit, callOf, decodedOf, wordsOf, pendingWords};
+ghost use Rattle.words.specs.Record.{bit, callOf, decodedOf, wordsOf, pendingWords, afterRequest, afterAnswer};
 
 // A record's length in words.
 pub const RECORD_WORDS: usize = 15;
@@ -168,4 +168,39 @@ pub fn encode(d: Device, words: &mut [u64])
         pending[3],
     ];
     write_words(words, &all);
+}
+
+// Writes of a record what a request may change; nothing where there is no room for a record.
+pub fn encode_request(d: Device, words: &mut [u64])
+    ensures { λ _. ⌜ now (words .exit) ≡ afterRequest (now (words .entry)) d ⌝ }
+{
+    if words.len() < RECORD_WORDS {
+        return;
+    }
+    let p = d.pending;
+    let pending = pending_words(p);
+    words[5] = d.config.plugged_size;
+    words[11] = pending[0];
+    words[12] = pending[1];
+    words[13] = pending[2];
+    words[14] = pending[3];
+}
+
+// Writes of a record what a host's answer may change; nothing where there is no room for a record.
+pub fn encode_answer(d: Device, words: &mut [u64])
+    ensures { λ _. ⌜ now (words .exit) ≡ afterAnswer (now (words .entry)) d ⌝ }
+{
+    if words.len() < RECORD_WORDS {
+        return;
+    }
+    let c = d.config;
+    let p = d.pending;
+    let pending = pending_words(p);
+    words[4] = c.usable_region_size;
+    words[5] = c.plugged_size;
+    words[10] = bit(d.placed);
+    words[11] = pending[0];
+    words[12] = pending[1];
+    words[13] = pending[2];
+    words[14] = pending[3];
 }

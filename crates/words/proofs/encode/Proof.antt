@@ -1,27 +1,16 @@
 -- `words::encode` meets its contract, word by word. Assumes nothing.
 use Prim.Native.Nat.{ℕ}
-use mathlib.Core.Path.{_≡_, refl, ap, _∙_}
+use mathlib.Core.Path.{_≡_, ap, _∙_}
 use mathlib.Core.List.{List, [], _∷_}
 use lib.ListN.{getD}
 use Rattle.little_endian.specs.Bytes.{put}
 use Rattle.record.specs.declared.Device.{Device}
-use Rattle.record.specs.declared.Pending.{Pending}
-use Rattle.record.specs.declared.Pending.the-variants.{Nothing, Create, Discard, DiscardOne}
 use Rattle.words.specs.Record.{bit, pendingWords, wordsOf, decodedOf}
-use Rattle.words.proofs.Laws.{encoded-decodes}
+use Rattle.words.proofs.Laws.{four, encoded-decodes}
 use native.Mathlib.Omega.{arith}
 use borrow.Author.Needs.{needs}
 use Rattle.words.proofs.encode.Statement.{statement}
 use Rattle.words.proofs.encode.Tie as tie
-
--- the four words of a pending call, one at a time
-four : (p : Pending)
-    → (getD (pendingWords p) 0 0 ∷ getD (pendingWords p) 1 0 ∷ getD (pendingWords p) 2 0 ∷ getD (pendingWords p) 3 0 ∷ [])
-    ≡ pendingWords p
-four Nothing = refl
-four (Create first last) = refl
-four (Discard first count status) = refl
-four (DiscardOne block status) = refl
 
 -- the words that the code lays side by side are the record's
 encoded : (d : Device) (ws : List ℕ) (several placed : ℕ) → ws ≡ pendingWords (d .pending) → several ≡ bit (d .«multi_region»)
