@@ -15,13 +15,14 @@ use Rattle.step.specs.declared.Answer.the-variants.{Refused}
 use Rattle.step.specs.World.{Outcome, Meets, worldOf, ReadConfig, WriteConfig}
 use Rattle.step.specs.Step.{step, readConfig, writeConfig}
 use Rattle.record.specs.Shape.{shapedOf}
+use Rattle.record.specs.Changes.{pendingTo, placedTo, pluggedTo, usableTo}
 use Rattle.making.specs.declared.Made.{Made}
 use Rattle.making.specs.declared.Made.the-variants.{Device as MadeDevice, Refused as MadeRefused}
 use Rattle.words.specs.declared.Decoded.{Decoded}
 use Rattle.words.specs.declared.Decoded.the-variants.{Is, NoRecord}
-use Rattle.words.specs.Record.{wordsOf, decodedOf}
+use Rattle.words.specs.Record.{wordsOf, decodedOf, afterRequest, afterAnswer}
 use Rattle.step.specs.Answers.{answerWords, numberOf}
-use Rattle.words.proofs.Laws.{decoded-encodes, decoded-long}
+use Rattle.words.proofs.Laws.{decoded-encodes, decoded-long, request-encodes, answer-encodes}
 use Rattle.making.specs.Made.{madeNumber}
 use Rattle.capi.specs.Exports.{madeWords, MadeIn, lent, Called, Exported}
 
@@ -65,6 +66,31 @@ unwritten words r e d f d′ same =
       sym (ap (λ (d : Device). put words 0 (wordsOf d)) same ∙ decoded-encodes words d is),
       λ long. is ∙ sym (ap Is same),
     )
+
+-- a call that may change a part of the record need write only that
+in-part : (words words′ : List ℕ) (part : Device → List ℕ) (d′ o : Device) → d′ ≡ o
+    → (part o ≡ put words 0 (wordsOf o)) × (decodedOf (part o) ≡ Is o) → words′ ≡ part d′
+    → (words′ ≡ put words 0 (wordsOf d′)) × (15 ≤ length words → decodedOf words′ ≡ Is d′)
+in-part words words′ part d′ o same whole w =
+    let at-o : words′ ≡ part o = w ∙ ap part same in (
+      at-o ∙ whole .0 ∙ sym (ap (λ (d : Device). put words 0 (wordsOf d)) same),
+      λ long. ap decodedOf at-o ∙ whole .1 ∙ sym (ap Is same),
+    )
+
+-- d is the record that the words mean, o the outcome's, and d′ what is written
+module _ (words : List ℕ) (r : Decoded) (e : r ≡ decodedOf words) (d : Device) (f : r ≡ Is d) (o d′ : Device) (same : d′ ≡ o) (words′ : List ℕ) where
+  pub request-written : o ≡ pendingTo (o .pending) (pluggedTo (o .config .«plugged_size») d) → words′ ≡ afterRequest words d′
+      → (words′ ≡ put words 0 (wordsOf d′)) × (15 ≤ length words → decodedOf words′ ≡ Is d′)
+  request-written k =
+      in-part words words′ (afterRequest words) d′ _ (same ∙ k)
+      (request-encodes words d (sym e ∙ f) (o .config .«plugged_size») (o .pending))
+
+  pub answer-written : o ≡ pendingTo (o .pending) (placedTo (o .placed) (pluggedTo (o .config .«plugged_size») (usableTo (o .config .«usable_region_size») d)))
+      → words′ ≡ afterAnswer words d′
+      → (words′ ≡ put words 0 (wordsOf d′)) × (15 ≤ length words → decodedOf words′ ≡ Is d′)
+  answer-written k =
+      in-part words words′ (afterAnswer words) d′ _ (same ∙ k)
+      (answer-encodes words d (sym e ∙ f) (o .config .«usable_region_size») (o .config .«plugged_size») (o .placed) (o .pending))
 
 -- where no answer slice is lent, none is written
 pub untold : (answer : Answer) → [] ≡ put [] 0 (answerWords answer)

@@ -33,6 +33,8 @@ use words::Decoded;
 use words::RECORD_WORDS;
 use words::decode;
 use words::encode;
+use words::encode_answer;
+use words::encode_request;
 ghost use mathlib.Core.Path.{_≡_};
 ghost use mathlib.Core.List.{[]};
 ghost use Rattle.bitmap.specs.Blocks.{blocks};
@@ -165,7 +167,7 @@ pub extern "C" fn jambcopper_request(
     );
     let d = s.device;
     let a = s.answer;
-    encode(d, words);
+    encode_request(d, words);
     tell(a, answer)
 }
 
@@ -193,7 +195,7 @@ pub extern "C" fn jambcopper_host_answer(
     let s = host_answer(d, bitmap, table, mem, GuestAddr(base), ok, HostAddr(host));
     let d = s.device;
     let a = s.answer;
-    encode(d, words);
+    encode_answer(d, words);
     tell(a, answer)
 }
 

@@ -1,5 +1,6 @@
 -- `capi::jambcopper_host_answer` meets its contract: 12 where there is no record, else the device's call. Assumes nothing.
-use Rattle.capi.proofs.Ways.{foreign, served}
+use Rattle.capi.proofs.Ways.{foreign, served, answer-written}
+use Rattle.step.proofs.Kept.{answer-changes}
 use borrow.Author.Needs.{needs}
 use Rattle.capi.proofs.jambcopper_host_answer.Statement.{statement}
 use Rattle.capi.proofs.jambcopper_host_answer.Tie as tie
@@ -28,8 +29,8 @@ returns c = foreign _ _ _ (c .before .before .before .before .before .before .de
 host-answer-requires : tie.Need-host-answer-requires
 host-answer-requires c κs = search needs
 
-encode-requires : tie.Need-encode-requires
-encode-requires c κs = search needs
+encode-answer-requires : tie.Need-encode-answer-requires
+encode-answer-requires c κs = search needs
 
 tell-requires-2 : tie.Need-tell-requires-2
 tell-requires-2 c κs = search needs
@@ -51,9 +52,12 @@ same-length-7 c = search needs
 
 returns-2 : tie.Need-returns-2
 returns-2 c =
-    served _ _ _ (c .before .before .before .before .before .before .before .before .before .before .before .before .before .before .before .before .before .before .before .before .before .before .decode .ensures) _ (c .before .before .before .before .before .before .before .before .before .before .before .before .before .before .before .before .before .before .before .before .d .given .1) _ _ _ _ _ _ _ _ _ _ _
-    (c .before .before .before .before .before .before .before .before .before .before .before .before .before .before .before .host-answer .ensures)
-    (c .before .before .before .before .before .before .encode .ensures)
+    let is = c .before .before .before .before .before .before .before .before .before .before .before .before .before .before .before .before .before .before .before .before .before .before .decode .ensures in
+    let known = c .before .before .before .before .before .before .before .before .before .before .before .before .before .before .before .before .before .before .before .before .d .given .1 in
+    let met = c .before .before .before .before .before .before .before .before .before .before .before .before .before .before .before .host-answer .ensures in
+    served _ _ _ is _ known _ _ _ _ _ _ _ _ _ _ _
+    met
+    (answer-written _ _ is _ known _ _ (met .recorded) _ (answer-changes _ _ _ _) (c .before .before .before .before .before .before .encode-answer .ensures))
     (c .before .before .tell2 .ensures)
 
 pub jambcopper-host-answer-spec : {M : Type 1} → statement M
@@ -68,7 +72,7 @@ jambcopper-host-answer-spec =
     same-length-2
     returns
     host-answer-requires
-    encode-requires
+    encode-answer-requires
     tell-requires-2
     same-length-3
     same-length-4

@@ -1,5 +1,6 @@
 -- `capi::jambcopper_request` meets its contract: 12 where there is no record, else the device's call. Assumes nothing.
-use Rattle.capi.proofs.Ways.{foreign, served}
+use Rattle.capi.proofs.Ways.{foreign, served, request-written}
+use Rattle.step.proofs.Kept.{request-changes}
 use borrow.Author.Needs.{needs}
 use Rattle.capi.proofs.jambcopper_request.Statement.{statement}
 use Rattle.capi.proofs.jambcopper_request.Tie as tie
@@ -28,8 +29,8 @@ returns c = foreign _ _ _ (c .before .before .before .before .before .before .de
 request-requires : tie.Need-request-requires
 request-requires c κs = search needs
 
-encode-requires : tie.Need-encode-requires
-encode-requires c κs = search needs
+encode-request-requires : tie.Need-encode-request-requires
+encode-request-requires c κs = search needs
 
 tell-requires-2 : tie.Need-tell-requires-2
 tell-requires-2 c κs = search needs
@@ -48,9 +49,12 @@ same-length-6 c = search needs
 
 returns-2 : tie.Need-returns-2
 returns-2 c =
-    served _ _ _ (c .before .before .before .before .before .before .before .before .before .before .before .before .before .before .before .before .before .before .before .decode .ensures) _ (c .before .before .before .before .before .before .before .before .before .before .before .before .before .before .before .before .before .d .given .1) _ _ _ _ _ _ _ _ _ _ _
-    (c .before .before .before .before .before .before .before .before .before .before .before .before .before .request .ensures)
-    (c .before .before .before .before .before .before .encode .ensures)
+    let is = c .before .before .before .before .before .before .before .before .before .before .before .before .before .before .before .before .before .before .before .decode .ensures in
+    let known = c .before .before .before .before .before .before .before .before .before .before .before .before .before .before .before .before .before .d .given .1 in
+    let met = c .before .before .before .before .before .before .before .before .before .before .before .before .before .request .ensures in
+    served _ _ _ is _ known _ _ _ _ _ _ _ _ _ _ _
+    met
+    (request-written _ _ is _ known _ _ (met .recorded) _ (request-changes _ _ _ _) (c .before .before .before .before .before .before .encode-request .ensures))
     (c .before .before .tell2 .ensures)
 
 pub jambcopper-request-spec : {M : Type 1} → statement M
@@ -65,7 +69,7 @@ jambcopper-request-spec =
     same-length-2
     returns
     request-requires
-    encode-requires
+    encode-request-requires
     tell-requires-2
     same-length-3
     same-length-4
