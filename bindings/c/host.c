@@ -1,8 +1,8 @@
 /* SPDX-License-Identifier: Apache-2.0 AND BSD-3-Clause */
 /*
  * A small real host: it creates the device's memory with memfd_create and mmap, gives it back by punching a hole into
- * the memfd (fallocate), and plays a guest that plugs, touches and unplugs it. The numbers that it prints are the
- * kernel's: how much memory the memfd holds (st_blocks).
+ * the memfd (fallocate), and plays a guest that plugs, touches and unplugs it by a split queue, which the kernel's
+ * header lays out (vring_init). The numbers that it prints are the kernel's: how much memory the memfd holds (st_blocks).
  */
 #define _GNU_SOURCE
 #include "jambcopper.h"
@@ -23,20 +23,35 @@
 #define RAM_BASE UINT64_C(0x40000000)
 #define REGION_START UINT64_C(0x100000000)
 
-/* What the guest lays into its memory: the descriptors, a request, and room for the response. */
-struct ram {
-    struct vring_desc descriptors[128];
+/* A request, and room for its response. */
+struct exchange {
     struct virtio_mem_req request;
     struct virtio_mem_resp response;
+};
+
+/* The guest's memory: its queue, and an exchange for each two descriptors. */
+#define RING_ALIGNMENT 4096
+#define EXCHANGES (JAMBCOPPER_QUEUE_SIZE / 2)
+#define EXCHANGES_AT (2 * RING_ALIGNMENT)
+#define RAM_SIZE (EXCHANGES_AT + EXCHANGES * sizeof(struct exchange))
+
+/* The guest's driver. Both indices count what it has ever put in or taken out, and wrap. */
+struct guest {
+    uint8_t *ram;
+    struct vring ring;
+    struct exchange *exchanges;
+    uint16_t put;
+    uint16_t taken;
 };
 
 /* What a host keeps for a device. */
 struct host {
     uint64_t record[JAMBCOPPER_RECORD_WORDS];
+    uint64_t queue[JAMBCOPPER_QUEUE_WORDS];
     uint8_t bitmap[JAMBCOPPER_MAX_BITMAP_BYTES];
     uint64_t table[JAMBCOPPER_ROW_WORDS];
     uint64_t answer[JAMBCOPPER_ANSWER_WORDS];
-    struct ram ram;
+    struct guest guest;
     int memfd;
     uint8_t *memory;
     unsigned refuse; /* which of the next discards is refused, from 1 on; 0 for none */
@@ -92,36 +107,86 @@ static void answer_all(struct host *h)
             ok = discard(h);
         else
             return;
-        jambcopper_host_answer(h->record, JAMBCOPPER_RECORD_WORDS, h->bitmap, sizeof h->bitmap, h->table,
-                               JAMBCOPPER_ROW_WORDS, (uint8_t *)&h->ram, sizeof h->ram, RAM_BASE, ok,
-                               (uint64_t)(uintptr_t)h->memory, h->answer, JAMBCOPPER_ANSWER_WORDS);
+        jambcopper_serve_answer(h->record, JAMBCOPPER_RECORD_WORDS, h->queue, JAMBCOPPER_QUEUE_WORDS, h->bitmap,
+                                sizeof h->bitmap, h->table, JAMBCOPPER_ROW_WORDS, h->guest.ram, RAM_SIZE, RAM_BASE, ok,
+                                (uint64_t)(uintptr_t)h->memory, h->answer, JAMBCOPPER_ANSWER_WORDS);
     }
 }
 
-/* The guest asks, by a chain of two descriptors, and reads the type of the response. */
+/* Serves the guest's queue until it is empty, as a host does when the guest notifies it. */
+static void serve_all(struct host *h)
+{
+    for (;;) {
+        uint64_t refused = jambcopper_serve(h->record, JAMBCOPPER_RECORD_WORDS, h->queue, JAMBCOPPER_QUEUE_WORDS,
+                                            h->bitmap, sizeof h->bitmap, h->table, JAMBCOPPER_ROW_WORDS, h->guest.ram,
+                                            RAM_SIZE, RAM_BASE, h->answer, JAMBCOPPER_ANSWER_WORDS);
+        expect(refused == JAMBCOPPER_DONE, "the queue is refused");
+        if (h->answer[JAMBCOPPER_ANSWER_KIND] == JAMBCOPPER_KIND_EMPTY)
+            return;
+        answer_all(h);
+        expect(h->answer[JAMBCOPPER_ANSWER_KIND] == JAMBCOPPER_KIND_SERVED, "a request is not served");
+        /* Here a host with vCPUs notifies the guest. */
+    }
+}
+
+static uint64_t address(const struct guest *g, const void *in_ram)
+{
+    return RAM_BASE + (uint64_t)((const uint8_t *)in_ram - g->ram);
+}
+
+/* The guest lays out its queue, and tells the host where the three parts are. */
+static void set_up(struct host *h)
+{
+    struct guest *g = &h->guest;
+    g->ram = mmap(NULL, RAM_SIZE, PROT_READ | PROT_WRITE, MAP_PRIVATE | MAP_ANONYMOUS, -1, 0);
+    if (g->ram == MAP_FAILED)
+        fail("mmap");
+    vring_init(&g->ring, JAMBCOPPER_QUEUE_SIZE, g->ram, RING_ALIGNMENT);
+    g->exchanges = (struct exchange *)(g->ram + EXCHANGES_AT);
+    expect(jambcopper_queue_make(h->queue, JAMBCOPPER_QUEUE_WORDS, address(g, g->ring.desc), address(g, g->ring.avail),
+                                 address(g, g->ring.used)) == 0,
+           "no queue");
+}
+
+/* The guest puts a request into the available ring: a chain of two descriptors, the entry, then the index. */
+static void put(struct guest *g, uint16_t type, uint64_t addr, uint16_t blocks)
+{
+    uint16_t head = (uint16_t)(2 * (g->put % EXCHANGES));
+    struct exchange *e = &g->exchanges[g->put % EXCHANGES];
+    memset(e, 0, sizeof *e);
+    e->request.type = type;
+    e->request.u.plug.addr = addr;
+    e->request.u.plug.nb_blocks = blocks;
+    e->response.type = 0xffff;
+    g->ring.desc[head] = (struct vring_desc){
+        .addr = address(g, &e->request), .len = sizeof e->request, .flags = VRING_DESC_F_NEXT, .next = head + 1
+    };
+    g->ring.desc[head + 1] =
+        (struct vring_desc){ .addr = address(g, &e->response), .len = sizeof e->response, .flags = VRING_DESC_F_WRITE };
+    g->ring.avail->ring[g->put % JAMBCOPPER_QUEUE_SIZE] = head;
+    g->ring.avail->idx = ++g->put;
+}
+
+/* The guest takes the next element out of the used ring, which is its oldest request, and reads the response's type. */
+static uint16_t take(struct guest *g)
+{
+    expect(g->ring.used->idx != g->taken, "the used ring has no more");
+    const struct vring_used_elem *used = &g->ring.used->ring[g->taken % JAMBCOPPER_QUEUE_SIZE];
+    const struct exchange *e = &g->exchanges[g->taken % EXCHANGES];
+    expect(used->id == 2u * (g->taken % EXCHANGES), "another head is used");
+    expect(used->len == sizeof e->response, "the response is not delivered");
+    g->taken++;
+    return e->response.type;
+}
+
+/* The guest asks, and the host serves it. */
 static uint16_t ask(struct host *h, uint16_t type, uint64_t addr, uint16_t blocks)
 {
-    struct ram *ram = &h->ram;
-    memset(ram, 0, sizeof *ram);
-    ram->request.type = type;
-    ram->request.u.plug.addr = addr;
-    ram->request.u.plug.nb_blocks = blocks;
-    ram->response.type = 0xffff;
-    ram->descriptors[0] = (struct vring_desc){ .addr = RAM_BASE + offsetof(struct ram, request),
-                                               .len = sizeof ram->request,
-                                               .flags = VRING_DESC_F_NEXT,
-                                               .next = 1 };
-    ram->descriptors[1] = (struct vring_desc){ .addr = RAM_BASE + offsetof(struct ram, response),
-                                               .len = sizeof ram->response,
-                                               .flags = VRING_DESC_F_WRITE };
-    uint64_t refused = jambcopper_request(h->record, JAMBCOPPER_RECORD_WORDS, h->bitmap, sizeof h->bitmap, h->table,
-                                          JAMBCOPPER_ROW_WORDS, (uint8_t *)ram, sizeof *ram, RAM_BASE, RAM_BASE, 0,
-                                          h->answer, JAMBCOPPER_ANSWER_WORDS);
-    expect(refused == JAMBCOPPER_DONE, "the request is refused");
-    answer_all(h);
-    expect(h->answer[JAMBCOPPER_ANSWER_KIND] == JAMBCOPPER_KIND_SERVED, "the request is not served");
-    expect(h->answer[JAMBCOPPER_ANSWER_LENGTH] == sizeof ram->response, "the response is not delivered");
-    return ram->response.type;
+    put(&h->guest, type, addr, blocks);
+    serve_all(h);
+    uint16_t response = take(&h->guest);
+    expect(h->guest.ring.used->idx == h->guest.taken, "the used ring has more than was asked");
+    return response;
 }
 
 /* How many bytes the kernel holds for the device, and how many the guest reads as plugged. */
@@ -144,6 +209,7 @@ int main(void)
     const uint64_t block = JAMBCOPPER_BLOCK_SIZE;
 
     expect(jambcopper_make(h.record, JAMBCOPPER_RECORD_WORDS, 256, 64, false, false, 0, 1024 * MIB) == 0, "not made");
+    set_up(&h);
     expect(jambcopper_place(h.record, JAMBCOPPER_RECORD_WORDS, h.bitmap, sizeof h.bitmap, h.table, JAMBCOPPER_ROW_WORDS,
                             REGION_START, h.record[JAMBCOPPER_RECORD_REGION_SIZE], slots, 1, h.answer,
                             JAMBCOPPER_ANSWER_WORDS) == 0,
@@ -176,5 +242,15 @@ int main(void)
 
     expect(ask(&h, VIRTIO_MEM_REQ_UNPLUG_ALL, 0, 0) == VIRTIO_MEM_RESP_ACK, "no unplug-all");
     print(&h, "unplugged all");
+
+    /* Three requests, and one notification. */
+    put(&h.guest, VIRTIO_MEM_REQ_PLUG, REGION_START, 8);
+    put(&h.guest, VIRTIO_MEM_REQ_UNPLUG, REGION_START, 3);
+    put(&h.guest, VIRTIO_MEM_REQ_PLUG, REGION_START + 4 * block, 1);
+    serve_all(&h);
+    expect(take(&h.guest) == VIRTIO_MEM_RESP_ACK, "no plug of three");
+    expect(take(&h.guest) == VIRTIO_MEM_RESP_ACK, "no unplug of three");
+    expect(take(&h.guest) == VIRTIO_MEM_RESP_ERROR, "a plug of what is plugged");
+    print(&h, "three requests at once");
     return 0;
 }

@@ -4,11 +4,12 @@
  *
  * The device has no memory of its own. The caller keeps, and lends to each call:
  *   - the record, JAMBCOPPER_RECORD_WORDS words;
+ *   - the queue, JAMBCOPPER_QUEUE_WORDS words, where the library goes over the guest's queue;
  *   - the bitmap, one bit a block of 4 MiB: block 8j+k is bit k of byte j, set when plugged;
  *   - the map table, JAMBCOPPER_ROW_WORDS words a row;
  *   - guest memory: a slice, and the guest address of its first byte.
  * A slice is a pointer and how many elements it has. Elements that a call has no use for are not touched.
- * Any contents are allowed, every one of them: words that are no record are refused with 12, and a table
+ * Any contents are allowed, every one of them: words that are no record or no queue are refused with 12, and a table
  * that is too short with 11. Two slices of one call must not overlap, and a pointer is never NULL.
  *
  * What is proved of every run of calls (docs/GUIDE.md) holds where each call is lent the record that the call before it
@@ -20,8 +21,9 @@
  * has changed in between.
  *
  * A call never calls back. Where the host must do something, the call asks a question in its answer, the record
- * holds it as pending, and the host answers it by jambcopper_host_answer. Until then only jambcopper_host_answer,
- * jambcopper_read_config and jambcopper_write_config are served; the others are refused with 7.
+ * holds it as pending, and the host answers it by jambcopper_host_answer, or jambcopper_serve_answer where it has a
+ * queue here. Until then only these two, jambcopper_read_config and jambcopper_write_config are served; the other calls
+ * of the device are refused with 7.
  *
  * Each function returns the number of its refusal, or 0. A refused call changes nothing but the answer, which is
  * written in any case, where the function takes one; after 10 alone more has changed, and the numbers below say what.
@@ -54,6 +56,10 @@ extern "C" {
 #define JAMBCOPPER_MAX_TABLE_WORDS 1536
 /* The config space, struct virtio_mem_config. */
 #define JAMBCOPPER_CONFIG_BYTES 56
+/* The guest's split queue: the entries of its descriptor table and of each ring, and the bytes of the two rings. */
+#define JAMBCOPPER_QUEUE_SIZE 128
+#define JAMBCOPPER_AVAILABLE_BYTES 262
+#define JAMBCOPPER_USED_BYTES 1030
 
 /* ---- the record: which word is what. It may be read, copied, stored and put back. */
 
@@ -79,6 +85,31 @@ extern "C" {
 #define JAMBCOPPER_PENDING_DISCARD 2     /* the discard of an unplug */
 #define JAMBCOPPER_PENDING_DISCARD_ONE 3 /* the discard of one block of an unplug-all */
 
+/* ---- the queue: which word is what. It goes with the record from call to call, and is stored and put back with it.
+ *
+ * jambcopper_queue_make writes it when the guest has set up its queue. From then on, whenever the guest notifies the
+ * host, the host calls jambcopper_serve until it answers empty. A call takes one head:
+ *   - served, unserved: the head is in the used ring, and the host notifies the guest;
+ *   - discard: the head is out. The host does what is asked and answers by jambcopper_serve_answer, which asks again
+ *     (discard) or ends the request (served): only then is the head in the used ring, and the guest notified;
+ *   - empty: there is no head;
+ *   - refused: no head was taken. 14 and 15 do not stick: a later call is served where the rings are right by then.
+ * While a head is out, no answer goes through jambcopper_host_answer: that would end the request and not report the
+ * head, and the next call with the queue would be refused with 12.
+ *
+ * The device reads the available ring's index and entries, and writes the used ring's; flags and event indices are the
+ * host's matter. bindings/c/host.c has such a loop. A host that goes over the rings itself has no queue here: it calls
+ * jambcopper_request and jambcopper_host_answer.
+ */
+
+#define JAMBCOPPER_QUEUE_WORDS 6
+#define JAMBCOPPER_QUEUE_DESCRIPTORS 0    /* guest address of the descriptor table */
+#define JAMBCOPPER_QUEUE_AVAILABLE 1      /* guest address of the available ring */
+#define JAMBCOPPER_QUEUE_USED 2           /* guest address of the used ring */
+#define JAMBCOPPER_QUEUE_NEXT_AVAILABLE 3 /* index of the next head to take; below 65536 */
+#define JAMBCOPPER_QUEUE_NEXT_USED 4      /* index of the next element to write; below 65536 */
+#define JAMBCOPPER_QUEUE_TAKEN 5          /* the head that is out, plus 1; 0 where none is out */
+
 /* ---- the answer: which word is what; a word that the kind has no use for is 0. A slice that is shorter gets the
  * words that fit. */
 
@@ -99,8 +130,9 @@ extern "C" {
 #define JAMBCOPPER_KIND_SIZED 3    /* done: the usable size is worked out */
 #define JAMBCOPPER_KIND_UNSERVED 4 /* the chain is no request: it is used with length 0 */
 #define JAMBCOPPER_KIND_SERVED 5   /* the request has ended: the chain is used with the length */
+#define JAMBCOPPER_KIND_EMPTY 7    /* the available ring has no head; the other words are 0 */
 
-/* ---- the numbers. Order of the tests: 12 (record), 7 or 8, 5 or 6, 11, then 2, 1, 3, 4, 9.
+/* ---- the numbers. Order of the tests: 12 (record, queue), 7 or 8, 5 or 6, 11, then 14, 15, or 2, 1, 3, 4, 9.
  *
  * 10 ends the call that asked for the creation, and leaves what that call has written:
  *   - a size change: the new requested size stands; the usable size and the map table do not change;
@@ -120,7 +152,10 @@ extern "C" {
 #define JAMBCOPPER_BAD_HOST 9        /* the host address, plus the size asked, passes 2^64 - 1; the call stays pending */
 #define JAMBCOPPER_CREATION_FAILED 10 /* the host could not create; nothing is pending any more: see above */
 #define JAMBCOPPER_SHORT_TABLE 11    /* bitmap or map table too short */
-#define JAMBCOPPER_BAD_RECORD 12     /* the words are no record, or an unplug is larger than the plugged size */
+#define JAMBCOPPER_BAD_RECORD 12     /* the words are no record or no queue, a head is out while no discard is pending,
+                                      * or an unplug is larger than the plugged size */
+#define JAMBCOPPER_RING_OUTSIDE 14   /* a ring is not wholly inside guest memory */
+#define JAMBCOPPER_BAD_INDEX 15      /* the available ring's index is more than 128 ahead of the next head */
 
 /* ---- why a chain is no request */
 
@@ -167,8 +202,8 @@ uint64_t jambcopper_set_requested_size(uint64_t *record, size_t record_words, co
                                        uint64_t *answer, size_t answer_words);
 
 /*
- * Serves one chain of the guest's queue. 12, 7, 5, 11; and 12 for an otherwise legal unplug that is larger than the
- * plugged size.
+ * Serves one chain, for a host that goes over the rings itself. 12, 7, 5, 11; and 12 for an otherwise legal unplug that
+ * is larger than the plugged size.
  *   mem, base    guest memory, which no vCPU writes during the call, and the guest address of its first byte
  *   descriptors  guest address of the table of 128 descriptors
  *   head         index of the chain's first descriptor
@@ -191,6 +226,37 @@ uint64_t jambcopper_request(uint64_t *record, size_t record_words, uint8_t *bitm
 uint64_t jambcopper_host_answer(uint64_t *record, size_t record_words, uint8_t *bitmap, size_t bitmap_bytes,
                                 uint64_t *table, size_t table_words, uint8_t *mem, size_t mem_bytes, uint64_t base,
                                 bool ok, uint64_t host, uint64_t *answer, size_t answer_words);
+
+/*
+ * Makes a queue: writes its words, both indices 0 and no head out. 12 where the slice has no room for a queue.
+ *   descriptors, available, used  guest addresses of the three parts, as the guest has set them
+ * The host makes it anew when the guest resets the device, and answers what is pending before that.
+ */
+uint64_t jambcopper_queue_make(uint64_t *queue, size_t queue_words, uint64_t descriptors, uint64_t available,
+                               uint64_t used);
+
+/*
+ * Takes the next head of the guest's queue and serves its chain. 12, 7, 5, 11, 14, 15; and 12 for an otherwise legal
+ * unplug that is larger than the plugged size.
+ *   mem, base  guest memory, as for a request: one slice that has the rings, the table, the requests and the responses
+ * Answer: refused, empty, discard, unserved, or served. Where the request has ended, its response is written, then the
+ * head with the answer's length to the used ring, then the ring's index. A head that is no index of the table, and a
+ * chain that is no request, are unserved and are put into the used ring with length 0.
+ */
+uint64_t jambcopper_serve(uint64_t *record, size_t record_words, uint64_t *queue, size_t queue_words, uint8_t *bitmap,
+                          size_t bitmap_bytes, const uint64_t *table, size_t table_words, uint8_t *mem,
+                          size_t mem_bytes, uint64_t base, uint64_t *answer, size_t answer_words);
+
+/*
+ * The host's answer to the question that is pending, as jambcopper_host_answer takes it. Where it ends the request of
+ * the head that is out, that goes into the used ring as above. While a head is out 12, 8, 11, 14; after 14 the question
+ * stays pending, and the head out. With none out, as for a creation, 12, 8, 11, 9, 10: no ring is tested or touched.
+ * Answer: refused, sized, served, or discard.
+ */
+uint64_t jambcopper_serve_answer(uint64_t *record, size_t record_words, uint64_t *queue, size_t queue_words,
+                                 uint8_t *bitmap, size_t bitmap_bytes, uint64_t *table, size_t table_words,
+                                 uint8_t *mem, size_t mem_bytes, uint64_t base, bool ok, uint64_t host,
+                                 uint64_t *answer, size_t answer_words);
 
 /*
  * Reads the config space from an offset on: up to its end or the buffer's; the rest of the buffer stays. Nothing is
