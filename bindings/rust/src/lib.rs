@@ -4,6 +4,7 @@
 //! [`Device`] keeps the device's record, its bitmap and its map table, and lends them to the proved functions of the
 //! static library; its methods are named as those are in `bindings/c/jambcopper.h`. It never calls back: where the host
 //! must create or discard memory, a call answers [`Answer::Wants`], and the host answers by [`Device::host_answer`].
+//! [`Queue`] is the guest's queue, which [`Device::serve`] goes over.
 //!
 //! ```
 //! use jambcopper::{Answer, Device, Error, HostAnswer, HostCall};
@@ -25,25 +26,31 @@
 //!
 //! # Guest memory must not change during a call
 //!
-//! [`Device::request`] and [`Device::host_answer`] are lent guest memory as a slice. No vCPU may write that memory
-//! before the call returns: a call may read a byte twice, and what is proved of it does not hold where the byte has
-//! changed in between. It would break Rust's own rule for a `&mut` slice too.
+//! [`Device::serve`], [`Device::serve_answer`], [`Device::request`] and [`Device::host_answer`] are lent guest memory as
+//! a slice. No vCPU may write that memory before the call returns: a call may read a byte twice, and what is proved of
+//! it does not hold where the byte has changed in between. It would break Rust's own rule for a `&mut` slice too.
 //!
 //! # What the host must do
 //!
-//! Beside answering, it puts each chain that has ended on the used ring with the length of the answer, and tells the
-//! guest that its config has changed when a size change has ended ([`Device::set_requested_size`]).
+//! Beside answering, it notifies the guest when a request has ended, and tells it that its config has changed when a
+//! size change has ended ([`Device::set_requested_size`]). A host that goes over the rings itself, with
+//! [`Device::request`], puts each chain that has ended on the used ring with the length of the answer.
 
 #![warn(missing_docs)]
 
 use std::fmt;
 
+mod queue;
 mod sys;
 
+pub use queue::Queue;
 use sys::{Lent, ANSWER_WORDS};
 
 /// The words of a record. `bindings/c/jambcopper.h` says what each one is.
 pub const RECORD_WORDS: usize = sys::RECORD_WORDS;
+
+/// The words of a queue. `bindings/c/jambcopper.h` says what each one is.
+pub const QUEUE_WORDS: usize = sys::QUEUE_WORDS;
 
 /// The words of a row of the map table: its memory slot, whether it is mapped (0 no, else yes), and its host address.
 pub const ROW_WORDS: usize = 3;
@@ -82,8 +89,13 @@ pub enum Error {
     CreationFailed = 10,
     /// The bitmap or the map table is too short.
     ShortTable = 11,
-    /// The record is not of the stated shape, or an otherwise legal unplug is larger than the plugged size.
+    /// The record or the queue is not of the stated shape, a head is out while no discard is pending, or an otherwise
+    /// legal unplug is larger than the plugged size.
     BadRecord = 12,
+    /// The available or the used ring is not wholly inside guest memory.
+    RingOutside = 14,
+    /// The available ring's index is more than 128 ahead of the next head.
+    BadIndex = 15,
     /// The host's answer is to another kind of question than the pending one: [`HostAnswer::Discarded`] to a creation,
     /// or [`HostAnswer::Created`] to a discard. The call stays pending. The library has no number for it, since it is
     /// told only whether the host did what was asked.
@@ -107,7 +119,9 @@ impl Error {
             10 => Error::CreationFailed,
             11 => Error::ShortTable,
             12 => Error::BadRecord,
-            _ => unreachable!("the device refuses with 1 to 12"),
+            14 => Error::RingOutside,
+            15 => Error::BadIndex,
+            _ => unreachable!("the device refuses with 1 to 12, 14 and 15"),
         })
     }
 }
@@ -128,7 +142,11 @@ impl fmt::Display for Error {
             Error::BadHost => "a host address from which the memory would pass 2^64 - 1",
             Error::CreationFailed => "the host could not create the memory",
             Error::ShortTable => "bitmap or map table too short",
-            Error::BadRecord => "no record of a device, or an unplug of more than is plugged",
+            Error::BadRecord => {
+                "no record of a device or of its queue, or an unplug of more than is plugged"
+            }
+            Error::RingOutside => "a ring that is not wholly inside guest memory",
+            Error::BadIndex => "an available index more than 128 ahead",
             Error::WrongAnswer => {
                 return f.write_str("an answer to another kind of question than the pending one")
             }
@@ -310,9 +328,44 @@ impl Device {
         self.told(|device, answer| device.set_requested_size(requested_mib, answer))
     }
 
-    /// Serves one chain of the guest's queue: `mem` is guest memory from the guest address `base` on, `descriptors` the
-    /// guest address of the table of 128 descriptors, and `head` the chain's first. No vCPU may write `mem` during the
-    /// call.
+    /// Takes the next head of the guest's queue and serves its chain; `None` where the available ring has no head, and
+    /// then nothing has changed. `mem` is guest memory from the guest address `base` on, one slice that has the rings,
+    /// the descriptors, the requests and the responses. No vCPU may write it during the call.
+    ///
+    /// Where the answer is [`Answer::Served`] or [`Answer::Unserved`] the head is in the used ring, and the host notifies
+    /// the guest. Where it is [`Answer::Wants`] the head is out, and the host answers by [`Device::serve_answer`]. Where
+    /// the call is refused no head was taken; [`Error::RingOutside`] and [`Error::BadIndex`] do not stick. See [`Queue`].
+    pub fn serve(
+        &mut self,
+        queue: &mut Queue,
+        mem: &mut [u8],
+        base: u64,
+    ) -> Result<Option<Answer>, Error> {
+        let words =
+            self.words_told(|device, answer| device.serve(&mut queue.words, mem, base, answer))?;
+        Ok((words[0] != sys::KIND_EMPTY).then(|| Answer::of(&words)))
+    }
+
+    /// The host's answer to what it was asked, as [`Device::host_answer`] takes it. Where it ends the request of the head
+    /// that is out, the head is then in the used ring, and the host notifies the guest. [`Error::RingOutside`] comes only
+    /// while a head is out: the question stays pending, and the head out. With none out, as for a creation, no ring is
+    /// tested or touched.
+    pub fn serve_answer(
+        &mut self,
+        queue: &mut Queue,
+        mem: &mut [u8],
+        base: u64,
+        told: HostAnswer,
+    ) -> Result<Answer, Error> {
+        let (ok, host) = self.given(told)?;
+        self.told(|device, answer| {
+            device.serve_answer(&mut queue.words, mem, base, ok, host, answer)
+        })
+    }
+
+    /// Serves one chain, for a host that goes over the rings itself: `mem` is guest memory from the guest address `base`
+    /// on, `descriptors` the guest address of the table of 128 descriptors, and `head` the chain's first. No vCPU may
+    /// write `mem` during the call.
     pub fn request(
         &mut self,
         mem: &mut [u8],
@@ -330,20 +383,28 @@ impl Device {
     ///
     /// An answer to another kind of question than the pending one is [`Error::WrongAnswer`], and the call stays
     /// pending.
+    ///
+    /// While a head of a [`Queue`] is out the host answers by [`Device::serve_answer`]: this call would end the request
+    /// and not report the head, and the next call with the queue would be [`Error::BadRecord`].
     pub fn host_answer(
         &mut self,
         mem: &mut [u8],
         base: u64,
         told: HostAnswer,
     ) -> Result<Answer, Error> {
-        let (ok, host) = match (told, self.record[11]) {
-            (HostAnswer::Created(_), sys::PENDING_DISCARD | sys::PENDING_DISCARD_ONE)
-            | (HostAnswer::Discarded, sys::PENDING_CREATE) => return Err(Error::WrongAnswer),
-            (HostAnswer::Created(host), _) => (true, host),
-            (HostAnswer::Discarded, _) => (true, 0),
-            (HostAnswer::Failed, _) => (false, 0),
-        };
+        let (ok, host) = self.given(told)?;
         self.told(|device, answer| device.host_answer(mem, base, ok, host, answer))
+    }
+
+    /// Whether the host did what was asked, and its host address, where the answer is to the pending question.
+    fn given(&self, told: HostAnswer) -> Result<(bool, u64), Error> {
+        match (told, self.record[11]) {
+            (HostAnswer::Created(_), sys::PENDING_DISCARD | sys::PENDING_DISCARD_ONE)
+            | (HostAnswer::Discarded, sys::PENDING_CREATE) => Err(Error::WrongAnswer),
+            (HostAnswer::Created(host), _) => Ok((true, host)),
+            (HostAnswer::Discarded, _) => Ok((true, 0)),
+            (HostAnswer::Failed, _) => Ok((false, 0)),
+        }
     }
 
     /// What a call tells of this device.
@@ -351,6 +412,14 @@ impl Device {
         &mut self,
         call: impl FnOnce(Lent, &mut [u64; ANSWER_WORDS]) -> u64,
     ) -> Result<Answer, Error> {
+        Ok(Answer::of(&self.words_told(call)?))
+    }
+
+    /// The words of what a call tells.
+    fn words_told(
+        &mut self,
+        call: impl FnOnce(Lent, &mut [u64; ANSWER_WORDS]) -> u64,
+    ) -> Result<[u64; ANSWER_WORDS], Error> {
         let mut answer = [0; ANSWER_WORDS];
         let lent = Lent {
             record: &mut self.record,
@@ -358,7 +427,7 @@ impl Device {
             table: &mut self.table,
         };
         Error::check(call(lent, &mut answer))?;
-        Ok(Answer::of(&answer))
+        Ok(answer)
     }
 
     /// Reads the config space from `offset` on: up to its end or the buffer's; the rest of the buffer stays.

@@ -3,6 +3,7 @@
 //! function answers 01's number, and any slice of any length and contents is allowed.
 
 pub const RECORD_WORDS: usize = 15;
+pub const QUEUE_WORDS: usize = 6;
 pub const ANSWER_WORDS: usize = 9;
 
 /// The kinds of a pending host call, word 11 of the record.
@@ -10,6 +11,9 @@ pub const PENDING_NOTHING: u64 = 0;
 pub const PENDING_CREATE: u64 = 1;
 pub const PENDING_DISCARD: u64 = 2;
 pub const PENDING_DISCARD_ONE: u64 = 3;
+
+/// The kind of answer, word 0, that says that the available ring has no head.
+pub const KIND_EMPTY: u64 = 7;
 
 /// The functions as C has them.
 mod c {
@@ -79,6 +83,45 @@ mod c {
             answer: *mut u64,
             answer_words: usize,
         ) -> u64;
+        pub fn jambcopper_queue_make(
+            queue: *mut u64,
+            queue_words: usize,
+            descriptors: u64,
+            available: u64,
+            used: u64,
+        ) -> u64;
+        pub fn jambcopper_serve(
+            record: *mut u64,
+            record_words: usize,
+            queue: *mut u64,
+            queue_words: usize,
+            bitmap: *mut u8,
+            bitmap_bytes: usize,
+            table: *const u64,
+            table_words: usize,
+            mem: *mut u8,
+            mem_bytes: usize,
+            base: u64,
+            answer: *mut u64,
+            answer_words: usize,
+        ) -> u64;
+        pub fn jambcopper_serve_answer(
+            record: *mut u64,
+            record_words: usize,
+            queue: *mut u64,
+            queue_words: usize,
+            bitmap: *mut u8,
+            bitmap_bytes: usize,
+            table: *mut u64,
+            table_words: usize,
+            mem: *mut u8,
+            mem_bytes: usize,
+            base: u64,
+            ok: bool,
+            host: u64,
+            answer: *mut u64,
+            answer_words: usize,
+        ) -> u64;
         pub fn jambcopper_read_config(
             record: *const u64,
             record_words: usize,
@@ -126,6 +169,19 @@ pub fn make(
             node_given,
             node,
             boot,
+        )
+    }
+}
+
+#[inline]
+pub fn queue_make(queue: &mut [u64], descriptors: u64, available: u64, used: u64) -> u64 {
+    unsafe {
+        c::jambcopper_queue_make(
+            queue.as_mut_ptr(),
+            queue.len(),
+            descriptors,
+            available,
+            used,
         )
     }
 }
@@ -209,6 +265,58 @@ impl Lent<'_> {
             c::jambcopper_host_answer(
                 self.record.as_mut_ptr(),
                 self.record.len(),
+                self.bitmap.as_mut_ptr(),
+                self.bitmap.len(),
+                self.table.as_mut_ptr(),
+                self.table.len(),
+                mem.as_mut_ptr(),
+                mem.len(),
+                base,
+                ok,
+                host,
+                answer.as_mut_ptr(),
+                answer.len(),
+            )
+        }
+    }
+
+    #[inline]
+    pub fn serve(self, queue: &mut [u64], mem: &mut [u8], base: u64, answer: &mut [u64]) -> u64 {
+        unsafe {
+            c::jambcopper_serve(
+                self.record.as_mut_ptr(),
+                self.record.len(),
+                queue.as_mut_ptr(),
+                queue.len(),
+                self.bitmap.as_mut_ptr(),
+                self.bitmap.len(),
+                self.table.as_ptr(),
+                self.table.len(),
+                mem.as_mut_ptr(),
+                mem.len(),
+                base,
+                answer.as_mut_ptr(),
+                answer.len(),
+            )
+        }
+    }
+
+    #[inline]
+    pub fn serve_answer(
+        self,
+        queue: &mut [u64],
+        mem: &mut [u8],
+        base: u64,
+        ok: bool,
+        host: u64,
+        answer: &mut [u64],
+    ) -> u64 {
+        unsafe {
+            c::jambcopper_serve_answer(
+                self.record.as_mut_ptr(),
+                self.record.len(),
+                queue.as_mut_ptr(),
+                queue.len(),
                 self.bitmap.as_mut_ptr(),
                 self.bitmap.len(),
                 self.table.as_mut_ptr(),

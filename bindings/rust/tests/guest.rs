@@ -5,16 +5,12 @@ use jambcopper::{
     Answer, Device, Error, HostAnswer, HostCall, BLOCK_SIZE, RECORD_WORDS, ROW_WORDS,
 };
 
-const BASE: u64 = 0x4000_0000;
+mod common;
+
+use common::{again, discard, placed, served, BASE, HOST, PLUG, START, STATE, UNPLUG, UNPLUG_ALL};
+
 const REQUEST: usize = 2048;
 const RESPONSE: usize = 2072;
-const START: u64 = 4_294_967_296;
-const HOST: u64 = 140_737_488_355_328;
-
-const PLUG: u16 = 0;
-const UNPLUG: u16 = 1;
-const UNPLUG_ALL: u16 = 2;
-const STATE: u16 = 3;
 
 /// Guest memory with the descriptors of one request at its start.
 fn chain(request_type: u16, addr: u64, blocks: u16) -> Vec<u8> {
@@ -35,32 +31,6 @@ fn chain(request_type: u16, addr: u64, blocks: u16) -> Vec<u8> {
 
 fn ask(device: &mut Device, mem: &mut [u8]) -> Answer {
     device.request(mem, BASE, BASE, 0).unwrap()
-}
-
-fn served(resp_type: u16, state: u16) -> Answer {
-    Answer::Served {
-        resp_type,
-        state,
-        length: 10,
-    }
-}
-
-fn discard(block: u64) -> Answer {
-    let offset = block * BLOCK_SIZE;
-    Answer::Wants(HostCall::Discard {
-        offset,
-        size: BLOCK_SIZE,
-        host: HOST + offset,
-    })
-}
-
-fn placed() -> Device {
-    let mut device = Device::new(256, 16, false, None, 1 << 30).unwrap();
-    device.place(START, 256 << 20, &[1]).unwrap();
-    device
-        .host_answer(&mut [], 0, HostAnswer::Created(HOST))
-        .unwrap();
-    device
 }
 
 #[test]
@@ -251,13 +221,6 @@ fn an_answer_to_another_question_is_refused() {
         Error::WrongAnswer.to_string(),
         "an answer to another kind of question than the pending one"
     );
-}
-
-/// The device made again of its parts.
-fn again(device: &Device) -> Device {
-    let made = Device::from_parts(device.record(), device.bitmap(), device.table()).unwrap();
-    assert_eq!(&made, device);
-    made
 }
 
 #[test]

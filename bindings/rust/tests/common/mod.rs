@@ -1,0 +1,46 @@
+// SPDX-License-Identifier: Apache-2.0 AND BSD-3-Clause
+//! A device of 256 MiB at 4 GiB in one region, of which the guest may have 16 MiB, and what it answers.
+
+use jambcopper::{Answer, Device, HostAnswer, HostCall, BLOCK_SIZE};
+
+pub const BASE: u64 = 0x4000_0000;
+pub const START: u64 = 4_294_967_296;
+pub const HOST: u64 = 140_737_488_355_328;
+
+pub const PLUG: u16 = 0;
+pub const UNPLUG: u16 = 1;
+pub const UNPLUG_ALL: u16 = 2;
+pub const STATE: u16 = 3;
+
+pub fn placed() -> Device {
+    let mut device = Device::new(256, 16, false, None, 1 << 30).unwrap();
+    device.place(START, 256 << 20, &[1]).unwrap();
+    device
+        .host_answer(&mut [], 0, HostAnswer::Created(HOST))
+        .unwrap();
+    device
+}
+
+pub fn served(resp_type: u16, state: u16) -> Answer {
+    Answer::Served {
+        resp_type,
+        state,
+        length: 10,
+    }
+}
+
+pub fn discard(block: u64) -> Answer {
+    let offset = block * BLOCK_SIZE;
+    Answer::Wants(HostCall::Discard {
+        offset,
+        size: BLOCK_SIZE,
+        host: HOST + offset,
+    })
+}
+
+/// The device made again of its parts.
+pub fn again(device: &Device) -> Device {
+    let made = Device::from_parts(device.record(), device.bitmap(), device.table()).unwrap();
+    assert_eq!(&made, device);
+    made
+}
