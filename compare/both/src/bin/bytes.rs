@@ -19,6 +19,11 @@ const GIB: u64 = 1 << 30;
 /// Guest memory begins here where it is not anywhere.
 const BASE: u64 = 4096;
 
+/// Where the rings are in it, behind the chain, and where the used ring ends.
+const AVAILABLE: u64 = 544;
+const USED: u64 = 808;
+const RINGS_END: u64 = 1838;
+
 fn main() {
     let args: Option<Vec<u64>> = env::args().skip(1).map(|arg| arg.parse().ok()).collect();
     let Some(&[seed, seconds]) = args.as_deref() else {
@@ -27,14 +32,14 @@ fn main() {
     };
     let mut random = Random::new(seed);
     let began = Instant::now();
-    let mut numbers = [[0u64; 13]; 7];
+    let mut numbers = [[0u64; 16]; 10];
     let mut calls = 0;
     while began.elapsed() < Duration::from_secs(seconds) {
         let mut lent = Lent::any(&mut random);
         for _ in 0..8 {
             let before = lent.clone();
             let (export, number) = lent.call(&mut random);
-            assert!(number <= 12, "{export}: {number}");
+            assert!(number <= 15, "{export}: {number}");
             if number != 0 && number != 10 {
                 lent.answer.clone_from(&before.answer);
                 assert!(
@@ -46,7 +51,7 @@ fn main() {
             calls += 1;
         }
     }
-    println!("{calls} calls from seed {seed}; by export, how many gave 0 to 12:");
+    println!("{calls} calls from seed {seed}; by export, how many gave 0 to 15:");
     let names = [
         "make",
         "place",
@@ -55,6 +60,9 @@ fn main() {
         "host_answer",
         "read_config",
         "write_config",
+        "queue_make",
+        "serve",
+        "serve_answer",
     ];
     for (name, numbers) in names.iter().zip(numbers) {
         println!("{name:13} {numbers:?}");
@@ -122,6 +130,7 @@ fn words(random: &mut Random, length: usize) -> Box<[u64]> {
 #[derive(Clone, PartialEq, Eq)]
 struct Lent {
     record: Box<[u64]>,
+    queue: Box<[u64]>,
     bitmap: Box<[u8]>,
     table: Box<[u64]>,
     memory: Box<[u8]>,
@@ -176,6 +185,7 @@ impl Lent {
         let slots = random.pick(&[rows, rows, rows, rows + 1, 0]);
         Lent {
             record,
+            queue: queue(random),
             bitmap: bytes(random, bitmap),
             table: words(random, table),
             memory: guest(random),
@@ -188,6 +198,7 @@ impl Lent {
     fn call(&mut self, random: &mut Random) -> (usize, u64) {
         let Lent {
             record,
+            queue,
             bitmap,
             table,
             memory,
@@ -196,7 +207,7 @@ impl Lent {
         } = self;
         let base = random.pick(&[BASE, BASE, BASE, BASE, 0, u64::MAX - 511, u64::MAX]);
         let (any, other) = (number(random), number(random));
-        let export = random.pick(&[0, 1, 1, 2, 3, 3, 3, 4, 4, 4, 5, 6]);
+        let export = random.pick(&[0, 1, 1, 2, 3, 3, 3, 4, 4, 4, 5, 6, 7, 8, 8, 8, 9, 9, 9]);
         let size = random.pick(&[record.get(3).copied().unwrap_or(0), other]);
         let device = sys::Lent {
             record,
@@ -229,6 +240,12 @@ impl Lent {
                 let mut data = bytes(random, size);
                 sys::read_config(device.record, random.pick(&[any % 70, any]), &mut data)
             }
+            7 => {
+                let size = length(random, 6);
+                sys::queue_make(&mut words(random, size), any, other, base)
+            }
+            8 => device.serve(queue, memory, base, answer),
+            9 => device.serve_answer(queue, memory, base, random.chance(80), any, answer),
             _ => {
                 let size = length(random, 56);
                 sys::write_config(device.record, any, &bytes(random, size))
@@ -238,12 +255,39 @@ impl Lent {
     }
 }
 
-/// Guest memory: a chain of two descriptors with a request, some of its bytes changed; or any bytes.
+/// A queue whose rings are behind the chain, some of its words changed; or any words.
+fn queue(random: &mut Random) -> Box<[u64]> {
+    let size = length(random, 6);
+    let mut queue = words(random, size);
+    if random.chance(80) {
+        let good = [BASE, BASE + AVAILABLE, BASE + USED, 0, 0, 0];
+        for (word, good) in queue.iter_mut().zip(good) {
+            *word = good;
+        }
+        let at = random.below(12) as usize;
+        if let Some(word) = queue.get_mut(at) {
+            *word = number(random);
+        }
+    }
+    queue
+}
+
+/// Guest memory: a chain of two descriptors with a request, some of its bytes changed, mostly with rings behind it that
+/// have its head; or any bytes.
 fn guest(random: &mut Random) -> Box<[u8]> {
-    let size = 512 + random.below(32) as usize;
-    let mut memory = bytes(random, size);
+    let rings = random.chance(70);
+    let size = match rings {
+        true => RINGS_END - 1 + random.below(8),
+        false => 512 + random.below(32),
+    };
+    let mut memory = bytes(random, size as usize);
     if random.chance(20) {
         return memory[..random.below(64) as usize].into();
+    }
+    if rings {
+        let at = AVAILABLE as usize;
+        let index = random.pick(&[0, 1, 1, 1, 128, 129, 255]);
+        memory[at + 2..at + 6].copy_from_slice(&[index, 0, 0, 0]);
     }
     let first = descriptor(BASE + 256, 24, 1, 1);
     let second = descriptor(BASE + 512, 10, 2, 0);
