@@ -233,6 +233,8 @@ pub trait QueueT: for<'a> QueueGuard<'a> {
     fn set_desc_table_address(&mut self, addr: GuestAddress);
     fn set_rings(&mut self, avail: GuestAddress, used: GuestAddress);
     fn set_ready(&mut self, ready: bool);
+    fn set_next_avail(&mut self, next_avail: u16);
+    fn set_next_used(&mut self, next_used: u16);
     fn add_used<M: GuestMemory>(&mut self, mem: &M, head: u16, len: u32) -> Result<(), Error>;
 }
 
@@ -276,6 +278,14 @@ impl QueueT for QueueSync {
 
     fn set_ready(&mut self, ready: bool) {
         self.lock().ready = ready;
+    }
+
+    fn set_next_avail(&mut self, next_avail: u16) {
+        self.lock().next_avail = Wrapping(next_avail);
+    }
+
+    fn set_next_used(&mut self, next_used: u16) {
+        self.lock().next_used = Wrapping(next_used);
     }
 
     fn add_used<M: GuestMemory>(&mut self, mem: &M, head: u16, len: u32) -> Result<(), Error> {

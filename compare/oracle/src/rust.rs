@@ -6,7 +6,7 @@ use std::sync::{Arc, Mutex};
 use vm_memory::{GuestAddress, GuestMemoryMmap, GuestRegionMmap};
 
 use crate::device::{EventFd, VirtioDevice, VirtioDeviceConfig, VirtioQueueConfig};
-use crate::guest::{request, Descriptor, Guest, AVAIL, NEXT, USED, WRITE};
+use crate::guest::{request, Descriptor, Guest, NEXT, WRITE};
 use crate::host::Factory;
 use crate::mem::{Mem, MemEpollHandler};
 use crate::stand_ins::dbs::dbs_device::resources::{DeviceResources, ResourceConstraint};
@@ -62,11 +62,13 @@ pub struct Rust {
     guest: Option<Guest>,
 }
 
-/// The queue of a guest.
+/// The queue of a guest, from where its rings stand.
 pub fn queue(guest: &Guest) -> QueueSync {
     let mut queue = QueueSync::new(QUEUE_SIZE);
     queue.set_desc_table_address(GuestAddress(guest.table));
-    queue.set_rings(GuestAddress(AVAIL), GuestAddress(USED));
+    queue.set_rings(GuestAddress(guest.available), GuestAddress(guest.used));
+    queue.set_next_avail(guest.made_available);
+    queue.set_next_used(guest.made_available);
     queue.set_ready(true);
     queue
 }
