@@ -9,7 +9,7 @@ use std::process::{exit, Command};
 use std::time::Instant;
 
 use both::proved::Proved;
-use both::sys::ANSWER_WORDS;
+use both::sys::{self, ANSWER_WORDS, QUEUE_WORDS};
 use oracle::guest::Guest;
 use oracle::host::answering;
 use oracle::rust::{queue, Rust, BLOCK, PLUG, STATE, UNPLUG, UNPLUG_ALL};
@@ -27,14 +27,17 @@ const FIRST: &str = "capacity_mib=1048576 requested_mib=1048576 multi=0 node=non
 const START: u64 = 4 << 30;
 const HOST: u64 = 140_737_488_355_328;
 
-/// Guest memory, the table at its start.
+/// Guest memory, the table at its start, the request and its response behind it, and then the rings, where they are in it.
 const BASE: u64 = 4096;
 const LENGTH: usize = 4096;
+const AVAILABLE: u64 = BASE + 2304;
+const USED: u64 = BASE + 2816;
 
-/// What is measured: a request, a config read, or the queue that mem.rs is served by.
+/// What is measured: a request, the same from ring to ring, a config read, or the queue that mem.rs is served by.
 #[derive(Clone, Copy)]
 enum What {
     Request(u16, u16),
+    Ring(u16, u16),
     Config(usize),
     Queue,
 }
@@ -56,7 +59,7 @@ const fn row(name: &'static str, what: What, plugged: u64, repeat: u32) -> Row {
     }
 }
 
-const ROWS: [Row; 13] = [
+const ROWS: [Row; 15] = [
     row("plug of 1 block", What::Request(PLUG, 1), 0, 201),
     row("unplug of 1 block", What::Request(UNPLUG, 1), 1, 201),
     row("plug of 512 blocks", What::Request(PLUG, 512), 0, 51),
@@ -81,6 +84,13 @@ const ROWS: [Row; 13] = [
         What::Request(UNPLUG_ALL, 0),
         262_144,
         3,
+    ),
+    row("plug of 1 block, ring to ring", What::Ring(PLUG, 1), 0, 201),
+    row(
+        "unplug of 1 block, ring to ring",
+        What::Ring(UNPLUG, 1),
+        1,
+        201,
     ),
     row("config read of 8 bytes", What::Config(8), 0, 201),
     row("config read of 56 bytes", What::Config(56), 0, 201),
@@ -137,15 +147,15 @@ fn toggle_collect() {
     }
 }
 
-/// A device of either side, placed, with its guest's memory.
+/// A device of either side, placed, with its guest's memory. The proved one serves a chain or, with a queue, the next head.
 enum Side {
     MemRs(Rust),
-    Proved(Proved, Rust),
+    Proved(Proved, Option<[u64; QUEUE_WORDS]>, Rust),
 }
 
 impl Side {
     /// The proved side keeps a device of mem.rs too, for no more than to write its requests.
-    fn new(proved: bool) -> Side {
+    fn new(proved: bool, row: &Row) -> Side {
         let first = First::parse(FIRST).expect("in the house form");
         let mut rust = Rust::make(
             first.capacity_mib,
@@ -156,27 +166,38 @@ impl Side {
         )
         .expect("made");
         answering(|_| Some(HOST), || rust.place_at(START, 1)).expect("placed");
-        assert!(rust.activate(Guest::new(BASE, LENGTH, BASE).expect("a small range")));
+        let ring = matches!(row.what, What::Ring(..));
+        let guest = match ring {
+            true => Guest::with_rings(BASE, LENGTH, BASE, AVAILABLE, USED),
+            false => Guest::new(BASE, LENGTH, BASE),
+        };
+        assert!(rust.activate(guest.expect("a small range")));
         if !proved {
             return Side::MemRs(rust);
         }
         let mut device = Proved::make(&first).expect("made");
         device.place(START, device.region(), &[1]);
         assert!(device.host_answer(&mut [], 0, true, HOST).sized());
-        Side::Proved(device, rust)
+        let queue = ring.then(|| {
+            let mut queue = [0; QUEUE_WORDS];
+            assert_eq!(sys::queue_make(&mut queue, BASE, AVAILABLE, USED), 0);
+            queue
+        });
+        Side::Proved(device, queue, rust)
     }
 
-    /// One request, measured from the chain to its response, with a host that does all it is asked.
+    /// One request, measured from the chain to its response, or from the available ring to the used one, with a host that does all
+    /// it is asked.
     fn request(&mut self, kind: u16, addr: u64, blocks: u16, meter: &mut Meter) {
-        let (Side::MemRs(rust) | Side::Proved(_, rust)) = self;
+        let (Side::MemRs(rust) | Side::Proved(.., rust)) = self;
         let (_, at) = rust.write_request(kind, addr, blocks);
-        let response = match self {
+        match self {
             Side::MemRs(rust) => {
                 rust.guest().make_available(0);
                 answering(|_| Some(0), || meter.measure(|| rust.wake()));
-                rust.guest().read(at, 10)
+                reported(rust.guest());
             }
-            Side::Proved(device, rust) => {
+            Side::Proved(device, None, rust) => {
                 let mut memory = rust.guest().read(BASE, LENGTH);
                 let mut answer = [0; ANSWER_WORDS];
                 meter.measure(|| {
@@ -189,10 +210,26 @@ impl Side {
                             .host_answer(&mut memory, BASE, true, 0, &mut answer);
                     }
                 });
-                memory[(at - BASE) as usize..][..10].to_vec()
+                rust.guest().write(BASE, &memory);
             }
-        };
-        assert_eq!(response[..2], [0, 0], "acknowledged");
+            Side::Proved(device, Some(queue), rust) => {
+                rust.guest().make_available(0);
+                let mut memory = rust.guest().read(BASE, LENGTH);
+                let mut answer = [0; ANSWER_WORDS];
+                meter.measure(|| {
+                    device.lent().serve(queue, &mut memory, BASE, &mut answer);
+                    while answer[0] == 2 {
+                        device
+                            .lent()
+                            .serve_answer(queue, &mut memory, BASE, true, 0, &mut answer);
+                    }
+                });
+                rust.guest().write(BASE, &memory);
+                reported(rust.guest());
+            }
+        }
+        let (Side::MemRs(rust) | Side::Proved(.., rust)) = self;
+        assert_eq!(rust.guest().read(at, 2), [0, 0], "acknowledged");
     }
 
     /// The row's calls, `repeat` times after one that is not measured.
@@ -211,16 +248,18 @@ impl Side {
             self.request(PLUG, START + first * BLOCK, blocks, &mut off);
         }
         match (row.what, &mut *self) {
-            (What::Request(kind, blocks), _) => self.request(kind, START, blocks, meter),
+            (What::Request(kind, blocks) | What::Ring(kind, blocks), _) => {
+                self.request(kind, START, blocks, meter)
+            }
             (What::Config(length), Side::MemRs(rust)) => {
                 let data = &mut [0; 56][..length];
                 meter.measure(|| rust.read_config(0, data));
             }
-            (What::Config(length), Side::Proved(device, _)) => {
+            (What::Config(length), Side::Proved(device, ..)) => {
                 let data = &mut [0; 56][..length];
                 meter.measure(|| device.read_config(0, data));
             }
-            (What::Queue, Side::MemRs(rust) | Side::Proved(_, rust)) => {
+            (What::Queue, Side::MemRs(rust) | Side::Proved(.., rust)) => {
                 let mut queue = queue(rust.guest());
                 let mut guest = Guest::new(BASE, LENGTH, BASE).expect("a small range");
                 guest.make_available(0);
@@ -236,10 +275,16 @@ impl Side {
                     .expect("used");
             }
         }
-        if let What::Request(PLUG, blocks) = row.what {
+        if let What::Request(PLUG, blocks) | What::Ring(PLUG, blocks) = row.what {
             self.request(UNPLUG, START, blocks, &mut off);
         }
     }
+}
+
+/// The head, 0, is in the used ring, with the response's length.
+fn reported(guest: &Guest) {
+    assert!(guest.all_used());
+    assert_eq!(guest.last_used(), (0, 10));
 }
 
 /// A row's figures: instructions and nanoseconds of a call. An emulator's nanoseconds say nothing, and are none.
@@ -264,7 +309,8 @@ fn main() {
                 marks: true,
                 ..Meter::default()
             };
-            Side::new(side == "proved").run(find(name), &mut meter);
+            let row = find(name);
+            Side::new(side == "proved", row).run(row, &mut meter);
         }
         [file, svg, clock @ ("clock" | "no-clock"), ref count @ ..] if !count.is_empty() => {
             let clock = clock == "clock";
@@ -309,7 +355,7 @@ impl Measure<'_> {
 
 fn nanoseconds(row: &Row, proved: bool) -> u64 {
     let (mut meter, mut clock) = (Meter::default(), Meter::default());
-    Side::new(proved).run(row, &mut meter);
+    Side::new(proved, row).run(row, &mut meter);
     for _ in 0..200 {
         clock.measure(|| ());
     }
@@ -324,7 +370,7 @@ const HEAD_OF_TIMES: [&str; 2] = [" mem.rs, ns | proved, ns | ratio |", "---:|--
 
 const NO_TIMES: &str = " No times: this was measured under an emulator, whose times say nothing.";
 
-/// The table and the plot. What the queue costs is taken off the requests of mem.rs.
+/// The table and the plot. What the queue costs is taken off the requests of mem.rs; those from ring to ring have it on both sides.
 fn write(file: &str, svg: &str, measure: &Measure) {
     let queue = measure.figures(find("queue"), false);
     let mut table = String::new();
@@ -365,7 +411,7 @@ fn write(file: &str, svg: &str, measure: &Measure) {
         bars.push((row.name, instructions));
     }
     table += &format!(
-        "\nThe queue's share, {} instructions{}, is taken off the requests of mem.rs.{}\n\n{}",
+        "\nThe queue's share, {} instructions{}, is taken off the requests of mem.rs, but not off those from ring to ring.{}\n\n{}",
         queue.instructions,
         queue
             .nanoseconds
@@ -383,7 +429,7 @@ fn write(file: &str, svg: &str, measure: &Measure) {
 
 /// What a device of 1 TiB keeps: its bitmap, and its rows where it has several regions.
 fn memory() -> String {
-    let Side::Proved(device, rust) = Side::new(true) else {
+    let Side::Proved(device, _, rust) = Side::new(true, &ROWS[0]) else {
         unreachable!("asked for")
     };
     let bitmaps = (rust.with_blocks(<[bool]>::len), device.bitmap().len());
