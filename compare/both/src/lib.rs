@@ -6,3 +6,4 @@ pub mod sys;
 
 pub mod pair;
 pub mod proved;
+pub mod rings;

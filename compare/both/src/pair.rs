@@ -9,10 +9,11 @@ use std::rc::Rc;
 use oracle::chains::Chain;
 use oracle::guest::Guest;
 use oracle::host::{answering, Answer, Question};
-use oracle::rust::{Rust, BLOCK, ERROR, MAP_REGION, PLUG, STATE, UNPLUG, UNPLUG_ALL};
+use oracle::rust::{Rust, BLOCK, ERROR, MAP_REGION, PLUG, QUEUE_SIZE, STATE, UNPLUG, UNPLUG_ALL};
 use oracle::trace::{First, Op, Want};
 
 use crate::proved::{Proved, Told};
+use crate::rings::{Layout, Put, Rings};
 
 /// Guest memory of a run, with the table at its start.
 const BASE: u64 = 4096;
@@ -21,7 +22,8 @@ const LENGTH: usize = 4096;
 /// What a request's ignored bytes and a config read's buffer are filled with.
 const NOISE: u8 = 0xa5;
 
-/// A call of a run: placing, a line of the house form, or a read of the config.
+/// A call of a run: placing, a line of the house form, a read of the config, or in a run with rings a chain that is made available,
+/// and a wake.
 #[derive(Clone, Copy, Debug)]
 pub enum Call {
     /// With so many slots and bytes more than the device asks for.
@@ -35,6 +37,8 @@ pub enum Call {
         offset: u64,
         length: usize,
     },
+    Put(Put),
+    Wake,
 }
 
 impl fmt::Display for Call {
@@ -52,6 +56,8 @@ impl fmt::Display for Call {
             Call::Read { offset, length } => {
                 write!(f, "(config read offset={offset} length={length})")
             }
+            Call::Put(put) => write!(f, "{put}"),
+            Call::Wake => write!(f, "(wake)"),
         }
     }
 }
@@ -70,6 +76,8 @@ pub struct Pair {
     pub proved: Proved,
     first_slot: u32,
     memory: Vec<u8>,
+    /// Where requests are served from ring to ring.
+    rings: Option<Rings>,
     placed: bool,
     over: bool,
     /// Calls of the exports so far, without the reads that compare.
@@ -85,8 +93,8 @@ fn same<T: PartialEq + fmt::Debug>(what: &str, rust: T, proved: T) -> Result<(),
 }
 
 impl Pair {
-    /// Both made, or both refused with the same number.
-    pub fn make(first: &First) -> Result<Option<Pair>, String> {
+    /// Both made, or both refused with the same number. With a layout requests are served from ring to ring.
+    pub fn make(first: &First, layout: Option<Layout>) -> Result<Option<Pair>, String> {
         let (capacity, requested) = (first.capacity_mib, first.requested_mib);
         let rust = Rust::make(capacity, requested, first.multi, first.node, first.boot);
         let (mut rust, proved) = match (rust, Proved::make(first)) {
@@ -104,6 +112,7 @@ impl Pair {
             proved,
             first_slot: first.slot as u32,
             memory: vec![0; LENGTH],
+            rings: layout.map(Rings::new),
             placed: false,
             over: false,
             calls: 1,
@@ -136,6 +145,10 @@ impl Pair {
                 bytes,
             } => self.place(start, slots, bytes, host)?,
             Call::Read { offset, length } => return self.read(offset, length),
+            Call::Put(put) => self.put(put, host)?,
+            Call::Wake => {
+                self.wake(host)?;
+            }
             Call::Op(Op::Size { mib }) => {
                 let told = self.proved.set_requested_size(mib);
                 let (told, asked) = self.answered(told, host)?;
@@ -163,7 +176,10 @@ impl Pair {
         self.saw("place, number", told.number);
         sized(rust, told)?;
         if self.placed {
-            let guest = Guest::new(BASE, LENGTH, BASE).expect("a small range");
+            let guest = match &self.rings {
+                Some(rings) => rings.layout.guest(),
+                None => Guest::new(BASE, LENGTH, BASE).expect("a small range"),
+            };
             assert!(
                 self.rust.activate(guest),
                 "mem.rs activates a placed device"
@@ -220,6 +236,87 @@ impl Pair {
         same("answer", (word(at), word(at + 8)), (kind, state))
     }
 
+    /// Makes a chain available; where the ring is full, or nothing may come behind, the devices are woken.
+    fn put(&mut self, put: Put, host: Host) -> Result<(), String> {
+        let head = put.write(self.rust.guest());
+        let rings = self.rings.as_mut().expect("a run with rings");
+        rings.waiting.push(head);
+        if put.is_last() || rings.waiting.len() == usize::from(QUEUE_SIZE) {
+            let refused = self.wake(host)?;
+            self.over = put.is_last() && refused;
+        }
+        Ok(())
+    }
+
+    /// Both devices serve every head that waits: mem.rs in one wake, the proved device with a call for each until no head is there.
+    /// Gives whether the last one's response is ERROR.
+    fn wake(&mut self, host: Host) -> Result<bool, String> {
+        let rings = self.rings.as_mut().expect("a run with rings");
+        let heads = std::mem::take(&mut rings.waiting);
+        let Layout { base, length, .. } = rings.layout;
+        self.memory = self.rust.guest().read(base, length);
+        let (mut used, mut questions) = (Vec::new(), Vec::new());
+        let mut refused = false;
+        loop {
+            let rings = self.rings.as_mut().expect("a run with rings");
+            let told = self.proved.serve(&mut rings.words, &mut self.memory, base);
+            let (told, asked) = self.answered(told, host)?;
+            if told.empty() {
+                break;
+            }
+            let (Some((length, reason)), Some(&head)) = (told.used(), heads.get(used.len())) else {
+                return Err(format!("serve, {} heads waited: {told:?}", heads.len()));
+            };
+            match reason {
+                0 if told.words[0] == 5 => self.saw("head, response", told.words[5]),
+                _ => self.saw("head, reason", reason),
+            }
+            self.saw("head, used length", length.into());
+            refused = told.words[5] == u64::from(ERROR);
+            used.push((u32::from(head), length));
+            questions.extend(asked);
+        }
+        same("heads taken", heads.len(), used.len())?;
+        self.scripted(questions, |rust| rust.wake())?;
+        let guest = self.rust.guest();
+        let index = guest.used_index();
+        let newest = (1..=used.len() as u16).rev();
+        let elements = newest.map(|back| guest.used_at(index.wrapping_sub(back)));
+        same("used", elements.collect(), used)?;
+        let memory = guest.read(base, length);
+        if memory != self.memory {
+            let differs = |&at: &usize| memory[at] != self.memory[at];
+            let at = (0..length).find(differs).expect("somewhere");
+            let what = format!("guest memory at {}", base + at as u64);
+            same(&what, memory[at], self.memory[at])?;
+        }
+        let rings = self.rings.as_ref().expect("a run with rings");
+        same("queue", rings.layout.words(index), rings.words)?;
+        // By the greatest power of 2 up to their number.
+        let count = heads.len().checked_ilog2().map_or(0, |log| 1 << log);
+        self.saw("wake, heads from", count);
+        if usize::from(index) < heads.len() {
+            self.saw("wake, index at or past 65,536", 0);
+        }
+        Ok(refused)
+    }
+
+    /// While the host is asked no head is taken, and nothing changes.
+    fn serves_none(&mut self) -> Result<(), String> {
+        let Some(rings) = &mut self.rings else {
+            return Ok(());
+        };
+        let before = (self.proved.record, rings.words, self.memory.clone());
+        let told = self
+            .proved
+            .serve(&mut rings.words, &mut self.memory, rings.layout.base);
+        self.calls += 1;
+        if told.number != 7 || before != (self.proved.record, rings.words, self.memory.clone()) {
+            return Err(format!("serve while the host is asked: {told:?}"));
+        }
+        Ok(())
+    }
+
     /// Answers the proved device until it asks no more.
     fn answered(&mut self, mut told: Told, host: Host) -> Result<(Told, Asked), String> {
         let mut asked = Vec::new();
@@ -236,7 +333,15 @@ impl Pair {
             };
             self.saw(name, u64::from(ok));
             asked.push((want, ok, addr));
-            told = self.proved.host_answer(&mut self.memory, BASE, ok, addr);
+            self.serves_none()?;
+            told = match &mut self.rings {
+                Some(rings) => {
+                    let base = rings.layout.base;
+                    self.proved
+                        .serve_answer(&mut rings.words, &mut self.memory, base, ok, addr)
+                }
+                None => self.proved.host_answer(&mut self.memory, BASE, ok, addr),
+            };
             self.calls += 1;
         }
         Ok((told, asked))

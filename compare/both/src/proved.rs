@@ -42,6 +42,11 @@ impl Told {
         self.words[0] == 3
     }
 
+    /// True where the available ring has no head.
+    pub fn empty(&self) -> bool {
+        (self.number, self.words) == (0, [7, 0, 0, 0, 0, 0, 0, 0, 0])
+    }
+
     /// Used length and reason, where the chain is done with.
     pub fn used(&self) -> Option<(u32, u64)> {
         match self.words[0] {
@@ -153,6 +158,21 @@ impl Proved {
 
     pub fn host_answer(&mut self, memory: &mut [u8], base: u64, ok: bool, host: u64) -> Told {
         self.told(|device, words| device.host_answer(memory, base, ok, host, words))
+    }
+
+    pub fn serve(&mut self, queue: &mut [u64], memory: &mut [u8], base: u64) -> Told {
+        self.told(|device, words| device.serve(queue, memory, base, words))
+    }
+
+    pub fn serve_answer(
+        &mut self,
+        queue: &mut [u64],
+        memory: &mut [u8],
+        base: u64,
+        ok: bool,
+        host: u64,
+    ) -> Told {
+        self.told(|device, words| device.serve_answer(queue, memory, base, ok, host, words))
     }
 
     pub fn read_config(&self, offset: u64, data: &mut [u8]) -> u64 {

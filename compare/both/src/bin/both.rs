@@ -6,14 +6,16 @@ use std::process::exit;
 use std::time::{Duration, Instant};
 
 use both::pair::{chain, Call, Pair, Seen};
+use both::rings::{Layout, Put};
 use oracle::chains;
 use oracle::generate::{first_line, granted, host_answer, next_op, start, LONG};
 use oracle::random::Random;
 use oracle::trace::{First, Op};
 
 const HELP: &str = "\
-both SEED SECONDS    runs from SEED on until the time is over; ends at the first difference
-both SEED            the run of this seed alone";
+both [--queue] SEED SECONDS    runs from SEED on until the time is over; ends at the first difference
+both [--queue] SEED            the run of this seed alone
+--queue: requests are served from ring to ring";
 
 /// Calls of a run after placing, and chains of a run of chains.
 const CALLS: u64 = 400;
@@ -23,8 +25,10 @@ const CHAINS: u64 = 50;
 type Line = (Call, Vec<(bool, u64)>);
 
 fn main() {
-    let args: Vec<String> = env::args().skip(1).collect();
-    let args: Option<Vec<u64>> = args.iter().map(|arg| arg.parse().ok()).collect();
+    let mut args: Vec<String> = env::args().skip(1).collect();
+    let queue = args.first().is_some_and(|arg| arg == "--queue");
+    let args = args.drain(usize::from(queue)..);
+    let args: Option<Vec<u64>> = args.map(|arg| arg.parse().ok()).collect();
     let (seed, seconds) = match args.as_deref() {
         Some(&[seed]) => (seed, 0),
         Some(&[seed, seconds]) => (seed, seconds),
@@ -37,7 +41,7 @@ fn main() {
     let (mut calls, mut runs) = (0, 0);
     let mut seen = Seen::new();
     for seed in seed.. {
-        match run(seed, &mut seen) {
+        match run(seed, queue, &mut seen) {
             Ok(done) => calls += done,
             Err(said) => {
                 println!("seed {seed} differs:\n{said}");
@@ -57,19 +61,23 @@ fn main() {
 }
 
 /// The calls of one seed; where they differ, what and after which ones.
-fn run(seed: u64, seen: &mut Seen) -> Result<u64, String> {
+fn run(seed: u64, queue: bool, seen: &mut Seen) -> Result<u64, String> {
     let mut random = Random::new(seed);
-    if random.chance(10) {
+    let layout = queue.then(|| Layout::any(&mut random));
+    if !queue && random.chance(10) {
         return run_chains(&mut random, seen);
     }
     let mut first = first_line(&mut random);
     let mut lines = Vec::new();
-    let said = match run_calls(&mut random, &mut first, &mut lines, seen) {
+    let said = match run_calls(&mut random, &mut first, layout, &mut lines, seen) {
         Ok(calls) => return Ok(calls),
         Err(said) => said,
     };
-    let (said, lines) = shorter(&first, said, lines);
+    let (said, lines) = shorter(&first, layout, said, lines);
     let mut text = format!("{first}\n");
+    if let Some(layout) = layout {
+        text += &format!("{layout:?}\n");
+    }
     for (call, answers) in &lines {
         text += &format!("{call}\n");
         for &(ok, addr) in answers {
@@ -92,10 +100,11 @@ fn run_chains(random: &mut Random, seen: &mut Seen) -> Result<u64, String> {
 fn run_calls(
     random: &mut Random,
     first: &mut First,
+    layout: Option<Layout>,
     lines: &mut Vec<Line>,
     seen: &mut Seen,
 ) -> Result<u64, String> {
-    let Some(mut pair) = Pair::make(first)? else {
+    let Some(mut pair) = Pair::make(first, layout)? else {
         *seen.entry(("make, number", 1)).or_default() += 1;
         return Ok(1);
     };
@@ -110,20 +119,42 @@ fn run_calls(
     } else {
         0
     };
+    let wakes = layout.map_or(0, |_| random.pick(&[100, 20, 1]));
     for done in 0..calls {
         if pair.over() {
             break;
         }
         let call = match random.chance(10) {
             true => read(random),
-            false => Call::Op(next_op(random, &mut pair.rust, LONG, done < 2).0),
+            false => next_call(random, &mut pair, layout, wakes, done < 2),
         };
         step(random, &mut pair, call, lines)?;
+        if layout.is_some() && random.chance(wakes) {
+            step(random, &mut pair, Call::Wake, lines)?;
+        }
     }
     for (&what, count) in &pair.seen {
         *seen.entry(what).or_default() += count;
     }
     Ok(pair.calls)
+}
+
+/// A line; with rings a request is a chain that is made available. An unplug-all wakes, so where wakes are rare it is too.
+fn next_call(
+    random: &mut Random,
+    pair: &mut Pair,
+    layout: Option<Layout>,
+    wakes: u64,
+    early: bool,
+) -> Call {
+    loop {
+        let (op, _) = next_op(random, &mut pair.rust, LONG, early);
+        return match (op, layout) {
+            (Op::UnplugAll, Some(_)) if !random.chance(wakes) => continue,
+            (Op::Size { .. }, _) | (_, None) => Call::Op(op),
+            (_, Some(layout)) => Call::Put(Put::any(random, op, &layout)),
+        };
+    }
 }
 
 fn read(random: &mut Random) -> Call {
@@ -151,6 +182,7 @@ fn step(
     let mut answers = Vec::new();
     let granted = match call {
         Call::Op(op) => granted(random, op, LONG),
+        Call::Put(put) if put.is_last() => granted(random, Op::UnplugAll, LONG),
         _ => false,
     };
     let done = pair.step(call, &mut |want| {
@@ -166,8 +198,8 @@ fn step(
 type Differs = (String, Vec<Line>);
 
 /// The same calls with the same answers; a question too many is answered by failure.
-fn replayed(first: &First, lines: &[Line]) -> Result<(), Differs> {
-    let made = Pair::make(first).map_err(|said| (said, Vec::new()))?;
+fn replayed(first: &First, layout: Option<Layout>, lines: &[Line]) -> Result<(), Differs> {
+    let made = Pair::make(first, layout).map_err(|said| (said, Vec::new()))?;
     let Some(mut pair) = made else {
         return Ok(());
     };
@@ -194,13 +226,18 @@ fn replayed(first: &First, lines: &[Line]) -> Result<(), Differs> {
 }
 
 /// The shortest prefix is what was written down; calls in it that are not needed are left out.
-fn shorter(first: &First, mut said: String, mut lines: Vec<Line>) -> Differs {
+fn shorter(
+    first: &First,
+    layout: Option<Layout>,
+    mut said: String,
+    mut lines: Vec<Line>,
+) -> Differs {
     for at in (0..lines.len()).rev() {
         let mut without = lines.clone();
         if at < without.len() {
             without.remove(at);
         }
-        if let Err(differs) = replayed(first, &without) {
+        if let Err(differs) = replayed(first, layout, &without) {
             (said, lines) = differs;
         }
     }
