@@ -11,6 +11,9 @@ use Rattle.bitmap.proofs.Laws.{blocks-length}
 use Rattle.rows.proofs.Words.{count, whole}
 use Rattle.bitmap.specs.Blocks.{blocks}
 use Rattle.record.specs.declared.Device.{Device}
+use Rattle.record.specs.declared.Pending.{Pending}
+use Rattle.record.specs.declared.Pending.the-variants.{Nothing as Idle, Create, Discard, DiscardOne}
+use Rattle.record.specs.Shape.{shapedOf, isIdle}
 use Rattle.rings.specs.declared.Queue.{Queue}
 use Rattle.rings.specs.declared.Taken.{Taken}
 use Rattle.rings.specs.declared.Taken.the-variants.{Nothing, Head}
@@ -20,14 +23,14 @@ use Rattle.rings.specs.Rings.{ringsInside, nextHead}
 use Rattle.step.specs.declared.Answered.{Answered}
 use Rattle.step.specs.declared.Answer.the-variants.{Refused}
 use Rattle.step.specs.World.{World, Guest, Request, HostAnswer, Outcome, worldOf, Meets}
-use Rattle.step.specs.Step.{step, unless, readyRefusal, pendingRefusal}
+use Rattle.step.specs.Step.{step, unless, readyRefusal, pendingRefusal, tablesFit}
 use Rattle.queue.specs.declared.QueueAnswer.{QueueAnswer}
 use Rattle.queue.specs.declared.QueueAnswer.the-variants.{Of}
 use Rattle.queue.specs.declared.Ending.{Ending}
 use Rattle.queue.specs.declared.Taking.{Taking}
 use Rattle.queue.specs.declared.Taking.the-variants.{Walk, Told}
 use Rattle.queue.specs.declared.Turn.{Turn}
-use Rattle.queue.specs.Queue.{QueueOutcome, queueOk, tookHead, endingOf, queueBy, bytesBy, unmoved, aside, about, takingRefusal, nextUnless, nextOf, noneTold, takes, serveNext, standing, takingOf, walks, firstOf, canReport, outRefusal, answerRefusal, queueRefusal, answers, unlessRefused, hostAnswers, Settled, turned, MeetsTurn}
+use Rattle.queue.specs.Queue.{QueueOutcome, queueOk, tookHead, endingOf, queueBy, bytesBy, unmoved, aside, about, takingRefusal, nextUnless, nextOf, noneTold, takes, serveNext, standing, takingOf, walks, discarding, canReport, outsideRefusal, outRefusal, answerRefusal, queueRefusal, answers, unlessRefused, hostAnswers, Settled, turned, MeetsTurn}
 
 clash : {A : Type 0} {t : Bool} → t ≡ true → t ≡ false → A
 clash p q = let z : _≡_ {A = ℕ} 0 1 = cc in absurd (omega arith)
@@ -78,25 +81,36 @@ module _ (w : World) (q : Queue) (g : Guest) where
   heard (Head head) ok host e =
       by-test (eqb (pendingRefusal (w .device) (length (w .blocks)) (length (w .rows))) 0) (λ t. rw (e, t)) (λ t. rw (t, t))
 
-  -- and where it cannot: 14 comes last
-  outside : (taken : Taken) (n m : ℕ) → canReport taken (length (g .mem)) (g .base) q ≡ false → outRefusal taken (w .device) q n m g ≡ firstOf (pendingRefusal (w .device) n m) 14
-  unfolding canReport outRefusal
-  outside Nothing n m e = clash refl e
-  outside (Head head) n m e = rw e
+  -- and where it cannot: a discard is pending, and 14 comes last
+  busy : (p : Pending) → discarding p ≡ true → isIdle p ≡ false
+  busy Idle e = clash e refl
+  busy (Create first last) e = clash e refl
+  busy (Discard first count status) e = refl
+  busy (DiscardOne block status) e = refl
 
-  alike : (taken : Taken) (ok : Bool) (host : ℕ) → let n = pendingRefusal (w .device) (length (w .blocks)) (length (w .rows)) in let o = answers taken q (g .base) (step w (HostAnswer g ok host)) in
-      unlessRefused (outRefusal taken (w .device) q (length (w .blocks)) (length (w .rows)) g) w q (g .mem) o ≡ unlessRefused (cond (canReport taken (length (g .mem)) (g .base) q) 0 (firstOf n 14)) w q (g .mem) o
+  outside : (taken : Taken) (n m : ℕ) → queueOk taken (w .device .pending) ≡ true → canReport taken (length (g .mem)) (g .base) q ≡ false
+      → outRefusal taken (w .device) q n m g ≡ outsideRefusal (w .device) n m
+  unfolding canReport outRefusal pendingRefusal outsideRefusal tablesFit
+  outside Nothing n m k e = clash refl e
+  outside (Head head) n m k e =
+      let d = w .device in
+      by-test (shapedOf d)
+      (λ s. by-test (tablesFit d n m) (λ t. rw (e, s, busy (d .pending) k, t)) (λ t. rw (e, s, busy (d .pending) k, t)))
+      (λ s. rw (e, s))
+
+  alike : (taken : Taken) (ok : Bool) (host : ℕ) → queueOk taken (w .device .pending) ≡ true → let n = outsideRefusal (w .device) (length (w .blocks)) (length (w .rows)) in let o = answers taken q (g .base) (step w (HostAnswer g ok host)) in
+      unlessRefused (outRefusal taken (w .device) q (length (w .blocks)) (length (w .rows)) g) w q (g .mem) o ≡ unlessRefused (cond (canReport taken (length (g .mem)) (g .base) q) 0 n) w q (g .mem) o
   unfolding unlessRefused
-  alike taken ok host =
+  alike taken ok host k =
       by-test (canReport taken (length (g .mem)) (g .base) q)
       (λ t. rw t (heard taken ok host t))
-      (λ t. rw (t, outside taken (length (w .blocks)) (length (w .rows)) t))
+      (λ t. rw (t, outside taken (length (w .blocks)) (length (w .rows)) k t))
 
   pub by-refusal : (ok : Bool) (host : ℕ) → hostAnswers w q g ok host
       ≡ unlessRefused (queueRefusal (w .device) q (length (w .blocks)) (length (w .rows)) (length (g .mem)) (g .base)) w q (g .mem) (answers (q .taken) q (g .base) (step w (HostAnswer g ok host)))
   unfolding answerRefusal queueRefusal
   by-refusal ok host =
-      by-test (queueOk (q .taken) (w .device .pending)) (λ t. rw t (alike (q .taken) ok host)) (λ t. rw t)
+      by-test (queueOk (q .taken) (w .device .pending)) (λ t. rw t (alike (q .taken) ok host t)) (λ t. rw t)
 
 module _ (d : Device) (bitmap table : List ℕ) (q : Queue) (g : Guest) where
   -- a call that changes nothing

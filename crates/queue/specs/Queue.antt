@@ -8,6 +8,7 @@ use lib.ListN.{length, getD}
 use Rattle.bitmap.specs.Blocks.{blocks}
 use Rattle.rows.specs.Rows.{written}
 use Rattle.record.specs.declared.Device.{Device}
+use Rattle.record.specs.Shape.{shapedOf}
 use Rattle.record.specs.declared.Pending.{Pending}
 use Rattle.record.specs.declared.Pending.the-variants.{Nothing as Idle, Create, Discard, DiscardOne}
 use Rattle.rings.specs.declared.Queue.{Queue}
@@ -20,7 +21,7 @@ use Rattle.step.specs.declared.Answer.{Answer}
 use Rattle.step.specs.declared.Answer.the-variants.{Refused, Wants, Sized, Unserved, Served, Done}
 use Rattle.step.specs.World.{World, Guest, Request, HostAnswer, Outcome}
 use Rattle.step.specs.Answers.{answerWords}
-use Rattle.step.specs.Step.{step, readyRefusal, pendingRefusal}
+use Rattle.step.specs.Step.{step, readyRefusal, pendingRefusal, tablesFit}
 use Rattle.queue.specs.declared.QueueAnswer.{QueueAnswer}
 use Rattle.queue.specs.declared.QueueAnswer.the-variants.{Empty, Of}
 use Rattle.queue.specs.declared.Ending.{Ending}
@@ -179,10 +180,13 @@ hostAnswers w q g ok host =
     unlessRefused (answerRefusal (w .device) q (length (w .blocks)) (length (w .rows)) g) w q (g .mem)
     (answers (q .taken) q (g .base) (step w (HostAnswer g ok host)))
 
--- the same, as code finds it: where the head can be reported, the device's own call gives its refusals (`by-refusal`)
+-- the same, as code finds it: where the head can be reported, the device's own call gives its refusals; where it cannot, a host call is pending (`by-refusal`)
+unfoldable pub outsideRefusal : Device → (blocks rows : ℕ) → ℕ
+outsideRefusal d blocks rows = cond (shapedOf d) (cond (tablesFit d blocks rows) 14 11) 12
+
 unfoldable pub queueRefusal : Device → Queue → (blocks rows len base : ℕ) → ℕ
 queueRefusal d q blocks rows len base =
-    cond (queueOk (q .taken) (d .pending)) (cond (canReport (q .taken) len base q) 0 (firstOf (pendingRefusal d blocks rows) 14)) 12
+    cond (queueOk (q .taken) (d .pending)) (cond (canReport (q .taken) len base q) 0 (outsideRefusal d blocks rows)) 12
 
 -- ---- what code promises
 -- the head went where the ending says

@@ -2,6 +2,7 @@
 // The device on its queue: a call takes one head, and reports it used when its request has ended.
 use record::Device;
 use record::Pending;
+use record::shaped;
 use rings::Next;
 use rings::Queue;
 use rings::Taken;
@@ -12,15 +13,15 @@ use rings::rings_inside;
 use serving::request;
 use step::Answer;
 use step::Answered;
-use step::pending_refusal;
 use step::ready_refusal;
+use step::tables_fit;
 use units::GuestAddr;
 use units::HostAddr;
 ghost use mathlib.Core.Path.{_≡_};
 ghost use Prim.Native.Nat.{_*_, _/_};
 ghost use lib.ListN.{length};
 ghost use Rattle.step.specs.World.{worldOf, guestOf};
-ghost use Rattle.queue.specs.Queue.{discarding, queueOk, tookHead, gaveBack, endingOf, Settled, turned, nextUnless, noneTold, takingOf, serveNext, canReport, firstOf, queueRefusal, hostAnswers, MeetsTurn};
+ghost use Rattle.queue.specs.Queue.{discarding, queueOk, tookHead, gaveBack, endingOf, Settled, turned, nextUnless, noneTold, takingOf, serveNext, canReport, outsideRefusal, queueRefusal, hostAnswers, MeetsTurn};
 
 // What a call on the queue tells: that no head is there, or the device's answer.
 pub enum QueueAnswer {
@@ -219,11 +220,18 @@ fn can_report(taken: Taken, mem: &[u8], base: GuestAddr, q: Queue) -> bool
     }
 }
 
-// The first number, unless it is 0.
-fn first_of(n: u64, m: u64) -> u64
-    ensures { λ r. ⌜ r ≡ firstOf n m ⌝ }
+// The refusal of a device that waits for the host, 12 or 11, and then 14. `pending_refusal` has both tests: with a second caller it
+// would no longer stand in the device's own call.
+fn outside_refusal(d: Device, bitmap: usize, table: usize) -> u64
+    ensures { λ r. ⌜ r ≡ outsideRefusal d (8 * bitmap) (table / 3) ⌝ }
 {
-    if n == 0 { m } else { n }
+    if !shaped(d) {
+        return 12;
+    }
+    if !tables_fit(d, bitmap, table) {
+        return 11;
+    }
+    14
 }
 
 // The number that the queue refuses a host's answer with, or 0. Where it is 0, the device's own call gives its refusals.
@@ -245,7 +253,7 @@ pub fn queue_refusal(
     if can_report(taken, mem, base, q) {
         return 0;
     }
-    first_of(pending_refusal(d, bitmap, table), 14)
+    outside_refusal(d, bitmap, table)
 }
 
 // The host's answer to what it was asked last; it may end the request of the head that is out.

@@ -55,7 +55,7 @@ fn bytes_for(region: u64, block_size: u64) -> u64
 }
 
 // Whether a bitmap of `bytes` bytes and a map table of `words` words are long enough (11).
-fn tables_fit(d: Device, bytes: usize, words: usize) -> bool
+pub fn tables_fit(d: Device, bytes: usize, words: usize) -> bool
     ensures { λ r. ⌜ r ≡ tablesFit d (8 * bytes) (words / 3) ⌝ }
 {
     let region = d.config.region_size;

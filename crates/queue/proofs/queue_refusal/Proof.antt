@@ -20,17 +20,14 @@ unfolding queueRefusal
 returns-2 c =
     rw (passed _ _ (c .before .before .before .queue-ok .ensures) (c .before .before .if1 .left), ← c .before .can-report .ensures, c .if2 .taken)
 
-pending-refusal-requires : tie.Need-pending-refusal-requires
-pending-refusal-requires c κs = search needs
-
-first-of-requires : tie.Need-first-of-requires
-first-of-requires c κs = search needs
+outside-refusal-requires : tie.Need-outside-refusal-requires
+outside-refusal-requires c κs = search needs
 
 returns-3 : tie.Need-returns-3
 unfolding queueRefusal
 returns-3 c =
-    rw (passed _ _ (c .before .before .before .before .before .queue-ok .ensures) (c .before .before .before .before .if1 .left), ← c .before .before .before .can-report .ensures, c .before .before .if2 .left, ← c .before .pending-refusal .ensures)
-    (c .first-of .ensures)
+    rw (passed _ _ (c .before .before .before .before .queue-ok .ensures) (c .before .before .before .if1 .left), ← c .before .before .can-report .ensures, c .before .if2 .left)
+    (c .outside-refusal .ensures)
 
 pub queue-refusal-spec : {M : Type 1} → statement M
 queue-refusal-spec =
@@ -40,6 +37,5 @@ queue-refusal-spec =
     returns
     can-report-requires
     returns-2
-    pending-refusal-requires
-    first-of-requires
+    outside-refusal-requires
     returns-3)
