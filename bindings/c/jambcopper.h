@@ -14,7 +14,8 @@
  *
  * What is proved of every run of calls (docs/GUIDE.md) holds where each call is lent the record that the call before it
  * left and, while the device is placed or a host call is pending, the bitmap and the map table that were left. Before
- * that, and after a placing that failed, any bitmap and table will do.
+ * that, and after a placing that failed, any bitmap and table will do. Where the device serves a queue, the same goes
+ * for the queue's words.
  *
  * What is lent must not change during a call, by anyone but the call. For guest memory that means: no vCPU writes the
  * slice before the call returns. A call may read a byte twice, and what is proved of it does not hold where the byte
