@@ -20,9 +20,7 @@ use Rattle.queue.specs.declared.Ending.the-variants.{Stays, Used}
 use Rattle.queue.specs.Queue.{endingOf}
 use Rattle.standard.specs.Requests.{responseOf, among, lentBy, statusFor, Written, Delivered}
 use Rattle.standard.proofs.Responses.{response-is-delivered, silence-writes-nothing}
-
-pub clash : {A : Type 0} {t : Bool} → t ≡ true → t ≡ false → A
-clash p q = let z : _≡_ {A = ℕ} 0 1 = cc in absurd (omega arith)
+use Rattle.history.proofs.Shaped.{clash}
 
 -- as many bytes as before; none written but the response's, at its status address; and a used length of at most 10
 pub record Keeps (w : World) (call : Call) (g : Guest) (a : Answer) (bytes : List ℕ) : Type 0 where

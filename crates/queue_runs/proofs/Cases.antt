@@ -20,13 +20,8 @@ use Rattle.rings.specs.Rings.{nextHead}
 use Rattle.step.specs.World.{World, Guest}
 use Rattle.step.specs.Step.{readyRefusal}
 use Rattle.queue.specs.Queue.{queueOk, takingRefusal, nextUnless, nextOf}
-
-clash : {A : Type 0} {t : Bool} → t ≡ true → t ≡ false → A
-clash p q = let z : _≡_ {A = ℕ} 0 1 = cc in absurd (omega arith)
-
-pub by-cond : {A : Type 0} (P : A → Type 0) (t : Bool) (x y : A) → (t ≡ true → P x) → (t ≡ false → P y) → P (cond t x y)
-by-cond P true x y f g = f refl
-by-cond P false x y f g = g refl
+use Rattle.history.proofs.Shaped.{clash}
+use Rattle.history.proofs.Cases.{by-cond}
 
 -- a device that is ready waits for nothing, so no head is out
 idle-none : (t : Taken) (p : Pending) → queueOk t p ≡ true → isIdle p ≡ true → t ≡ Nothing

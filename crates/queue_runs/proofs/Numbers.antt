@@ -27,10 +27,10 @@ use Rattle.history.specs.History.{Fresh, after, begun}
 use Rattle.history.specs.Rules.{Never12 as DeviceNever12}
 use Rattle.history.proofs.KeepsShape.{is-shaped}
 use Rattle.history.proofs.Sizes.{never-12 as device-never-12}
+use Rattle.history.proofs.Cases.{by-cond}
 use Rattle.queue_runs.specs.Runs.{callOf, QueueCall, TakeNext, Host, PastIt, queueStep, QueueStory, afterAll, New, opened, InEveryQueueRun}
 use Rattle.queue_runs.specs.Heads.{isOut, NoneWhilePending, Never12}
 use Rattle.queue_runs.specs.Rules.{allCalls}
-use Rattle.queue_runs.proofs.Cases.{by-cond}
 use Rattle.queue_runs.proofs.Calls.{runs-the-device, lifts-rules}
 use Rattle.queue_runs.proofs.Open.{out-while-open}
 

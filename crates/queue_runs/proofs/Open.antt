@@ -22,14 +22,13 @@ use Rattle.step.specs.Step.{step}
 use Rattle.queue.specs.declared.Ending.{Ending}
 use Rattle.queue.specs.declared.Ending.the-variants.{Stays, Out, Used}
 use Rattle.queue.specs.Queue.{QueueOutcome, tookHead, discarding, endingOf, queueBy, takes, answerRefusal, answers, unlessRefused}
+use Rattle.history.proofs.Shaped.{clash}
+use Rattle.history.proofs.Cases.{by-cond}
 use Rattle.queue_runs.specs.Runs.{Beside, Placing, Sizing, Reading, Writing, callOf, QueueCall, TakeNext, Host, PastIt, queueStep, QueueStory, nextStory, afterAll, InEveryQueueRun}
-use Rattle.queue_runs.proofs.Cases.{by-cond, next-cases}
+use Rattle.queue_runs.proofs.Cases.{next-cases}
 use Rattle.history.specs.History.{Event}
 use Rattle.history.proofs.Calls.{Endings, each-call}
 use Rattle.queue_runs.specs.Heads.{isOut, OutWhileOpen}
-
-clash : {A : Type 0} {t : Bool} → t ≡ true → t ≡ false → A
-clash p q = let z : _≡_ {A = ℕ} 0 1 = cc in absurd (omega arith)
 
 -- what `OutWhileOpen` says of where the device and the queue stand
 abbrev OutThen : World → Queue → Type 0

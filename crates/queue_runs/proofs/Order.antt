@@ -16,9 +16,10 @@ use Rattle.step.specs.Step.{step}
 use Rattle.queue.specs.declared.Ending.{Ending}
 use Rattle.queue.specs.declared.Ending.the-variants.{Stays, Out, Used}
 use Rattle.queue.specs.Queue.{QueueOutcome, tookHead, queueBy, endingOf, takes, answerRefusal, answers, unlessRefused}
+use Rattle.history.proofs.Cases.{by-cond}
 use Rattle.queue_runs.specs.Runs.{QueueCall, TakeNext, Host, PastIt, queueStep, endingTold, takenBy, usedBy, headOf, outOf, newlyTaken, newlyReported, QueueStory, nextStory, afterAll, opened, InEveryQueueRun}
 use Rattle.queue_runs.specs.Heads.{InOrder}
-use Rattle.queue_runs.proofs.Cases.{by-cond, next-cases}
+use Rattle.queue_runs.proofs.Cases.{next-cases}
 
 -- a call took and reported these: which head is out before and after it, and the two indices
 pub record Moves (t : Taken) (a u : ℕ) (took gave : List ℕ) (t′ : Taken) (a′ u′ : ℕ) : Type 0 where

@@ -22,9 +22,9 @@ use Rattle.queue.specs.declared.QueueAnswer.the-variants.{Empty, Of}
 use Rattle.queue.specs.Queue.{QueueOutcome, discarding, queueOk, tookHead, queueBy, bytesBy, about, takingRefusal, nextUnless, nextOf, takes, answerRefusal, answers, unlessRefused}
 use Rattle.history.specs.Refusals.{lentBytes}
 use Rattle.history.proofs.Refusals.{refused-changes-nothing, ten-is-creation-failed}
+use Rattle.history.proofs.Cases.{by-cond}
 use Rattle.queue_runs.specs.Runs.{Beside, Placing, Sizing, Reading, Writing, callOf, QueueCall, TakeNext, Host, PastIt, queueStep, endingTold, takenBy, usedBy, newlyTaken, newlyReported, FromEveryQueue}
 use Rattle.queue_runs.specs.Heads.{TakesNone, besideBytes, bytesTo, RefusedTakesNone, RefusedMovesNothing, EmptyMovesNothing}
-use Rattle.queue_runs.proofs.Cases.{by-cond}
 
 -- ---- what a call that is refused leaves, by the device's own
 refused-bytes : (w : World) (call : Call) (n : ℕ) → step w call .answer ≡ Refused n → step w call .bytes ≡ lentBytes call

@@ -28,9 +28,10 @@ use Rattle.queue.specs.declared.Ending.{Ending}
 use Rattle.queue.specs.declared.Ending.the-variants.{Stays, Out, Used}
 use Rattle.queue.specs.Queue.{QueueOutcome, queueOk, tookHead, endingOf, queueBy, bytesBy, about, nextOf, takes, outRefusal, answerRefusal, answers, unlessRefused}
 use Rattle.history.specs.History.{Fresh}
+use Rattle.history.proofs.Cases.{by-cond}
 use Rattle.queue_runs.specs.Runs.{QueueCall, TakeNext, Host, PastIt, queueStep, lentTo, endingTold, takenBy, usedBy, headOf, outOf, newlyTaken, newlyReported, QueueStory, nextStory, afterAll, New, opened, LendsBytes, AllLendBytes}
 use Rattle.queue_runs.specs.Heads.{InOrder, Stands, Reports, NthReport}
-use Rattle.queue_runs.proofs.Cases.{by-cond, next-cases}
+use Rattle.queue_runs.proofs.Cases.{next-cases}
 use Rattle.queue_runs.proofs.Order.{in-order}
 use Rattle.queue_runs.proofs.Bytes.{Keeps, request-keeps, answer-keeps}
 

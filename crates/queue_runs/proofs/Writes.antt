@@ -29,12 +29,14 @@ use Rattle.queue.specs.declared.Ending.the-variants.{Stays, Out, Used}
 use Rattle.queue.specs.Queue.{QueueOutcome, tookHead, discarding, endingOf, queueBy, bytesBy, about, aside, nextOf, takes, answerRefusal, answers, unlessRefused}
 use Rattle.standard.specs.Requests.{responseOf, lentBy, statusOfPending, statusFor}
 use Rattle.standard.proofs.Responses.{response-is-delivered}
+use Rattle.history.proofs.Shaped.{clash}
+use Rattle.history.proofs.Cases.{by-cond}
 use Rattle.queue_runs.specs.Runs.{QueueCall, TakeNext, Host, PastIt, queueStep, lentTo, requestsOf, callsOf, endingTold, usedBy, headOf, outOf, newlyReported, QueueStory, FromEveryQueue, InEveryQueueRun, opened, afterAll}
 use Rattle.queue_runs.specs.Heads.{isOut, Reports}
 use Rattle.queue_runs.specs.Standard.{onGuest, WritesOnly, UnreportedWritesNothing, Written, ReportIsWritten}
-use Rattle.queue_runs.proofs.Cases.{by-cond, next-cases}
+use Rattle.queue_runs.proofs.Cases.{next-cases}
 use Rattle.queue_runs.proofs.Open.{out-while-open}
-use Rattle.queue_runs.proofs.Bytes.{clash, Keeps, request-keeps, answer-keeps}
+use Rattle.queue_runs.proofs.Bytes.{Keeps, request-keeps, answer-keeps}
 
 -- ---- which bytes
 module _ (w : World) (q : Queue) (g : Guest) where
