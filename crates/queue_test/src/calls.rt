@@ -217,6 +217,7 @@ fn called(scene: Scene, d: Device, call: Call, mem: &mut [u8]) -> Scene {
     after(s, t)
 }
 
+// A call, where the words are a record.
 pub fn made(s: Scene, call: Call, mem: &mut [u8]) -> Scene {
     let Decoded::Is(d) = words::decode(&s) else {
         return told(s, DONE, 0, 0, 0);
@@ -236,11 +237,12 @@ fn is_same(a: Scene, b: Scene) -> bool {
     true
 }
 
-// Whether a call may have changed nothing: it was refused, but with 10, or found no head.
+// Whether a call is to change nothing: it was refused, but with 10, or found no head.
 fn is_refusal(s: Scene) -> bool {
     ((s[TOLD] == REFUSED as u64) & (s[FIRST] != 10)) | (s[TOLD] == EMPTY as u64)
 }
 
+// A call; one that is to change nothing and did tells so.
 pub fn make(scene: Scene, call: Call, bytes: &mut [u8]) -> Scene {
     let s = made(scene, call, bytes);
     let changed = !is_same(scene, s) | (first_unseen(&bytes[..]) < 4096);

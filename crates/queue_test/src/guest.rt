@@ -31,7 +31,7 @@ fn put_request(bytes: &mut [u8], shift: u64, at: u64, req_type: u64, block: u64,
     put_u64(bytes, shift, wrapping_add_u64(at, 16), blocks);
 }
 
-// A chain of two descriptors, at an index and the next: a request's 24 bytes, and room for its response.
+// A chain by the numbers of its row: two descriptors, at the head and the next index, and the request.
 pub fn put_chain(bytes: &mut [u8], shift: u64, table: u64, v: Numbers) {
     let second = (v.0 % 128 + 1) % 128;
     put_link(bytes, shift, table, v.0, v.1, rest_of(24, 1, second));

@@ -12,8 +12,8 @@ const LAST_U16: u64 = 4094;
 
 const LAST_U64: u64 = 4088;
 
-// Eight bytes of 170.
-pub const UNWRITTEN: u64 = 12297829382473034410;
+// Eight bytes that nobody wrote: each is 170.
+const UNWRITTEN: u64 = 12297829382473034410;
 
 // Where a guest address stands, or the end of all bytes where it is past the last place.
 fn place(shift: u64, addr: u64, last: u64) -> usize {
@@ -57,7 +57,7 @@ pub fn get_u64(bytes: &mut [u8], shift: u64, addr: u64) -> u64 {
     v
 }
 
-// Makes the memory as if nothing was written, and seen so.
+// Makes the memory one that nobody wrote, and seen so.
 pub fn clear(bytes: &mut [u8]) {
     let mut i: usize = 0;
     while i < 8192 {

@@ -5,18 +5,28 @@ use std::num::wrapping_sub_u64;
 pub type Scene = [u64; 36];
 
 // Of the record.
+const BLOCK_SIZE: usize = 0;
+
+const START: usize = 2;
+
+const REGION: usize = 3;
+
 pub const USABLE: usize = 4;
 
 pub const PLUGGED: usize = 5;
 
-pub const REQUESTED: usize = 6;
+const REQUESTED: usize = 6;
+
+const ALIGNMENT: usize = 7;
+
+const FEATURES: usize = 9;
 
 pub const PLACED: usize = 10;
 
 // The pending call's kind, its first block or row, how many blocks or the last row, and the status address.
 pub const PENDING: usize = 11;
 
-pub const PENDING_FIRST: usize = 12;
+const PENDING_FIRST: usize = 12;
 
 pub const PENDING_SECOND: usize = 13;
 
@@ -104,13 +114,13 @@ pub const REQUESTS: u8 = b'-';
 // of 4096 bytes at 4096: the descriptors at its start, the available ring at 6144, the used ring at 6656 and room from 7686 on.
 pub fn fresh() -> Scene {
     let mut s = [0u64; 36];
-    s[0] = 4194304;
-    s[2] = 4294967296;
-    s[3] = 268435456;
+    s[BLOCK_SIZE] = 4194304;
+    s[START] = 4294967296;
+    s[REGION] = 268435456;
     s[USABLE] = 268435456;
     s[REQUESTED] = 16777216;
-    s[7] = 134217728;
-    s[9] = 4294967296;
+    s[ALIGNMENT] = 134217728;
+    s[FEATURES] = 4294967296;
     s[PLACED] = 1;
     s[DESCRIPTORS] = 4096;
     s[AVAILABLE] = 6144;
@@ -129,6 +139,7 @@ pub fn fresh() -> Scene {
 // The numbers of a row, in their order, and 0 where there are no more.
 pub struct Numbers(pub u64, pub u64, pub u64, pub u64, pub u64, pub u64);
 
+// The scene with what a command told.
 pub fn told(scene: Scene, key: u8, first: u64, second: u64, third: u64) -> Scene {
     let mut s = scene;
     s[TOLD] = key as u64;
