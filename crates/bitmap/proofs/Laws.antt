@@ -10,7 +10,7 @@
 --     next-       the next set block: what it is, that there is none, going on from where a search stopped, what a search reads
 use Prim.Native.Nat.{ℕ, zero, suc, _+_, _-_, _*_, _/_, _≤_, _<_, zero-le, min}
 use mathlib.Core.Path.{_≡_, refl, ap, _∙_, sym}
-use mathlib.Core.Bool.{Bool, true, false, _&&_, Bool·beq, and-assoc}
+use mathlib.Core.Bool.{Bool, true, false, _&&_, Bool·beq, and-assoc, not}
 use mathlib.Core.List.{List, [], _∷_, _++_}
 use mathlib.Core.Logic.{_⊎_, inl, inr, ⊎-elim}
 use native.Mathlib.Nat.{zero-add, add-zero, suc-add, le-of-suc-le-suc, not-suc-le-zero}
@@ -18,7 +18,7 @@ use native.Mathlib.Omega.{arith}
 use lib.ListN.{length, take, drop, replicate, length-append, length-take, length-drop, drop-of-length-le, List·getD-eq-default}
 use lib.Seq.{getD-take, getD-drop, take-take, drop-cons, take-nil, drop-nil, take-add, take-append-add, drop-append-add, drop-drop}
 use Rattle.bitmap.specs.declared.Found.the-variants.{At, Nothing}
-use Rattle.bitmap.specs.Blocks.{lowBits, blocks, blockAt, range, every, allAre, ones, fill, firstSet, nextSet}
+use Rattle.bitmap.specs.Blocks.{lowBits, blocks, blockAt, range, every, allAre, ones, fill, firstOf, nextOf, nextSet}
 
 lt-or-ge : (a b : ℕ) → (a < b) ⊎ (b ≤ a)
 lt-or-ge a zero = inr zero-le
@@ -358,59 +358,70 @@ ones-clear (suc n) = ones-clear n
 pub take-cleared : (n : ℕ) (bs : List Bool) (c : ℕ) → n ≤ c → ones (take n (fill bs 0 c false)) ≡ 0
 take-cleared n bs c h = rw (take-whole n bs c false h) (ones-clear (length (take n bs)))
 
--- ---- the next set block
--- i is the lowest set block from `from` up to, not including, `end`
-pub record Lowest (bs : List Bool) (from end i : ℕ) : Type 0 where
+-- ---- the next block in the state v
+-- i is the lowest one from `from` up to, not including, `end`
+pub record Lowest (v : Bool) (bs : List Bool) (from end i : ℕ) : Type 0 where
   pub from-on : from ≤ i
   pub before-end : i < end
   pub exists : i < length bs
-  pub is-set : blockAt bs i ≡ true
-  pub clear-below : allAre bs from (i - from) false ≡ true
+  pub found : blockAt bs i ≡ v
+  pub none-below : allAre bs from (i - from) (not v) ≡ true
 
-record First (s i : ℕ) (bs : List Bool) : Type 0 where
+record First (v : Bool) (s i : ℕ) (bs : List Bool) : Type 0 where
   from-on : s ≤ i
   exists : i - s < length bs
-  is-set : blockAt bs (i - s) ≡ true
-  clear-below : every false (take (i - s) bs) ≡ true
+  found : blockAt bs (i - s) ≡ v
+  none-below : every (not v) (take (i - s) bs) ≡ true
 
-first-at : (s i : ℕ) (bs : List Bool) → firstSet s bs ≡ At i → First s i bs
-unfolding firstSet every
-first-at s i [] e = absurd (let z : _≡_ {A = ℕ} 0 1 = cc in omega arith)
-first-at s i (true ∷ bs) e =
-    let w : s ≡ i = cc in
+-- the first of the list, or one of the others
+first-here : (v b : Bool) (s i : ℕ) (bs : List Bool) → b ≡ v → s ≡ i → First v s i (b ∷ bs)
+unfolding every
+first-here v b s i bs q e =
     let z : i - s ≡ 0 = omega arith in
-    record { from-on = omega arith; exists = omega arith; is-set = rw z; clear-below = rw z }
-first-at s i (false ∷ bs) e =
-    let r = first-at (suc s) i bs e in
-    let w : i - s ≡ suc (i - suc s) = omega arith in
-    record { from-on = omega arith; exists = omega arith; is-set = rw w (r .is-set); clear-below = rw w (r .clear-below) }
+    record { from-on = omega arith; exists = omega arith; found = rw z q; none-below = rw z }
 
-pub next-at : (bs : List Bool) (f e i : ℕ) → nextSet bs f e ≡ At i → Lowest bs f e i
-next-at bs f e i p =
-    let r = first-at f i (range bs f (e - f)) p in
+first-later : (v b : Bool) (s i : ℕ) (bs : List Bool) → Bool·beq b (not v) ≡ true → First v (suc s) i bs → First v s i (b ∷ bs)
+unfolding every
+first-later v b s i bs q r =
+    let w : i - s ≡ suc (i - suc s) = omega (arith, r .from-on) in
+    record { from-on = omega (arith, r .from-on); exists = omega (arith, r .exists); found = rw w (r .found); none-below = rw (w, q) (r .none-below) }
+
+first-at : (v : Bool) (s i : ℕ) (bs : List Bool) → firstOf v s bs ≡ At i → First v s i bs
+unfolding firstOf
+first-at v s i [] e = absurd (let z : _≡_ {A = ℕ} 0 1 = cc in omega arith)
+first-at true s i (true ∷ bs) e = let w : s ≡ i = cc in first-here true true s i bs refl w
+first-at false s i (false ∷ bs) e = let w : s ≡ i = cc in first-here false false s i bs refl w
+first-at true s i (false ∷ bs) e = first-later true false s i bs refl (first-at true (suc s) i bs e)
+first-at false s i (true ∷ bs) e = first-later false true s i bs refl (first-at false (suc s) i bs e)
+
+pub next-at : (v : Bool) (bs : List Bool) (f e i : ℕ) → nextOf v bs f e ≡ At i → Lowest v bs f e i
+next-at v bs f e i p =
+    let r = first-at v f i (range bs f (e - f)) p in
     let l = range-length bs f (e - f) in
     record {
       from-on = r .from-on;
-      before-end = omega arith;
-      exists = omega arith;
-      is-set = sym (range-at bs f (e - f) i (r .from-on) (omega arith)) ∙ r .is-set;
-      clear-below = rw (take-take (i - f) (e - f) (drop f bs) (omega arith)) at (r .clear-below);
+      before-end = omega (arith, r .from-on, r .exists);
+      exists = omega (arith, r .from-on, r .exists);
+      found = sym (range-at bs f (e - f) i (r .from-on) (omega (arith, r .exists))) ∙ r .found;
+      none-below = rw (take-take (i - f) (e - f) (drop f bs) (omega (arith, r .exists))) at (r .none-below);
     }
 
-first-nothing : (s : ℕ) (bs : List Bool) → firstSet s bs ≡ Nothing → every false bs ≡ true
-unfolding firstSet every
-first-nothing s [] e = refl
-first-nothing s (true ∷ bs) e = absurd (let z : _≡_ {A = ℕ} 0 1 = cc in omega arith)
-first-nothing s (false ∷ bs) e = first-nothing (suc s) bs e
+first-nothing : (v : Bool) (s : ℕ) (bs : List Bool) → firstOf v s bs ≡ Nothing → every (not v) bs ≡ true
+unfolding firstOf every
+first-nothing v s [] e = refl
+first-nothing true s (true ∷ bs) e = absurd (let z : _≡_ {A = ℕ} 0 1 = cc in omega arith)
+first-nothing false s (false ∷ bs) e = absurd (let z : _≡_ {A = ℕ} 0 1 = cc in omega arith)
+first-nothing true s (false ∷ bs) e = first-nothing true (suc s) bs e
+first-nothing false s (true ∷ bs) e = first-nothing false (suc s) bs e
 
-pub next-nothing : (bs : List Bool) (f e : ℕ) → nextSet bs f e ≡ Nothing → allAre bs f (e - f) false ≡ true
-next-nothing bs f e p = first-nothing f (range bs f (e - f)) p
+pub next-nothing : (v : Bool) (bs : List Bool) (f e : ℕ) → nextOf v bs f e ≡ Nothing → allAre bs f (e - f) (not v) ≡ true
+next-nothing v bs f e p = first-nothing v f (range bs f (e - f)) p
 
 pub next-nothing-ones : (bs : List Bool) (f e : ℕ) → nextSet bs f e ≡ Nothing → ones (range bs f (e - f)) ≡ 0
-next-nothing-ones bs f e p = ones-none (range bs f (e - f)) (next-nothing bs f e p)
+next-nothing-ones bs f e p = ones-none (range bs f (e - f)) (next-nothing true bs f e p)
 
-first-clear : (s : ℕ) (bs : List Bool) → every false bs ≡ true → firstSet s bs ≡ Nothing
-unfolding firstSet every
+first-clear : (s : ℕ) (bs : List Bool) → every false bs ≡ true → firstOf true s bs ≡ Nothing
+unfolding firstOf every
 first-clear s [] e = refl
 first-clear s (true ∷ bs) e = absurd (let z : _≡_ {A = ℕ} 0 1 = cc in omega arith)
 first-clear s (false ∷ bs) e = first-clear (suc s) bs e
@@ -420,7 +431,7 @@ next-clear bs f e p = first-clear f (range bs f (e - f)) p
 
 -- a search goes on past clear blocks, and never starts again
 next-step-in : (bs : List Bool) (f e : ℕ) → blockAt bs f ≡ false → f < e → nextSet bs (suc f) e ≡ nextSet bs f e
-unfolding firstSet
+unfolding firstOf
 next-step-in bs f e p h =
     let w : e - f ≡ suc (e - suc f) = omega arith in
     ⊎-elim (λ l. rw (w, range-step bs f (e - suc f) l, p))
@@ -430,7 +441,7 @@ next-step-in bs f e p h =
     (lt-or-ge f (length bs))
 
 next-step : (bs : List Bool) (f e : ℕ) → blockAt bs f ≡ false → nextSet bs (suc f) e ≡ nextSet bs f e
-unfolding firstSet
+unfolding firstOf
 next-step bs f e p =
     ⊎-elim (next-step-in bs f e p) (λ h. let y : e - suc f ≡ 0 = omega arith in let z : e - f ≡ 0 = omega arith in rw (y, z)) (lt-or-ge f e)
 
@@ -449,15 +460,15 @@ next-from-zero bs f e p = let w : 0 + f ≡ f = zero-add f in rw w at (next-goes
 -- the block that was found, cleared: the search goes on after it
 pub next-cleared : (bs : List Bool) (f e i : ℕ) → nextSet bs f e ≡ At i → nextSet (fill bs i 1 false) f e ≡ nextSet bs (suc i) e
 next-cleared bs f e i p =
-    let r = next-at bs f e i p in
+    let r = next-at true bs f e i p in
     let w : f + suc (i - f) ≡ suc i = omega arith in
     let h : (x : ℕ) → f ≤ x → x < f + suc (i - f) → blockAt (fill bs i 1 false) x ≡ false =
     λ x a b.
-    ⊎-elim (λ l. at-before bs i 1 false x l ∙ all-clear-at bs f (i - f) x (r .clear-below) a (omega arith))
+    ⊎-elim (λ l. at-before bs i 1 false x l ∙ all-clear-at bs f (i - f) x (r .none-below) a (omega arith))
     (λ g. at-inside bs i 1 false x g (omega arith) (omega arith))
     (lt-or-ge x i) in
     sym (next-skip (suc (i - f)) (fill bs i 1 false) f e h)
-    ∙ rw w (ap (firstSet (suc i)) (fill-after bs i 1 false (suc i) (e - suc i) (omega arith)))
+    ∙ rw w (ap (firstOf true (suc i)) (fill-after bs i 1 false (suc i) (e - suc i) (omega arith)))
 
 -- a search reads no block from `end` on
 pub next-take : (n : ℕ) (bs : List Bool) (f e : ℕ) → e ≤ n → nextSet (take n bs) f e ≡ nextSet bs f e

@@ -1,13 +1,16 @@
 -- What one turn of a loop over the blocks does, where the loop stands at bit k of byte j, with `left` blocks to go; and a range by its parts. Assumes nothing.
 use Prim.Native.Nat.{ℕ, zero, suc, _+_, _-_, _*_, _/_, _%_, _≤_, _<_}
 use mathlib.Core.Path.{_≡_, refl, ap, _∙_, sym}
-use mathlib.Core.Bool.{Bool, false, _&&_}
+use mathlib.Core.Bool.{Bool, true, false, not, _&&_, Bool·beq}
 use mathlib.Core.List.{List, [], _∷_}
 use native.Mathlib.Omega.{arith}
 use lib.ListN.{length, getD, set, length-set, List·getD-eq-default}
 use lib.Seq.{take-set-le, drop-set-lt, set-getD}
-use Rattle.bitmap.specs.Blocks.{lowBits, blocks, blockAt, range, allAre, fill, firstSet, Filled}
-use Rattle.bitmap.proofs.Laws.{blocks-length, range-step, range-end, all-split, fill-none, fill-end, fill-split}
+use Rattle.bitmap.specs.declared.Found.the-variants.{At}
+use Rattle.bitmap.specs.Blocks.{lowBits, blocks, blockAt, range, allAre, fill, firstOf, Filled}
+use Rattle.bitmap.specs.Whole.{whole}
+use Rattle.bitmap.proofs.Laws.{low-length, blocks-length, at-inside, range-step, range-end, all-split, fill-none, fill-end, fill-split}
+use Rattle.bitmap.proofs.Bits.{whole-fill}
 use Rattle.bitmap.proofs.Bytes.{blocks-at, blocks-range, blocks-put, same-number}
 
 -- the block at bit k of byte j
@@ -50,29 +53,40 @@ module _ (xs : List ℕ) (v : Bool) where
   pub all-then : (f n c : ℕ) → n ≤ c → allAre (blocks xs) f c v ≡ (allAre (blocks xs) f n v && allAre (blocks xs) (f + n) (c - n) v)
   all-then f n c h = let e : c ≡ n + (c - n) = omega arith in ap (λ (t : ℕ). allAre (blocks xs) f t v) e ∙ all-split (blocks xs) f n (c - n) v
 
--- a byte of zeros has no bit
-no-bit : (n i : ℕ) → blockAt (lowBits n 0) i ≡ false
-unfolding lowBits
-no-bit zero i = refl
-no-bit (suc n) zero = refl
-no-bit (suc n) (suc i) = no-bit n i
+-- ---- a search: at the block that it looks for, at another, and past a byte that has none
+pub first-hit : (v b : Bool) (at : ℕ) (bs : List Bool) → Bool·beq b v ≡ true → firstOf v at (b ∷ bs) ≡ At at
+unfolding firstOf
+first-hit v b at bs e = rw e
 
--- so a search passes its eight blocks at once: i of them are passed
-module _ (xs : List ℕ) (j left at : ℕ) (l : j < length xs) (e : getD xs j 0 ≡ 0) (h : 8 ≤ left) where
-  zeros-to : (i : ℕ) → i ≤ 8 → firstSet at (range (blocks xs) (place j 0) left) ≡ firstSet (at + i) (range (blocks xs) (place j i) (left - i))
-  unfolding firstSet
-  zeros-to zero u = let a : at + 0 ≡ at = omega arith in let z : left - 0 ≡ left = omega arith in rw (a, z)
-  zeros-to (suc i) u =
-      let q : false ≡ blockAt (lowBits 8 (getD xs j 0)) i = rw e (sym (no-bit 8 i)) in
+pub first-miss : (v b : Bool) (at : ℕ) (bs : List Bool) → Bool·beq b v ≡ false → firstOf v at (b ∷ bs) ≡ firstOf v (suc at) bs
+unfolding firstOf
+first-miss v b at bs e = rw e
+
+beq-not : (v : Bool) → Bool·beq (not v) v ≡ false
+beq-not true = refl
+beq-not false = refl
+
+-- the bits of the byte whose blocks are all v
+whole-bit : (v : Bool) (i : ℕ) → i < 8 → blockAt (lowBits 8 (whole v)) i ≡ v
+whole-bit v i h = rw (whole-fill 0 v) (at-inside (lowBits 8 0) 0 8 v i (omega arith) (omega arith) (omega (arith, low-length 8 0)))
+
+-- i blocks of a byte that has none are passed, and then all eight
+module _ (v : Bool) (xs : List ℕ) (j left at : ℕ) (l : j < length xs) (e : getD xs j 0 ≡ whole (not v)) (h : 8 ≤ left) where
+  passed-to : (i : ℕ) → i ≤ 8 → firstOf v at (range (blocks xs) (place j 0) left) ≡ firstOf v (at + i) (range (blocks xs) (place j i) (left - i))
+  passed-to zero u = let a : at + 0 ≡ at = omega arith in let z : left - 0 ≡ left = omega arith in rw (a, z)
+  passed-to (suc i) u =
+      let k : i < 8 = omega arith in
+      let q : not v ≡ blockAt (lowBits 8 (getD xs j 0)) i = rw e (sym (whole-bit (not v) i k)) in
       let n : next j i ≡ place j (suc i) = omega arith in
       let a : suc (at + i) ≡ at + suc i = omega arith in
       let z : left - i - 1 ≡ left - suc i = omega arith in
-      zeros-to i (omega arith)
-      ∙ ap (firstSet (at + i)) (range-turn xs j i (left - i) false l (omega arith) (λ w. omega arith) q)
+      passed-to i (omega arith)
+      ∙ ap (firstOf v (at + i)) (range-turn xs j i (left - i) (not v) l k (λ w. omega arith) q)
+      ∙ first-miss v (not v) (at + i) (range (blocks xs) (next j i) (left - i - 1)) (beq-not v)
       ∙ rw (n, z, ← a)
 
-  pub zeros-passed : firstSet at (range (blocks xs) (place j 0) left) ≡ firstSet (at + 8) (range (blocks xs) (place (j + 1) 0) (left - 8))
-  zeros-passed = let n : place j 8 ≡ place (j + 1) 0 = omega arith in rw n at (zeros-to 8 (omega arith))
+  pub byte-passed : firstOf v at (range (blocks xs) (place j 0) left) ≡ firstOf v (at + 8) (range (blocks xs) (place (j + 1) 0) (left - 8))
+  byte-passed = let n : place j 8 ≡ place (j + 1) 0 = omega arith in rw n at (passed-to 8 (omega arith))
 
 -- ---- writing a range by its parts: none, past the end, one after another, in one byte
 pub filled-none : (xs : List ℕ) (f : ℕ) (v : Bool) → Filled xs xs f 0 v

@@ -2,7 +2,7 @@
 -- Every definition but `blocks` and the last two is on that list alone. "Exists" means "is in the list": what lies past the end is in no range.
 use Prim.Native.Nat.{ℕ, zero, suc, _+_, _-_, _*_, _/_, _%_, _≤_}
 use mathlib.Core.Path.{_≡_}
-use mathlib.Core.Bool.{Bool, true, false, _&&_, Bool·beq}
+use mathlib.Core.Bool.{Bool, true, false, cond, _&&_, Bool·beq}
 use mathlib.Core.List.{List, [], _∷_, _++_}
 use lib.Dec.{eqb}
 use lib.ListN.{length, getD, take, drop}
@@ -49,15 +49,20 @@ fill (b ∷ bs) (suc first) count v = b ∷ fill bs first count v
 fill (b ∷ bs) zero zero v = b ∷ bs
 fill (b ∷ bs) zero (suc count) v = v ∷ fill bs zero count v
 
--- the place of the first set block, where the first of the list is block i
-unfoldable pub firstSet : ℕ → List Bool → Found
-firstSet i [] = Nothing
-firstSet i (true ∷ bs) = At i
-firstSet i (false ∷ bs) = firstSet (suc i) bs
+-- the place of the first block in the state v, where the first of the list is block i
+unfoldable pub firstOf : Bool → ℕ → List Bool → Found
+firstOf v i [] = Nothing
+firstOf v i (b ∷ bs) = cond (Bool·beq b v) (At i) (firstOf v (suc i) bs)
 
--- the lowest set block from `from` up to, not including, `end`
+-- the lowest block in the state v that exists from `from` up to, not including, `end`
+abbrev pub nextOf : Bool → List Bool → ℕ → ℕ → Found
+nextOf v bs from end = firstOf v from (range bs from (end - from))
+
 abbrev pub nextSet : List Bool → ℕ → ℕ → Found
-nextSet bs from end = firstSet from (range bs from (end - from))
+nextSet bs from end = nextOf true bs from end
+
+abbrev pub nextClear : List Bool → ℕ → ℕ → Found
+nextClear bs from end = nextOf false bs from end
 
 -- the lent bytes at entry and at exit differ in no byte that lies wholly outside the blocks from `first` to `end`
 pub record Outside (entry exit : List ℕ) (first end : ℕ) : Type 0 where

@@ -7,7 +7,7 @@ use units::smaller;
 ghost use mathlib.Core.Path.{_≡_};
 ghost use Prim.Native.Nat.{_+_, _-_, _*_, _/_, _%_, _^_, _≤_, _<_};
 ghost use lib.ListN.{length};
-ghost use Rattle.bitmap.specs.Blocks.{lowBits, blocks, blockAt, every, allAre, fill, nextSet, ones, range, Filled};
+ghost use Rattle.bitmap.specs.Blocks.{lowBits, blocks, blockAt, every, allAre, fill, nextSet, nextClear, nextOf, ones, range, Filled};
 ghost use Rattle.bitmap.specs.Whole.{whole, wholes};
 
 // The block that a search ended at.
@@ -192,10 +192,11 @@ pub fn set_range(bitmap: &mut [u8], first: usize, count: usize, plugged: bool)
     bitmap[to] = put(bitmap[to], 0, p.tail, plugged);
 }
 
-// The lowest plugged block from `from` up to, not including, `end`. A byte without one is passed at once.
-pub fn next_set(bitmap: &[u8], from: usize, end: usize) -> Found
-    ensures { λ r. ⌜ r ≡ nextSet (blocks (now (bitmap .entry))) from end ⌝ }
+// The lowest block in this state that exists from `from` up to, not including, `end`. A byte without one is passed at once.
+fn next_of(bitmap: &[u8], from: usize, end: usize, v: bool) -> Found
+    ensures { λ r. ⌜ r ≡ nextOf v (blocks (now (bitmap .entry))) from end ⌝ }
 {
+    let passed = whole_byte(!v);
     let mut j = from / 8;
     let mut k = from % 8;
     let mut at = from;
@@ -203,11 +204,11 @@ pub fn next_set(bitmap: &[u8], from: usize, end: usize) -> Found
         if end <= at {
             return Found::Nothing;
         }
-        if (k == 0) & (bitmap[j] == 0) & (8 <= end - at) {
+        if (k == 0) & (bitmap[j] == passed) & (8 <= end - at) {
             j += 1;
             at += 8;
         } else {
-            if bit(bitmap[j], k) {
+            if bit(bitmap[j], k) == v {
                 return Found::At(at);
             }
             j += (k + 1) / 8;
@@ -216,6 +217,20 @@ pub fn next_set(bitmap: &[u8], from: usize, end: usize) -> Found
         }
     }
     Found::Nothing
+}
+
+// The lowest plugged block from `from` up to, not including, `end`.
+pub fn next_set(bitmap: &[u8], from: usize, end: usize) -> Found
+    ensures { λ r. ⌜ r ≡ nextSet (blocks (now (bitmap .entry))) from end ⌝ }
+{
+    next_of(bitmap, from, end, true)
+}
+
+// The lowest block that exists and is not plugged, from `from` up to, not including, `end`.
+pub fn next_clear(bitmap: &[u8], from: usize, end: usize) -> Found
+    ensures { λ r. ⌜ r ≡ nextClear (blocks (now (bitmap .entry))) from end ⌝ }
+{
+    next_of(bitmap, from, end, false)
 }
 
 // How many blocks of a range are plugged.

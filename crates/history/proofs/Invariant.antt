@@ -57,8 +57,8 @@ module _ (n : ℕ) (bs : List Bool) (long : n ≤ length bs) where
 -- after the lowest of them is cleared
 pub used-one : (n : ℕ) (bs : List Bool) (j : ℕ) → nextSet bs 0 n ≡ At j → ones (take n (fill bs j 1 false)) + 1 ≡ ones (take n bs)
 used-one n bs j e =
-    let lowest = next-at bs 0 n j e in
-    let fewer = ones-one (take n bs) j (getD-take n bs j false (lowest .before-end) ∙ lowest .is-set) in
+    let lowest = next-at true bs 0 n j e in
+    let fewer = ones-one (take n bs) j (getD-take n bs j false (lowest .before-end) ∙ lowest .found) in
     rw (take-fill n bs j 1 false) (omega arith)
 
 -- no block of the region is set

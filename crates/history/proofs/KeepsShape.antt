@@ -93,7 +93,7 @@ module _ (w : World) (s : Parts (w .device)) where
         asks-range = λ a addr count first offset host enough l _. awaiting d s _ (discard-ok _ _ _ _ first count _ (l .ends) enough);
         spoils = λ a addr count first offset _ _. s;
         ends-at-once = λ a r. reshaped d s _ _ 0 _ (d .placed) Nothing (s .start) (s .usable) (none-ok _ _) (s .requested) (nothing-ok _ _ _ _);
-        asks-first = λ a block offset host r _. awaiting d s _ (one-ok _ _ _ _ block _ (next-at (w .blocks) 0 (regionBlocks w) block r .before-end));
+        asks-first = λ a block offset host r _. awaiting d s _ (one-ok _ _ _ _ block _ (next-at true (w .blocks) 0 (regionBlocks w) block r .before-end));
         stops-at-once = λ a. over;
         maps = λ i last a. reshaped d s _ _ _ _ true Nothing (s .start) (grown-ok _ _ _ (s .usable) (requested w) (d .alignment)) (s .plugged) (s .requested) (nothing-ok _ _ _ _);
         create-fails = λ i last a. over;
@@ -104,7 +104,7 @@ module _ (w : World) (s : Parts (w .device)) where
         discard-fails = λ first count status a. over;
         ends-all = λ j status a r. reshaped d s _ _ 0 _ (d .placed) Nothing (s .start) (s .usable) (none-ok _ _) (s .requested) (nothing-ok _ _ _ _);
         asks-next = λ j status a block offset host r _.
-            awaiting (cleared w j .device) (cleared-shaped w j s) _ (one-ok _ _ _ _ block _ (next-at (cleared w j .blocks) (j + 1) (regionBlocks w) block r .before-end));
+            awaiting (cleared w j .device) (cleared-shaped w j s) _ (one-ok _ _ _ _ block _ (next-at true (cleared w j .blocks) (j + 1) (regionBlocks w) block r .before-end));
         stops-after = λ j status a. cleared-shaped w j s;
         one-fails = λ j status a. over;
         resizes = λ a.

@@ -21,9 +21,9 @@ use Rattle.history.proofs.Demand3.{invariant, open-is, discard-ends}
 pub could-discard : (n : ℕ) (bs : List Bool) (j : ℕ) → nextSet bs 0 n ≡ At j → could (Discarded j) bs n ≡ true
 unfolding could
 could-discard n bs j e =
-    let lowest = next-at bs 0 n j e in
+    let lowest = next-at true bs 0 n j e in
     let z : j - 0 ≡ j = omega arith in
-    rw (lt-ltb j n (lowest .before-end), lowest .is-set) (rw z at (lowest .clear-below))
+    rw (lt-ltb j n (lowest .before-end), lowest .found) (rw z at (lowest .none-below))
 
 could-plug : (n : ℕ) (bs : List Bool) (f c : ℕ) → f + c ≤ n → allAre bs f c false ≡ true → could (PlugAck f c) bs n ≡ true
 unfolding could
@@ -35,7 +35,7 @@ could-unplug n bs f c p q = rw (le-leb (f + c) n p) q
 
 could-end : (n : ℕ) (bs : List Bool) → nextSet bs 0 n ≡ NoneSet → could UnplugAllAck bs n ≡ true
 unfolding could
-could-end n bs e = let z : n - 0 ≡ n = omega arith in rw z at (next-nothing bs 0 n e)
+could-end n bs e = let z : n - 0 ≡ n = omega arith in rw z at (next-nothing true bs 0 n e)
 
 -- ---- each ending
 -- no event, and nothing changed

@@ -150,7 +150,7 @@ module _ (d : Device) (bitmap table : List ℕ) (shape : shapedOf d ≡ true) (s
 
 -- the block that an unplug-all finds is one of the region
 pub block-inside : (region from last : ℕ) (bs : List Bool) {found : Found} (block : ℕ) → last ≡ blocksIn 4194304 region → found ≡ nextSet bs from last → found ≡ At block → block < blocksIn 4194304 region
-block-inside region from last bs block last-is found-is e = rw last-is at (next-at bs from last block (sym found-is ∙ e) .before-end)
+block-inside region from last bs block last-is found-is e = rw last-is at (next-at true bs from last block (sym found-is ∙ e) .before-end)
 
 -- a state request whose range does not lie inside
 pub state-errs : (range : Range) → OneOf (1 ∷ 2 ∷ 3 ∷ 4 ∷ 5 ∷ 6 ∷ []) (tagOf range-type range) → 3 ≡ stateType range

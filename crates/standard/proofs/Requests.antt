@@ -466,16 +466,16 @@ module _ (w : World) (sound : Sound w) where
     where
       lowest : (block : ℕ) → nextSet (w .blocks) from (regionBlocks w) ≡ At block → Lowest w from block
       lowest block e =
-          let l = next-at (w .blocks) from (regionBlocks w) block e in
+          let l = next-at true (w .blocks) from (regionBlocks w) block e in
           record {
             from-there = l .from-on;
             in-region = l .before-end;
-            is-plugged = l .is-set;
-            none-below = λ j p q. all-clear-at (w .blocks) from (block - from) j (l .clear-below) p (omega arith);
+            is-plugged = l .found;
+            none-below = λ j p q. all-clear-at (w .blocks) from (block - from) j (l .none-below) p (omega arith);
           }
 
       all-clear : nextSet (w .blocks) from (regionBlocks w) ≡ NoneSet → NoneFrom w from
-      all-clear e i p q = all-clear-at (w .blocks) from (regionBlocks w - from) i (next-nothing (w .blocks) from (regionBlocks w) e) p (omega arith)
+      all-clear e i p q = all-clear-at (w .blocks) from (regionBlocks w - from) i (next-nothing true (w .blocks) from (regionBlocks w) e) p (omega arith)
 
       stopped : (block : ℕ) → Lowest w from block → (CanDiscard w block → ⊥) → UnplugsFrom w from (stops w status g)
       stopped block l cannot-be =
