@@ -5,14 +5,15 @@ use mathlib.Core.Bool.{Bool, true, false, not, _&&_, _||_}
 use native.Mathlib.Nat.{add-mul-mod-self-right, zero-mod}
 use native.Mathlib.Omega.{arith}
 use lib.Dec.{leb, ltb, eqb}
-use borrow.Author.Tests.{eqb-true, leb-true, leb-false, ltb-true, eq-eqb, le-leb}
+use borrow.Author.Tests.{eqb-true, leb-true, leb-false, ltb-true, eq-eqb, le-leb, lt-ltb}
 use Rattle.units.specs.Numbers.{top, bytesOf, blocksIn, mapRegion, mapRegions}
 use Rattle.units.specs.declared.GuestAddr.{GuestAddr}
 use Rattle.units.proofs.Tests.{by-test, and-left, and-right}
+use Rattle.wire.specs.declared.VirtioMemConfig.{VirtioMemConfig}
 use Rattle.record.specs.declared.Device.{Device}
 use Rattle.record.specs.declared.Pending.{Pending}
 use Rattle.record.specs.declared.Pending.the-variants.{Nothing, Create, Discard, DiscardOne}
-use Rattle.record.specs.Shape.{alignmentOk, regionOk, sizeOk, spanOf, startOk, severalOk, pendingOk, shapedOf, isIdle}
+use Rattle.record.specs.Shape.{alignmentOk, regionOk, sizeOk, spanOf, startOk, severalOk, pendingOk, shapedOf, ofConfig, configShapedOf, isIdle}
 use Rattle.record.specs.Tests.{blocksOk, insideOk, restOk}
 use Rattle.record.specs.Changes.{configWith, deviceWith, pendingTo, placedTo, startTo, usableTo, pluggedTo, requestedTo}
 
@@ -206,6 +207,56 @@ shaped-is d e =
       rows-few = m .few (r .3);
       several-large = several-is (d .«multi_region») (c .«region_size») (p .several);
     }
+
+-- ---- the shape of a config alone
+-- every alignment is a multiple of the least
+record Least (a : ℕ) : Type 0 where
+  multiples : (n : ℕ) → n % a ≡ 0 → n % 134217728 ≡ 0
+  twice : (n : ℕ) → n % (2 * a) ≡ 0 → n % (2 * 134217728) ≡ 0
+
+least : (a : ℕ) → alignmentOk a ≡ true → Least a
+least =
+    by-alignment Least
+    (record { multiples = λ n h. omega arith; twice = λ n h. omega arith })
+    (record { multiples = λ n h. omega arith; twice = λ n h. omega arith })
+    (record { multiples = λ n h. omega arith; twice = λ n h. omega arith })
+    (record { multiples = λ n h. omega arith; twice = λ n h. omega arith })
+    (record { multiples = λ n h. omega arith; twice = λ n h. omega arith })
+
+region-least : (region : ℕ) → 0 < region → region % (2 * 134217728) ≡ 0 → region ≤ 1099511627776 → regionOk region 134217728 ≡ true
+unfolding regionOk alignmentOk
+region-least region p m t = simp (lt-ltb _ _ p, m, le-leb _ _ t)
+
+start-least : (start region : ℕ) → start % 134217728 ≡ 0 → start + region ≤ top → startOk start region false 134217728 ≡ true
+unfolding startOk spanOf
+start-least start region m t = simp (m, le-leb _ _ t)
+
+-- every shaped device's config has it
+pub config-shaped-of : (d : Device) → shapedOf d ≡ true → configShapedOf (d .config) ≡ true
+unfolding configShapedOf severalOk pendingOk
+config-shaped-of d e =
+    let c = d .config in
+    let p = parts d e in
+    let n = shaped-is d e in
+    let r = region-is (c .«region_size») (d .alignment) (p .region) in
+    let s = start-is (c .addr .0) (c .«region_size») (d .«multi_region») (d .alignment) (p .start) in
+    let l = least (d .alignment) (r .0) in
+    whole (ofConfig c)
+    (record {
+      block = p .block;
+      region = region-least (c .«region_size») (r .1) (l .twice (c .«region_size») (r .2)) (r .3);
+      requested = p .requested;
+      usable = p .usable;
+      plugged = p .plugged;
+      start = start-least (c .addr .0) (c .«region_size») (l .multiples (c .addr .0) (s .0)) (n .start-region);
+      several = refl;
+      pending = refl;
+    })
+
+-- and it says the same numbers
+pub config-shaped-is : (c : VirtioMemConfig) → configShapedOf c ≡ true → Shaped (ofConfig c)
+unfolding configShapedOf
+config-shaped-is c e = shaped-is (ofConfig c) e
 
 -- ---- the shape as `shaped` tests it
 -- the tests that take a part of the shape together with another

@@ -3,6 +3,7 @@ use Prim.Native.Nat.{ℕ, _+_, _*_, _%_, _^_}
 use mathlib.Core.Bool.{Bool, true, false, cond, not, _&&_, _||_}
 use lib.Dec.{leb, ltb, eqb}
 use Rattle.units.specs.Numbers.{top, bytesOf, blocksIn, mapRegion, mapRegions}
+use Rattle.wire.specs.declared.VirtioMemConfig.{VirtioMemConfig}
 use Rattle.record.specs.declared.Device.{Device}
 use Rattle.record.specs.declared.Pending.{Pending}
 use Rattle.record.specs.declared.Pending.the-variants.{Nothing, Create, Discard, DiscardOne}
@@ -52,6 +53,22 @@ shapedOf d =
     && (startOk (c .addr .0) (c .«region_size») (d .«multi_region») (d .alignment)
     && (severalOk (d .«multi_region») (c .«region_size»)
     && pendingOk (d .pending) (c .«block_size») (c .«region_size») (d .«multi_region») (c .«plugged_size»)))))))
+
+-- the weakest record that a config can stand in: alignment 128 MiB, one region, nothing pending
+abbrev pub ofConfig : VirtioMemConfig → Device
+ofConfig c =
+    record {
+      config = c;
+      alignment = 134217728;
+      «multi_region» = false;
+      «avail_features» = 4294967296;
+      placed = true;
+      pending = Nothing;
+    }
+
+-- the shape of a config alone
+unfoldable pub configShapedOf : VirtioMemConfig → Bool
+configShapedOf c = shapedOf (ofConfig c)
 
 -- no host call is pending
 abbrev pub isIdle : Pending → Bool

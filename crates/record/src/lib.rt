@@ -13,12 +13,15 @@ ghost use mathlib.Core.Bool.{true};
 ghost use Prim.Native.Nat.{_+_, _%_};
 ghost use lib.Dec.{leb, eqb};
 ghost use Rattle.units.specs.Numbers.{top};
-ghost use Rattle.record.specs.Shape.{alignmentOk, regionOk, spanOf, startOk, severalOk, pendingOk, shapedOf, isIdle, featuresOf};
+ghost use Rattle.record.specs.Shape.{configShapedOf, alignmentOk, regionOk, spanOf, startOk, severalOk, pendingOk, shapedOf, isIdle, featuresOf};
 ghost use Rattle.record.specs.Tests.{blocksOk, insideOk, restOk};
 
 const VIRTIO_F_VERSION_1: u64 = 32;
 
 const VIRTIO_MEM_F_ACPI_PXM: u64 = 0;
+
+// The least alignment: 128 MiB.
+const MIN_ALIGNMENT: u64 = 134217728;
 
 // The largest region: 1 TiB.
 const MAX_REGION_SIZE: u64 = 1099511627776;
@@ -205,6 +208,21 @@ pub fn shaped(d: Device) -> bool
     // A copy of its own, so that a device that waits for nothing makes none.
     let waits_for = d.pending;
     rest_ok(start, region, several, waits_for, plugged)
+}
+
+// Whether config fields have the shape that every device's have: that of a single region with the least alignment, waiting for nothing.
+pub fn config_shaped(config: VirtioMemConfig) -> bool
+    ensures { λ r. ⌜ r ≡ configShapedOf config ⌝ }
+{
+    let pending = Pending::Nothing;
+    shaped(Device {
+        config: config,
+        alignment: MIN_ALIGNMENT,
+        multi_region: false,
+        avail_features: 1 << VIRTIO_F_VERSION_1,
+        placed: true,
+        pending: pending,
+    })
 }
 
 // Whether no host call is pending.
