@@ -1,0 +1,25 @@
+-- `stop_at` meets its contract. Assumes nothing.
+use Rattle.driver.specs.Plan.{stopAt}
+use borrow.Author.Needs.{needs}
+use Rattle.driver.proofs.stop_at.Statement.{statement}
+use Rattle.driver.proofs.stop_at.Tie as tie
+
+next-set-requires : tie.Need-next-set-requires
+next-set-requires c κs = search needs
+
+enum-known-next : tie.Need-enum-known-next
+enum-known-next c = search needs
+
+enum-told : tie.Need-enum-told
+enum-told c = search needs
+
+returns : tie.Need-returns
+unfolding stopAt
+returns c = simp (← c .before .before .before .next-set .ensures, c .before .next .given .1)
+
+returns-2 : tie.Need-returns-2
+unfolding stopAt
+returns-2 c = simp (← c .before .before .next-set .ensures, c .enum-told .given .1)
+
+pub stop-at-spec : {M : Type 1} → statement M
+stop-at-spec = tie.close (tie.spec next-set-requires enum-known-next enum-told returns returns-2)
