@@ -1,0 +1,4 @@
+pub mod Legal
+pub mod Acks
+pub mod Exact
+pub mod Settles
