@@ -1,11 +1,16 @@
 // SPDX-License-Identifier: Apache-2.0 AND BSD-3-Clause
-// The static library: each call of the device and of its queue for C and Rust, the record and the queue as words. Words that are no record, or no queue, are refused with 12.
+// The static library: each call of the device and of its queue for C and Rust, the record and the queue as words, and the guest's
+// side. Words that are no record, or no queue, are refused with 12.
 use answer_words::ANSWER_WORDS;
 use answer_words::number_of;
 use answer_words::pass_on;
 use answer_words::tell;
 use device::read_config;
 use device::write_config;
+use driver::write_request;
+use driver_words::tell_config;
+use driver_words::tell_plan;
+use driver_words::tell_response;
 use making::Made;
 use making::Mem;
 use making::Node;
@@ -29,6 +34,7 @@ use serving::request;
 use step::Answer;
 use units::GuestAddr;
 use units::HostAddr;
+use wire::VirtioMemReq;
 use words::Decoded;
 use words::RECORD_WORDS;
 use words::decode;
@@ -43,6 +49,8 @@ ghost use Rattle.making.specs.Made.{made};
 ghost use Rattle.step.specs.World.{worldOf, Place, SetRequestedSize, Request, HostAnswer, ReadConfig, WriteConfig};
 ghost use Rattle.step.specs.Step.{step};
 ghost use Rattle.queue.specs.Queue.{serveNext, hostAnswers};
+ghost use Rattle.driver.specs.Text.{Wrote};
+ghost use Rattle.driver_words.specs.Told.{ResponseTold, ConfigTold, PlanTold};
 ghost use Rattle.capi.specs.Exports.{nodeOf, MadeIn, lent, Exported};
 ghost use Rattle.capi.specs.Queue.{newQueue, QueueMadeIn, queueLent, QueueExported};
 
@@ -346,4 +354,53 @@ pub extern "C" fn jambcopper_write_config(words: &[u64], offset: u64, data: &[u8
     let s = write_config(d, offset, data);
     let a = s.answer;
     number_of(a)
+}
+
+// The guest's side: writes a request.
+#[no_mangle]
+pub extern "C" fn jambcopper_driver_write_request(
+    bytes: &mut [u8],
+    req_type: u16,
+    addr: u64,
+    nb_blocks: u16,
+) -> u64
+    ensures { λ r. ⌜
+        Wrote (record { «req_type» = «req_type»; addr = record { 0 = addr }; «nb_blocks» = «nb_blocks» })
+        (now (bytes .entry)) (now (bytes .exit)) r
+        ⌝ }
+{
+    write_request(
+        bytes,
+        VirtioMemReq {
+            req_type: req_type,
+            addr: GuestAddr(addr),
+            nb_blocks: nb_blocks,
+        },
+    )
+}
+
+// The guest's side: reads a response.
+#[no_mangle]
+pub extern "C" fn jambcopper_driver_read_response(bytes: &[u8], response: &mut [u64]) -> u64
+    ensures { λ r. ⌜ ResponseTold (now (bytes .entry)) (now (response .entry)) (now (response .exit)) r ⌝ }
+{
+    tell_response(bytes, response)
+}
+
+// The guest's side: reads a config.
+#[no_mangle]
+pub extern "C" fn jambcopper_driver_read_config(bytes: &[u8], config: &mut [u64]) -> u64
+    ensures { λ r. ⌜ ConfigTold (now (bytes .entry)) (now (config .entry)) (now (config .exit)) r ⌝ }
+{
+    tell_config(bytes, config)
+}
+
+// The guest's side: proposes the next plug.
+#[no_mangle]
+pub extern "C" fn jambcopper_driver_plan(config: &[u8], bitmap: &[u8], plug: &mut [u64]) -> u64
+    ensures { λ r. ⌜
+        PlanTold (now (config .entry)) (blocks (now (bitmap .entry))) (now (plug .entry)) (now (plug .exit)) r
+        ⌝ }
+{
+    tell_plan(config, bitmap, plug)
 }
