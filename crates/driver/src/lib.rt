@@ -40,7 +40,8 @@ pub enum Proposal {
     Refused(u64),
 }
 
-// Writes the 24 bytes of a request, or gives 16 and writes nothing. The padding is the upper bytes of the type and of the blocks, as numbers of eight.
+// Writes the 24 bytes of a request, or gives 16 and writes nothing. The type and the blocks are written as numbers of eight bytes,
+// whose upper six are the padding.
 pub fn write_request(bytes: &mut [u8], req: VirtioMemReq) -> u64
     ensures { λ r. ⌜ Wrote req (now (bytes .entry)) (now (bytes .exit)) r ⌝ }
 {
@@ -141,7 +142,8 @@ fn room_of(block_size: u64, plugged: u64, requested: u64) -> u64
 
 // How many blocks a plug from `first` on takes, of those that there is room for.
 fn count_of(bitmap: &[u8], block_size: u64, usable: u64, first: u64, room: u64) -> u64
-    requires { ⌜ (0 < «block_size») × («block_size» ≤ 2147483648) × (first < 9223372036854775808) × (first < blocksIn «block_size» usable) ⌝ }
+    requires { ⌜ (0 < «block_size») × («block_size» ≤ 2147483648) ⌝ }
+    requires { ⌜ (first < 9223372036854775808) × (first < blocksIn «block_size» usable) ⌝ }
     ensures { λ r. ⌜ r ≡ min (stopOf «block_size» usable (blocks (now (bitmap .entry))) first - first) room ⌝ }
 {
     let border = border_after(block_size, first);
@@ -149,8 +151,9 @@ fn count_of(bitmap: &[u8], block_size: u64, usable: u64, first: u64, room: u64) 
     smaller(stop - first, room)
 }
 
-// Proposes the plug that starts at the lowest free block and takes all blocks up to the next plugged one, the 2 GiB border of offsets, the usable end or the spent requested size.
-// 12: not the fields of a config; 11: the bitmap is too short; 17: no plug of one block is legal.
+// Proposes the plug that starts at the lowest free block and takes all blocks up to the next plugged one, the 2 GiB border of
+// offsets, the usable end or the spent requested size.
+// 12: not the fields of a device's config; 11: the bitmap is too short; 17: no plug of one block is legal.
 pub fn plan(config: VirtioMemConfig, bitmap: &[u8]) -> Proposal
     ensures { λ r. ⌜ r ≡ planOf config (blocks (now (bitmap .entry))) ⌝ }
 {
@@ -162,14 +165,14 @@ pub fn plan(config: VirtioMemConfig, bitmap: &[u8]) -> Proposal
     if too_short(bitmap, config.region_size / size) {
         return Proposal::Refused(11);
     }
-    let Found::At(lowest) = next_clear(bitmap, 0, (usable / size) as usize) else {
-        return Proposal::Refused(17);
-    };
-    let first = lowest as u64;
     let room = room_of(size, config.plugged_size, config.requested_size);
     if room == 0 {
         return Proposal::Refused(17);
     }
+    let Found::At(lowest) = next_clear(bitmap, 0, (usable / size) as usize) else {
+        return Proposal::Refused(17);
+    };
+    let first = lowest as u64;
     let count = count_of(bitmap, size, usable, first, room);
     let addr = config.addr.0 + first * size;
     Proposal::Plug(GuestAddr(addr), count as u16)

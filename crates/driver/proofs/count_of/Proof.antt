@@ -25,8 +25,8 @@ sub-smaller : tie.Need-sub-smaller
 sub-smaller c =
     let start = c .before .before .before .before in
     let a = start .args in
-    let b = border (a .first) (blocksIn (a .block-size) mapRegion) (per-some (a .block-size) (start .pre .0) (start .pre .1)) in
-    let h : a .first ≤ limitOf (a .block-size) (a .usable) (a .first) = omega (arith, b .above, start .pre .3) in
+    let b = border (a .first) (blocksIn (a .block-size) mapRegion) (per-some (a .block-size) (start .pre .0 .0) (start .pre .0 .1)) in
+    let h : a .first ≤ limitOf (a .block-size) (a .usable) (a .first) = omega (arith, b .above, start .pre .1 .1) in
     let s = stop-from _ (a .first) (limitOf (a .block-size) (a .usable) (a .first)) h in
     let e = rw (c .before .smaller .ensures, c .before .before .border-after .ensures) at (c .stop-at .ensures) in
     rw e s
