@@ -2,3 +2,4 @@ pub mod Legal
 pub mod Acks
 pub mod Exact
 pub mod Settles
+pub mod Held

@@ -1,0 +1,104 @@
+-- Guest memory that holds a request as a chain, in the bytes of the standard's structs, and a chain that a driver lays there.
+use Prim.Native.Nat.{ℕ, _+_, _-_, _≤_, _<_, _^_}
+use mathlib.Core.Path.{_≡_}
+use mathlib.Core.Bool.{true}
+use mathlib.Core.List.{List}
+use mathlib.Core.Logic.{_⊎_}
+use lib.ListN.{length}
+use Rattle.units.specs.declared.GuestAddr.{GuestAddr}
+use Rattle.little_endian.specs.Bytes.{part, put}
+use Rattle.wire.specs.declared.VirtioMemReq.{VirtioMemReq}
+use Rattle.descriptors.specs.Standard.{virtqDesc, descriptorAddr}
+use Rattle.descriptors.specs.Descriptors.{inside}
+use Rattle.driver.specs.Text.{requestBytes}
+use Rattle.step.specs.World.{Guest}
+
+-- the n bytes at a guest address lie inside guest memory, and are these
+pub record Stands (g : Guest) (addr n : ℕ) (bytes : List ℕ) : Type 0 where
+  pub lies : inside (length (g .mem)) (g .base) addr n ≡ true
+  pub are : part (g .mem) (addr - g .base) n ≡ bytes
+
+-- le16, le64 and le16 hold the fields: what the types u16 and u64 say
+pub record RequestFits (q : VirtioMemReq) : Type 0 where
+  pub type-fits : q .«req_type» < 256 ^ 2
+  pub addr-fits : q .addr .0 < 256 ^ 8
+  pub blocks-fit : q .«nb_blocks» < 256 ^ 2
+
+-- guest memory holds the request q as the chain from index `head` of the table on: a descriptor of 24 bytes with NEXT (1),
+-- the 24 bytes of q where it points, and a second descriptor of 10 bytes or more with WRITE (2), the response's
+pub record Holds (g : Guest) (table head : ℕ) (q : VirtioMemReq) (status : GuestAddr) : Type 0 where
+  pub request-at : ℕ
+  pub second-index : ℕ
+  pub second-len : ℕ
+  pub second-next : ℕ
+  pub head-in-table : head < 128
+  pub second-in-table : second-index < 128
+  pub len-enough : 10 ≤ second-len
+  pub len-fits : second-len < 256 ^ 4
+  pub next-fits : second-next < 256 ^ 2
+  pub status-fits : status .0 < 256 ^ 8
+  pub request-fits : RequestFits q
+  pub first : Stands g (descriptorAddr table head) 16 (virtqDesc request-at 24 1 second-index)
+  pub second : Stands g (descriptorAddr table second-index) 16 (virtqDesc (status .0) second-len 2 second-next)
+  pub request : Stands g request-at 24 (requestBytes q)
+
+-- the request that asks for a plug
+abbrev pub plugOf : GuestAddr → (count : ℕ) → VirtioMemReq
+plugOf addr count = record { «req_type» = 0; addr = addr; «nb_blocks» = count }
+
+-- where a driver lays a chain: the descriptor table, two indices of it, the request, and the response's buffer with its length
+pub record Places : Type 0 where
+  pub table : ℕ
+  pub head : ℕ
+  pub second : ℕ
+  pub request : ℕ
+  pub status : GuestAddr
+  pub len : ℕ
+
+abbrev pub firstAddr : Places → ℕ
+firstAddr p = descriptorAddr (p .table) (p .head)
+
+abbrev pub secondAddr : Places → ℕ
+secondAddr p = descriptorAddr (p .table) (p .second)
+
+-- n bytes at an address and m at another do not overlap
+abbrev pub Apart : (addr n other m : ℕ) → Type 0
+Apart addr n other m = (addr + n ≤ other) ⊎ (other + m ≤ addr)
+
+-- they are places for a chain: inside guest memory, and apart
+pub record PlacesIn (g : Guest) (p : Places) : Type 0 where
+  pub head-in-table : p .head < 128
+  pub second-in-table : p .second < 128
+  pub two : p .head ≡ p .second → ⊥
+  pub first-lies : inside (length (g .mem)) (g .base) (firstAddr p) 16 ≡ true
+  pub second-lies : inside (length (g .mem)) (g .base) (secondAddr p) 16 ≡ true
+  pub request-lies : inside (length (g .mem)) (g .base) (p .request) 24 ≡ true
+  pub first-apart : Apart (firstAddr p) 16 (p .request) 24
+  pub second-apart : Apart (secondAddr p) 16 (p .request) 24
+  pub len-enough : 10 ≤ p .len
+  pub len-fits : p .len < 256 ^ 4
+  pub status-fits : p .status .0 < 256 ^ 8
+
+-- bytes written at a guest address
+abbrev pub putAt : Guest → (addr : ℕ) → List ℕ → Guest
+putAt g addr bytes = record { mem = put (g .mem) (addr - g .base) bytes; base = g .base }
+
+-- guest memory with the chain laid: both descriptors, and the request
+abbrev pub laidIn : Guest → Places → VirtioMemReq → Guest
+laidIn g p q =
+    putAt
+    (putAt (putAt g (firstAddr p) (virtqDesc (p .request) 24 1 (p .second))) (secondAddr p)
+    (virtqDesc (p .status .0) (p .len) 2 0))
+    (p .request) (requestBytes q)
+
+-- 66 bytes have places: two descriptors, the request behind them, and 10 bytes for the response
+abbrev pub in66 : (base : ℕ) → Places
+in66 base =
+    record {
+      table = base;
+      head = 0;
+      second = 1;
+      request = base + 32;
+      status = record { 0 = base + 56 };
+      len = 10;
+    }
