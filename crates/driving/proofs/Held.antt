@@ -1,4 +1,4 @@
--- Guest memory that holds a request is parsed as that request. Assumes nothing.
+-- Guest memory that holds a request is parsed as that request, so the theorems on plugs need no word of the parse; and guest memory can be made to hold any. Assumes nothing.
 use Prim.Native.Nat.{ℕ, _+_, _-_, _≤_, _<_, _^_}
 use mathlib.Core.Path.{_≡_, refl, sym, ap, _∙_}
 use mathlib.Core.Bool.{Bool, true}
@@ -11,7 +11,7 @@ use lib.ListN.{length}
 use Rattle.units.specs.Numbers.{blocksIn, mapRegion}
 use Rattle.units.specs.declared.GuestAddr.{GuestAddr}
 use Rattle.units.proofs.Tests.{by-test}
-use Rattle.little_endian.specs.Bytes.{littleEndian, part, put}
+use Rattle.little_endian.specs.Bytes.{littleEndian, part}
 use Rattle.little_endian.proofs.Laws.{length-put, part-part, part-put, part-put-before, part-put-behind}
 use Rattle.wire.specs.declared.VirtioMemReq.{VirtioMemReq}
 use Rattle.wire.specs.declared.VirtioMemConfig.{VirtioMemConfig}
@@ -102,6 +102,10 @@ still-stands g addr n bytes other m more e l apart s =
           ∙ s .are;
     }
 
+-- the length stays
+pub length-laid : (g : Guest) (p : Places) (q : VirtioMemReq) → length (laidIn g p q .mem) ≡ length (g .mem)
+length-laid g p q = rw (length-put, length-put, length-put)
+
 module _ (g : Guest) (p : Places) (q : VirtioMemReq) (fit : PlacesIn g p) where
   descs-apart : Apart (firstAddr p) 16 (secondAddr p) 16
   unfolding descriptorAddr
@@ -157,7 +161,7 @@ module _ (g : Guest) (p : Places) (q : VirtioMemReq) (fit : PlacesIn g p) where
       }
 
 -- any 66 bytes of guest memory can hold any request
-is-inside : (len base addr n : ℕ) → base ≤ addr → addr + n ≤ base + len → addr + n ≤ 2 ^ 64 → inside len base addr n ≡ true
+pub is-inside : (len base addr n : ℕ) → base ≤ addr → addr + n ≤ base + len → addr + n ≤ 2 ^ 64 → inside len base addr n ≡ true
 unfolding inside
 is-inside len base addr n a b c = simp (le-leb base addr a, le-leb (addr + n) (base + len) b, le-leb (addr + n) (2 ^ 64) c)
 

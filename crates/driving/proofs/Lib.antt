@@ -3,3 +3,4 @@ pub mod Acks
 pub mod Exact
 pub mod Settles
 pub mod Held
+pub mod ReadBack

@@ -1,17 +1,23 @@
--- Guest memory that holds a request as a chain, in the bytes of the standard's structs, and a chain that a driver lays there.
+-- Guest memory that holds a request in the bytes of the standard's structs: what a driver lays there and reads back.
 use Prim.Native.Nat.{ℕ, _+_, _-_, _≤_, _<_, _^_}
 use mathlib.Core.Path.{_≡_}
-use mathlib.Core.Bool.{true}
+use mathlib.Core.Bool.{Bool, true}
 use mathlib.Core.List.{List}
 use mathlib.Core.Logic.{_⊎_}
-use lib.ListN.{length}
+use lib.ListN.{length, take}
 use Rattle.units.specs.declared.GuestAddr.{GuestAddr}
 use Rattle.little_endian.specs.Bytes.{part, put}
 use Rattle.wire.specs.declared.VirtioMemReq.{VirtioMemReq}
+use Rattle.wire.specs.declared.VirtioMemResp.{VirtioMemResp}
 use Rattle.descriptors.specs.Standard.{virtqDesc, descriptorAddr}
 use Rattle.descriptors.specs.Descriptors.{inside}
-use Rattle.driver.specs.Text.{requestBytes}
-use Rattle.step.specs.World.{Guest}
+use Rattle.chain.specs.declared.Parsed.the-variants.{Request as Got}
+use Rattle.chain.specs.Chain.{parsed}
+use Rattle.record.specs.declared.Pending.the-variants.{Discard, DiscardOne}
+use Rattle.driver.specs.declared.GotResponse.{GotResponse}
+use Rattle.driver.specs.declared.GotResponse.the-variants.{Response}
+use Rattle.driver.specs.Text.{requestBytes, ReadsResponse}
+use Rattle.step.specs.World.{World, Guest, Call, Request, HostAnswer}
 
 -- the n bytes at a guest address lie inside guest memory, and are these
 pub record Stands (g : Guest) (addr n : ℕ) (bytes : List ℕ) : Type 0 where
@@ -24,9 +30,10 @@ pub record RequestFits (q : VirtioMemReq) : Type 0 where
   pub addr-fits : q .addr .0 < 256 ^ 8
   pub blocks-fit : q .«nb_blocks» < 256 ^ 2
 
--- guest memory holds the request q as the chain from index `head` of the table on: a descriptor of 24 bytes with NEXT (1),
--- the 24 bytes of q where it points, and a second descriptor of 10 bytes or more with WRITE (2), the response's
+-- guest memory holds the request q as a chain of two descriptors, the first at index `head` of the table:
+-- one of 24 bytes with NEXT (1), which are those of q, and one of 10 bytes or more with WRITE (2), for the response
 pub record Holds (g : Guest) (table head : ℕ) (q : VirtioMemReq) (status : GuestAddr) : Type 0 where
+  -- where q stands, the second descriptor's index, and the length and next index that this one gives
   pub request-at : ℕ
   pub second-index : ℕ
   pub second-len : ℕ
@@ -46,7 +53,7 @@ pub record Holds (g : Guest) (table head : ℕ) (q : VirtioMemReq) (status : Gue
 abbrev pub plugOf : GuestAddr → (count : ℕ) → VirtioMemReq
 plugOf addr count = record { «req_type» = 0; addr = addr; «nb_blocks» = count }
 
--- where a driver lays a chain: the descriptor table, two indices of it, the request, and the response's buffer with its length
+-- where a driver lays a chain: the table, two indices of it, the request, and the response's buffer with its length
 pub record Places : Type 0 where
   pub table : ℕ
   pub head : ℕ
@@ -102,3 +109,27 @@ in66 base =
       status = record { 0 = base + 56 };
       len = 10;
     }
+
+-- where the response of a call goes: the status address of the chain that it brings, or of what waits for the host
+pub data GoesTo (w : World) (c : Call) (g : Guest) (status : GuestAddr) : Type 0 where
+  OfChain : (table head : ℕ) (q : VirtioMemReq) → c ≡ Request g table head
+      → parsed (g .mem) (g .base) table head ≡ Got q status → GoesTo w c g status
+  OfUnplug : (ok : Bool) (host first count : ℕ) → c ≡ HostAnswer g ok host
+      → w .device .pending ≡ Discard first count status → GoesTo w c g status
+  OfUnplugAll : (ok : Bool) (host block : ℕ) → c ≡ HostAnswer g ok host
+      → w .device .pending ≡ DiscardOne block status → GoesTo w c g status
+
+-- in guest memory afterwards: from any slice that begins with the ten bytes at `status` the driver reads the response
+abbrev pub ReadAt : (g : Guest) (status : GuestAddr) (bytes : List ℕ) → VirtioMemResp → Type 0
+ReadAt g status bytes resp =
+    (xs : List ℕ) → take 10 xs ≡ part bytes (status .0 - g .base) 10
+    → (r : GotResponse) → ReadsResponse xs r → r ≡ Response resp
+
+-- a response that a call gives is a known one, and is read back where its used length is 10
+pub record ReadBack (w : World) (c : Call) (resp : VirtioMemResp) (used : ℕ) (bytes : List ℕ) : Type 0 where
+  pub type-known : resp .«resp_type» ≤ 3
+  pub state-known : resp .state ≤ 2
+  pub guest : Guest
+  pub status : GuestAddr
+  pub goes : GoesTo w c guest status
+  pub read : used ≡ 10 → ReadAt guest status bytes resp
