@@ -3,7 +3,7 @@ use Prim.Native.Nat.{ℕ, _+_, _-_, _≤_, _<_, _^_}
 use mathlib.Core.Path.{_≡_, refl, sym, ap, _∙_}
 use mathlib.Core.Bool.{Bool, true}
 use mathlib.Core.List.{List}
-use mathlib.Core.Logic.{inl, inr, ⊎-elim}
+use mathlib.Core.Logic.{inl, inr}
 use native.Mathlib.Omega.{arith}
 use borrow.Author.Tests.{lt-ltb, le-ltb, le-leb, leb-true, leb-false, ltb-true, ltb-false}
 use lib.Dec.{leb, ltb}
@@ -11,7 +11,7 @@ use lib.ListN.{length}
 use Rattle.units.specs.Numbers.{blocksIn, mapRegion}
 use Rattle.units.specs.declared.GuestAddr.{GuestAddr}
 use Rattle.units.proofs.Tests.{by-test}
-use Rattle.little_endian.specs.Bytes.{littleEndian, part}
+use Rattle.little_endian.specs.Bytes.{littleEndian, part, put}
 use Rattle.little_endian.proofs.Laws.{length-put, part-part, part-put, part-put-before, part-put-behind}
 use Rattle.wire.specs.declared.VirtioMemReq.{VirtioMemReq}
 use Rattle.wire.specs.declared.VirtioMemConfig.{VirtioMemConfig}
@@ -88,6 +88,11 @@ put-stands g addr n bytes e l =
     }
 
 -- and bytes apart from them stay
+part-apart : (xs : List ℕ) (base addr n other m : ℕ) (ys : List ℕ) → length ys ≡ m → base ≤ addr → base ≤ other → Apart addr n other m
+    → part (put xs (other - base) ys) (addr - base) n ≡ part xs (addr - base) n
+part-apart xs base addr n other m ys e a o (inl h) = part-put-before xs (other - base) ys (addr - base) n (omega arith)
+part-apart xs base addr n other m ys e a o (inr h) = part-put-behind xs (other - base) ys (addr - base) n (omega arith)
+
 still-stands : (g : Guest) (addr n : ℕ) (bytes : List ℕ) (other m : ℕ) (more : List ℕ) → length more ≡ m → inside (length (g .mem)) (g .base) other m ≡ true → Apart addr n other m
     → Stands g addr n bytes → Stands (putAt g other more) addr n bytes
 still-stands g addr n bytes other m more e l apart s =
@@ -95,11 +100,7 @@ still-stands g addr n bytes other m more e l apart s =
     let j = inside-facts (length (g .mem)) (g .base) other m l in
     record {
       lies = rw (length-put (g .mem) (other - g .base) more) (s .lies);
-      are = ⊎-elim
-          (λ (h : addr + n ≤ other). part-put-before (g .mem) (other - g .base) more (addr - g .base) n (omega (arith, i .from-base)))
-          (λ (h : other + m ≤ addr). part-put-behind (g .mem) (other - g .base) more (addr - g .base) n (omega (arith, j .from-base)))
-          apart
-          ∙ s .are;
+      are = part-apart (g .mem) (g .base) addr n other m more e (i .from-base) (j .from-base) apart ∙ s .are;
     }
 
 -- the length stays
@@ -176,7 +177,7 @@ in-66 g long low =
       two = λ e. omega arith;
       first-lies = is-inside n b (descriptorAddr b 0) 16 (omega arith) (omega arith) (omega arith);
       second-lies = is-inside n b (descriptorAddr b 1) 16 (omega arith) (omega arith) (omega arith);
-      request-lies = is-inside n b (b + 32) 24 (omega arith) (omega arith) (omega arith);
+      request-lies = is-inside n b (in66 b .request) 24 (omega arith) (omega arith) (omega arith);
       first-apart = inl (omega arith);
       second-apart = inl (omega arith);
       len-enough = omega arith;
