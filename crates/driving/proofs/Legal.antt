@@ -97,12 +97,13 @@ module _ (several : Bool) (usable : ℕ) (rows : List MapRow) (sound : SoundRows
       go true e =
           let row = rowAt rows (offset / mapRegion) in
           let mapped : row .mapped ≡ 0 → ⊥ = rw e at (sound .mapped offset (omega arith)) in
-          let room : row .host .0 + mapRegion ≤ top = rw e at (sound .fits offset (omega arith)) in
+          let same : (offset + (size - 1)) / mapRegion ≡ offset / mapRegion = omega arith in
+          let room : row .host .0 + (offset + (size - 1)) % mapRegion < top = rw (e, same) at (sound .fits (offset + (size - 1)) (omega arith)) in
           (record { 0 = row .host .0 + offset % mapRegion }, rw (e, le-ltb mapRegion (offset % mapRegion + size) m, mapping-at rows (offset / mapRegion) mapped, le-ltb top (row .host .0 + offset % mapRegion + size) (omega arith)))
       go false e =
           let row = rowAt rows 0 in
           let mapped : row .mapped ≡ 0 → ⊥ = rw e at (sound .mapped offset (omega arith)) in
-          let room : row .host .0 + usable ≤ top = rw e at (sound .fits offset (omega arith)) in
+          let room : row .host .0 + (offset + (size - 1)) < top = rw e at (sound .fits (offset + (size - 1)) (omega arith)) in
           (record { 0 = row .host .0 + offset }, rw (e, mapping-at rows 0 mapped, le-ltb top (row .host .0 + offset + size) (omega arith)))
 
 -- ---- what is proposed is legal: (a), and (b) to (d) at its first block

@@ -1,11 +1,12 @@
--- What the theorems ask of a device: sound rows, and that it is ready for a request.
-use Prim.Native.Nat.{ℕ, zero, suc, _+_, _-_, _*_, _/_, _<_, _≤_}
+-- What the theorems ask of a device: sound rows, and that it is ready for a request. And where planning and plugging leads.
+use Prim.Native.Nat.{ℕ, zero, suc, _+_, _-_, _/_, _%_, _<_, _≤_, min, max}
 use mathlib.Core.Path.{_≡_}
-use mathlib.Core.Bool.{Bool, true, cond}
+use mathlib.Core.Bool.{Bool, true, cond, not, _&&_, _||_}
 use mathlib.Core.List.{List}
+use lib.Dec.{eqb}
 use lib.ListN.{length, take}
 use Rattle.units.specs.Numbers.{top, bytesOf, blocksIn, mapRegion}
-use Rattle.bitmap.specs.Blocks.{ones, fill}
+use Rattle.bitmap.specs.Blocks.{blockAt, ones, fill}
 use Rattle.rows.specs.declared.MapRow.{MapRow}
 use Rattle.rows.specs.Rows.{rowAt}
 use Rattle.record.specs.Shape.{shapedOf, isIdle}
@@ -16,10 +17,11 @@ use Rattle.step.specs.World.{World, Guest, Outcome}
 use Rattle.record.specs.Changes.{pluggedTo}
 use Rattle.step.specs.Step.{blockSize, usable, plugged, requested, start, several, regionBlocks, regionRows, plugs}
 
--- sound rows: what is usable is mapped, each row with room below 2^64 for what it maps
+-- sound rows: each offset below the usable size lies in a mapped row, whose host address leaves room for it below 2^64
 pub record SoundRows (several : Bool) (usable : ℕ) (rows : List MapRow) : Type 0 where
   pub mapped : (offset : ℕ) → offset < usable → rowAt rows (cond several (offset / mapRegion) 0) .mapped ≡ 0 → ⊥
-  pub fits : (offset : ℕ) → offset < usable → rowAt rows (cond several (offset / mapRegion) 0) .host .0 + cond several mapRegion usable ≤ top
+  pub fits : (offset : ℕ) → offset < usable
+      → rowAt rows (cond several (offset / mapRegion) 0) .host .0 + cond several (offset % mapRegion) offset < top
 
 -- a device that takes requests: shaped, nothing pending, placed, both tables long enough, and what is usable is mapped
 pub record Ready (w : World) : Type 0 where
@@ -36,10 +38,10 @@ pub record Acknowledged (w : World) (addr count status : ℕ) (g : Guest) (o : O
   pub addr-is : addr ≡ start w + bytesOf (blockSize w) first
   pub outcome : o ≡ plugs w first count status g
 
--- the plugged size is that of the plugged blocks in the usable part, and not above the requested size
-pub record Counted (w : World) : Type 0 where
-  pub counted : bytesOf (blockSize w) (ones (take (blocksIn (blockSize w) (usable w)) (w .blocks))) ≡ plugged w
-  pub in-requested : plugged w ≤ requested w
+-- ---- planning and plugging
+-- what the planner gives for a device: it reads the config and the bitmap alone
+abbrev pub planned : World → Proposal
+planned w = planOf (w .device .config) (w .blocks)
 
 -- the world after an acknowledged plug
 abbrev pub pluggedWorld : World → (first count : ℕ) → World
@@ -50,11 +52,43 @@ pluggedWorld w first count =
       rows = w .rows;
     }
 
--- planning and plugging, k times: the world that acknowledged plugs leave
+-- the world that the plug of a proposal leaves, and planning and plugging k times
 unfoldable pub driveAt : Proposal → World → World
 driveAt (Plug addr n) w = pluggedWorld w (blocksIn (blockSize w) (addr .0 - start w)) n
 driveAt (Refused number) w = w
 
 unfoldable pub drives : ℕ → World → World
 drives zero w = w
-drives (suc k) w = drives k (driveAt (planOf (w .device .config) (w .blocks)) w)
+drives (suc k) w = drives k (driveAt (planned w) w)
+
+-- ---- where it leads
+-- the blocks of the usable part, and how many of them are plugged
+abbrev pub usableBlocks : World → ℕ
+usableBlocks w = blocksIn (blockSize w) (usable w)
+
+abbrev pub pluggedBlocks : World → ℕ
+pluggedBlocks w = ones (take (usableBlocks w) (w .blocks))
+
+-- the plugged size is that of the plugged blocks in the usable part
+abbrev pub Counted : World → Type 0
+Counted w = plugged w ≡ bytesOf (blockSize w) (pluggedBlocks w)
+
+-- planning and plugging has ended: the planner gives 17, and the plugged size is the smaller of the requested and the usable size, or what it was where that was more already; the requested and the usable size are as they were
+pub record There (from to : World) : Type 0 where
+  pub spent : planned to ≡ Refused 17
+  pub size : plugged to ≡ max (plugged from) (min (requested from) (usable from))
+  pub same-requested : requested to ≡ requested from
+  pub same-usable : usable to ≡ usable from
+
+-- block i is the first of a run of free blocks: the one before it is plugged, or it lies at a 2 GiB border of offsets, as every `per` blocks one does
+unfoldable pub begins : (per : ℕ) → List Bool → ℕ → Bool
+begins per bs i = not (blockAt bs i) && (eqb (i % per) 0 || blockAt bs (i - 1))
+
+-- the runs that begin below block n
+unfoldable pub runsBelow : (per : ℕ) → List Bool → ℕ → ℕ
+runsBelow per bs zero = 0
+runsBelow per bs (suc n) = cond (begins per bs n) 1 0 + runsBelow per bs n
+
+-- the runs of free blocks in the usable part
+abbrev pub freeRuns : World → ℕ
+freeRuns w = runsBelow (blocksIn (blockSize w) mapRegion) (w .blocks) (usableBlocks w)
