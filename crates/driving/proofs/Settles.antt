@@ -264,7 +264,7 @@ there w r k number e =
     let q : planned w ≡ Refused 17 = rw (only-17 w r number e) at e in
     record { spent = q; size = omega (arith, settled w r k q); same-requested = refl; same-usable = refl }
 
-stays : (k : ℕ) (w : World) → planned w ≡ Refused 17 → drives k w ≡ w
+pub stays : (k : ℕ) (w : World) → planned w ≡ Refused 17 → drives k w ≡ w
 unfolding drives driveAt
 stays zero w e = refl
 stays (suc k) w e = rw e (stays k w e)

@@ -17,7 +17,7 @@ use Rattle.step.specs.World.{World, Guest, Outcome}
 use Rattle.record.specs.Changes.{pluggedTo}
 use Rattle.step.specs.Step.{blockSize, usable, plugged, requested, start, several, regionBlocks, regionRows, plugs}
 
--- sound rows: each offset below the usable size lies in a mapped row, whose host address leaves room for it below 2^64
+-- sound rows: each offset below the usable size lies in a mapped row, whose host address leaves room for it below 2^64 - 1
 pub record SoundRows (several : Bool) (usable : ℕ) (rows : List MapRow) : Type 0 where
   pub mapped : (offset : ℕ) → offset < usable → rowAt rows (cond several (offset / mapRegion) 0) .mapped ≡ 0 → ⊥
   pub fits : (offset : ℕ) → offset < usable

@@ -51,7 +51,7 @@ bytes-of : (b at first count addr i : ℕ) → b ≡ 4194304 → addr ≡ at + f
 bytes-of b at first count addr i e p q r = let p′ = rw e at p in rw e (omega arith, omega arith)
 
 -- a range whose every block is in the state v
-all-when : (bs : List Bool) (first count : ℕ) (v : Bool) → ((i : ℕ) → first ≤ i → i < first + count → blockAt bs i ≡ v) → first + count ≤ length bs → allAre bs first count v ≡ true
+pub all-when : (bs : List Bool) (first count : ℕ) (v : Bool) → ((i : ℕ) → first ≤ i → i < first + count → blockAt bs i ≡ v) → first + count ≤ length bs → allAre bs first count v ≡ true
 unfolding every
 all-when bs zero zero v h l = refl
 all-when (b ∷ bs) zero (suc count) v h l =

@@ -59,7 +59,7 @@ unfolding after next
 always-memory s [] m = m
 always-memory s (c ∷ cs) m = always-memory (next s c) cs (each-way (s .world) (λ c o. InMemory (s .world) → InMemory (o .world)) (keeps-memory (s .world)) c m)
 
-in-memory : (d : Device) → Fresh d → (cs : List Call) → InMemory (after (begun d) cs .world)
+pub in-memory : (d : Device) → Fresh d → (cs : List Call) → InMemory (after (begun d) cs .world)
 in-memory d fresh cs =
     always-memory (begun d) cs
     (record {

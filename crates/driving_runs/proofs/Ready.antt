@@ -1,0 +1,81 @@
+-- In every run a placed device with nothing pending is ready for a request, and its plugged size is that of the plugged blocks in the usable part.
+use Prim.Native.Nat.{ℕ, _+_, _-_, _*_, _/_, _≤_, _<_}
+use mathlib.Core.Path.{_≡_, refl, ap, _∙_}
+use mathlib.Core.Bool.{Bool, true, false}
+use mathlib.Core.List.{List}
+use native.Mathlib.Omega.{arith}
+use lib.ListN.{length, take}
+use Rattle.units.specs.Numbers.{bytesOf, mapRegion, mapRegions}
+use Rattle.bitmap.specs.Blocks.{blockAt, range, ones}
+use Rattle.bitmap.proofs.Laws.{ones-split, ones-none}
+use Rattle.rows.specs.Rows.{rowAt}
+use Rattle.record.specs.declared.Device.{Device}
+use Rattle.record.proofs.Laws.{Shaped as Facts, whole as shaped-when}
+use Rattle.step.specs.World.{World, Call}
+use Rattle.step.specs.Step.{blockSize, region, usable, plugged, several, regionBlocks}
+use Rattle.driving.specs.Sound.{SoundRows, Ready, usableBlocks, pluggedBlocks}
+use Rattle.history.specs.History.{after, Fresh, begun}
+use Rattle.history.specs.Rules.{InEveryRun}
+use Rattle.history.proofs.Demand3.{demand-3}
+use Rattle.history.proofs.KeepsShape.{is-shaped}
+use Rattle.standard.proofs.Config.{facts-at}
+use Rattle.standard.proofs.Requests.{all-when}
+use Rattle.standard.proofs.Changed.{outside-is-unplugged}
+use Rattle.standard.proofs.Memory.{InMemory}
+use Rattle.standard.proofs.Runs.{in-memory}
+use Rattle.driving_runs.specs.Runs.{TakesRequests, ReadyAndCounted}
+use Rattle.driving_runs.proofs.Tables.{tables-fit}
+
+-- ---- the rows are sound, since the host has memory for what is usable
+sound : (w : World) → InMemory w → Facts (w .device) → SoundRows (several w) (usable w) (w .rows)
+unfolding mapRegions
+sound w m s = go (several w) refl
+  where
+    go : (v : Bool) → several w ≡ v → SoundRows (several w) (usable w) (w .rows)
+    go true e =
+        let there : (offset : ℕ) → offset < usable w → offset / mapRegion < mapRegions (region w) (several w) = λ offset l. rw e (omega (arith, s .usable-in)) in
+        let mapped : (offset : ℕ) → offset < usable w → rowAt (w .rows) (offset / mapRegion) .mapped ≡ 0 → ⊥ = λ offset l. m .below (offset / mapRegion) (omega arith) (there offset l) in
+        record {
+          mapped = λ offset l. rw e (mapped offset l);
+          fits = λ offset l. let room = rw e at (m .fits (offset / mapRegion) (there offset l) (mapped offset l)) in rw e (omega arith);
+        }
+    go false e =
+        let there : 0 < mapRegions (region w) (several w) = rw e (omega arith) in
+        let mapped : (offset : ℕ) → offset < usable w → rowAt (w .rows) 0 .mapped ≡ 0 → ⊥ = λ offset l. m .below 0 (omega arith) there in
+        record {
+          mapped = λ offset l. rw e (mapped offset l);
+          fits = λ offset l. let room = rw e at (m .fits 0 there (mapped offset l)) in rw e (omega (arith, s .usable-in));
+        }
+
+pub ready-in-run : (d : Device) → Fresh d → (cs : List Call) → TakesRequests (after (begun d) cs .world) → Ready (after (begun d) cs .world)
+ready-in-run d fresh cs t =
+    let w = after (begun d) cs .world in
+    let long = tables-fit d fresh cs (t .is-placed) in
+    record {
+      shaped = shaped-when (w .device) (is-shaped d fresh cs);
+      idle = t .is-idle;
+      placed = t .is-placed;
+      blocks-fit = long .0;
+      rows-fit = long .1;
+      sound = sound w (in-memory d fresh cs) (facts-at d fresh cs);
+    }
+
+-- ---- the blocks behind the usable part are unplugged, so those of the region are those of the usable part
+same-ones : (bs : List Bool) (n m : ℕ) → n ≤ m → m ≤ length bs → ((i : ℕ) → n ≤ i → i < m → blockAt bs i ≡ false) → ones (take m bs) ≡ ones (take n bs)
+same-ones bs n m h l clear =
+    let e : m ≡ n + (m - n) = omega arith in
+    let z : 0 + n ≡ n = omega arith in
+    let none : ones (range bs n (m - n)) ≡ 0 = ones-none (range bs n (m - n)) (all-when bs n (m - n) false (λ i p q. clear i p (omega arith)) (omega arith)) in
+    ap (λ (k : ℕ). ones (take k bs)) e ∙ rw (ones-split bs 0 n (m - n), z, none) (omega arith)
+
+pub ready-and-counted : InEveryRun ReadyAndCounted
+ready-and-counted d fresh cs c t =
+    let w = after (begun d) cs .world in
+    let r = ready-in-run d fresh cs t in
+    let s = facts-at d fresh cs in
+    let bsz = s .block-size in
+    let fewer : usableBlocks w ≤ regionBlocks w = rw bsz (omega (arith, s .usable-in)) in
+    let past : (i : ℕ) → usableBlocks w ≤ i → usable w < (i + 1) * blockSize w = λ i p. let q = rw bsz at p in rw bsz (omega arith) in
+    let same : ones (take (regionBlocks w) (w .blocks)) ≡ pluggedBlocks w =
+    same-ones (w .blocks) (usableBlocks w) (regionBlocks w) fewer (r .blocks-fit) (λ i p q. outside-is-unplugged d fresh cs c i q (past i p)) in
+    (r, demand-3 d fresh cs .count ∙ ap (bytesOf (blockSize w)) same)
