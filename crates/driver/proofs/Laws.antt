@@ -1,5 +1,5 @@
 -- The laws of `specs/Text.antt` and `specs/Plan.antt`. Assumes nothing.
-use Prim.Native.Nat.{ℕ, zero, suc, _+_, _-_, _*_, _/_, _%_, _^_, _≤_, _<_, min}
+use Prim.Native.Nat.{ℕ, zero, suc, _+_, _-_, _*_, _/_, _%_, _^_, _≤_, _<_}
 use mathlib.Core.Path.{_≡_, refl, ap, _∙_, sym}
 use mathlib.Core.Bool.{Bool, true, false}
 use mathlib.Core.List.{List, [], _∷_, _++_}
@@ -7,9 +7,9 @@ use native.Mathlib.Nat.{div-add-mod', div-mul-le-self, mod-lt, le-div-iff-mul-le
 use native.Mathlib.Numerals.{add-one}
 use native.Mathlib.Omega.{arith}
 use lib.ListN.{length, take, drop, getD, length-take}
-use lib.Seq.{take-add, drop-drop, getD-take}
+use lib.Seq.{take-add, drop-drop}
 use Rattle.units.specs.Numbers.{bytesOf, blocksIn, mapRegion}
-use Rattle.bitmap.specs.Blocks.{blockAt, nextSet, nextClear}
+use Rattle.bitmap.specs.Blocks.{nextSet, nextClear}
 use Rattle.bitmap.specs.declared.Found.{Found}
 use Rattle.bitmap.specs.declared.Found.the-variants.{At, Nothing}
 use Rattle.bitmap.proofs.Laws.{next-at}
@@ -17,17 +17,15 @@ use Rattle.wire.specs.declared.VirtioMemReq.{VirtioMemReq}
 use Rattle.wire.specs.declared.VirtioMemResp.{VirtioMemResp}
 use Rattle.wire.specs.declared.VirtioMemConfig.{VirtioMemConfig}
 use Rattle.little_endian.specs.Bytes.{value, littleEndian, part, put}
-use Rattle.wire.specs.Layout.{responseBytes, configFields, configValues, laid, configBytes}
+use Rattle.wire.specs.Layout.{responseBytes, configBytes}
 use Rattle.wire.specs.Standard.{virtioMemReq, virtioMemConfig}
 use Rattle.little_endian.proofs.Laws.{length-littleEndian, value-fits, value-below, put-append, part-part}
 use Rattle.wire.proofs.Laws.{length-response, length-config}
 use Rattle.wire.proofs.Standard.{config}
-use Rattle.driver.specs.declared.GotResponse.{GotResponse}
 use Rattle.driver.specs.declared.GotResponse.the-variants.{Response, Refused as NoResponse}
-use Rattle.driver.specs.declared.GotConfig.{GotConfig}
 use Rattle.driver.specs.declared.GotConfig.the-variants.{Config, Refused as NoConfig}
 use Rattle.driver.specs.Text.{requestBytes, ResponseText, ReadsResponse, ConfigText, ReadsConfig}
-use Rattle.driver.specs.Plan.{borderAfter, limitOf, stopAt, stopOf, roomOf, countOf, planAt, planOf}
+use Rattle.driver.specs.Plan.{limitOf, stopAt, countOf}
 
 -- ---- bytes and the number that they mean
 -- bytes are those of their number

@@ -1,8 +1,7 @@
 -- Reading what was written gives back the fields. Assumes nothing.
 use Prim.Native.Nat.{ℕ, _+_, _≤_, _<_, _^_}
-use mathlib.Core.Path.{_≡_, refl, ap, _∙_, sym}
+use mathlib.Core.Path.{_≡_, ap, _∙_}
 use mathlib.Core.List.{List}
-use native.Mathlib.Omega.{arith}
 use lib.ListN.{length, drop}
 use Rattle.wire.specs.declared.VirtioMemReq.{VirtioMemReq}
 use Rattle.wire.specs.declared.VirtioMemResp.{VirtioMemResp}
@@ -16,7 +15,7 @@ use Rattle.driver.specs.declared.GotResponse.{GotResponse}
 use Rattle.driver.specs.declared.GotResponse.the-variants.{Response}
 use Rattle.driver.specs.declared.GotConfig.{GotConfig}
 use Rattle.driver.specs.declared.GotConfig.the-variants.{Config}
-use Rattle.driver.specs.Text.{requestBytes, Wrote, ResponseText, ReadsResponse, ConfigText, ReadsConfig}
+use Rattle.driver.specs.Text.{requestBytes, Wrote, ReadsResponse, ReadsConfig}
 
 -- a text that was written where it fits stands there
 written : (xs : List ℕ) (at : ℕ) (ys : List ℕ) (n : ℕ) → length ys ≡ n → at + n ≤ length xs → part (put xs at ys) at n ≡ ys

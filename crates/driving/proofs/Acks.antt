@@ -1,13 +1,13 @@
 -- A ready device acknowledges what the planner proposes. Assumes nothing.
-use Prim.Native.Nat.{ℕ, _+_, _-_, _*_, _/_, _%_, _≤_, _<_}
-use mathlib.Core.Path.{_≡_, refl, ap, _∙_, sym}
+use Prim.Native.Nat.{ℕ, _+_, _-_, _*_, _%_, _≤_, _<_}
+use mathlib.Core.Path.{_≡_, refl, sym}
 use mathlib.Core.Bool.{Bool, true, false, not}
 use mathlib.Core.List.{List}
 use native.Mathlib.Omega.{arith}
-use lib.Dec.{ltb, leb, eqb}
+use lib.Dec.{ltb, eqb}
 use lib.ListN.{length}
 use borrow.Author.Tests.{le-ltb, le-leb, ltb-false, eqb-false}
-use Rattle.units.specs.Numbers.{top, bytesOf, blocksIn, mapRegion, mapRegions}
+use Rattle.units.specs.Numbers.{top, bytesOf, blocksIn, mapRegion}
 use Rattle.units.specs.declared.GuestAddr.{GuestAddr}
 use Rattle.units.proofs.Tests.{by-test}
 use Rattle.bitmap.specs.Blocks.{nextClear}
@@ -16,15 +16,13 @@ use Rattle.bitmap.specs.declared.Found.the-variants.{At, Nothing}
 use Rattle.wire.specs.declared.VirtioMemConfig.{VirtioMemConfig}
 use Rattle.chain.specs.declared.Parsed.the-variants.{Request as Got}
 use Rattle.chain.specs.Chain.{parsed}
-use Rattle.record.specs.declared.Device.{Device}
-use Rattle.record.specs.Shape.{shapedOf, configShapedOf, isIdle}
-use Rattle.record.proofs.Laws.{Shaped, shaped-is}
-use Rattle.step.specs.World.{World, Guest, Request, Outcome}
-use Rattle.step.specs.Step.{blockSize, region, usable, plugged, requested, start, several, regionBlocks, regionRows, tablesFit, readyRefusal, unless, changing, plugAs, plug, plugs, serve, request, step}
-use Rattle.driver.specs.declared.Proposal.{Proposal}
+use Rattle.record.specs.Shape.{configShapedOf}
+use Rattle.record.proofs.Laws.{shaped-is}
+use Rattle.step.specs.World.{World, Guest, Request}
+use Rattle.step.specs.Step.{blockSize, usable, plugged, requested, start, several, regionBlocks, regionRows, tablesFit, readyRefusal, unless, plugAs, plug, serve, request, step}
 use Rattle.driver.specs.declared.Proposal.the-variants.{Plug, Refused}
 use Rattle.driver.specs.Plan.{roomOf, countOf, planAt, planOf}
-use Rattle.driving.specs.Sound.{SoundRows, Ready, Acknowledged}
+use Rattle.driving.specs.Sound.{Ready, Acknowledged}
 use Rattle.driving.proofs.Legal.{proposed, some-count}
 
 clash : {A : Type 0} {n m : ℕ} {a : GuestAddr} → Refused n ≡ Plug a m → A

@@ -1,15 +1,14 @@
 -- 17 is given exactly if no plug of one block is acknowledged, and a proposal is as long as can be. Assumes nothing.
-use Prim.Native.Nat.{ℕ, zero, suc, _+_, _-_, _*_, _/_, _%_, _≤_, _<_, min}
-use mathlib.Core.Path.{_≡_, refl, ap, _∙_, sym}
-use mathlib.Core.Bool.{Bool, true, false, not, _&&_, Bool·beq}
-use mathlib.Core.List.{List, [], _∷_}
+use Prim.Native.Nat.{ℕ, suc, _+_, _-_, _*_, _/_, _%_, _≤_, _<_}
+use mathlib.Core.Path.{_≡_, refl, ap, sym}
+use mathlib.Core.Bool.{Bool, true, false, not, Bool·beq}
+use mathlib.Core.List.{List}
 use mathlib.Core.Logic.{_⊎_, inl, inr, ⊎-elim}
 use native.Mathlib.Omega.{arith}
 use lib.Dec.{ltb, leb, eqb}
-use lib.ListN.{length, take, drop, getD, length-take}
-use lib.Seq.{getD-take}
-use borrow.Author.Tests.{le-ltb, le-leb, ltb-true, ltb-false, leb-true, leb-false, eqb-true, eqb-false}
-use Rattle.units.specs.Numbers.{top, bytesOf, blocksIn, mapRegion}
+use lib.ListN.{length}
+use borrow.Author.Tests.{ltb-false, leb-true, leb-false, eqb-true}
+use Rattle.units.specs.Numbers.{bytesOf, blocksIn, mapRegion}
 use Rattle.units.specs.declared.GuestAddr.{GuestAddr}
 use Rattle.units.proofs.Tests.{by-test, and-left}
 use Rattle.bitmap.specs.Blocks.{blockAt, every, allAre, nextSet, nextClear}
@@ -20,20 +19,19 @@ use Rattle.wire.specs.declared.VirtioMemConfig.{VirtioMemConfig}
 use Rattle.chain.specs.declared.Parsed.the-variants.{Request as Got}
 use Rattle.chain.specs.Chain.{parsed}
 use Rattle.record.specs.Shape.{configShapedOf}
-use Rattle.record.proofs.Laws.{Shaped, shaped-is, config-shaped-is}
+use Rattle.record.proofs.Laws.{shaped-is, config-shaped-is}
 use Rattle.change.specs.declared.Change.{Change}
 use Rattle.change.specs.declared.Change.the-variants.{Legal, Outside, WrongState, NoHost}
-use Rattle.change.proofs.Laws.{IsLegal, legal-is, WholeBlocks, whole-blocks}
+use Rattle.change.proofs.Laws.{legal-is, whole-blocks}
 use Rattle.step.specs.declared.Answer.{Answer}
 use Rattle.step.specs.declared.Answer.the-variants.{Refused as Refuses, Wants, Sized, Unserved, Served, Done}
-use Rattle.step.specs.World.{World, Guest, Request, Outcome}
-use Rattle.step.specs.Step.{blockSize, region, usable, plugged, requested, start, several, regionBlocks, unless, changing, plugAs, plug, serve, request, step, ack, served}
-use Rattle.driver.specs.declared.Proposal.{Proposal}
+use Rattle.step.specs.World.{World, Guest, Request}
+use Rattle.step.specs.Step.{blockSize, region, usable, plugged, requested, start, several, unless, changing, plugAs, plug, serve, request, step, ack}
 use Rattle.driver.specs.declared.Proposal.the-variants.{Plug, Refused}
 use Rattle.driver.specs.Plan.{borderAfter, limitOf, stopAt, stopOf, roomOf, countOf, planAt, planOf}
-use Rattle.driver.proofs.Laws.{stop-from, border, per-some}
+use Rattle.driver.proofs.Laws.{border, per-some}
 use Rattle.driving.specs.Sound.{Ready}
-use Rattle.driving.proofs.Acks.{Planned, plan-is, ready-zero, not-false}
+use Rattle.driving.proofs.Acks.{plan-is, ready-zero, not-false}
 
 -- ---- what 17 says
 pub record Spent (c : VirtioMemConfig) (bs : List Bool) : Type 0 where

@@ -1,13 +1,11 @@
 -- What the planner proposes is legal on a device with sound rows. Assumes nothing.
-use Prim.Native.Nat.{ℕ, zero, suc, _+_, _-_, _*_, _/_, _%_, _≤_, _<_, min}
+use Prim.Native.Nat.{ℕ, zero, suc, _+_, _-_, _*_, _/_, _%_, _≤_, _<_}
 use mathlib.Core.Path.{_≡_, refl, ap, _∙_, sym}
-use mathlib.Core.Bool.{Bool, true, false, cond}
-use mathlib.Core.List.{List, [], _∷_}
-use native.Mathlib.Nat.{add-mul, mul-le-mul-right, mul-div-mul-right, div-add-mod', div-mul-le-self, le-div-iff-mul-le, add-mul-mod-self-right, mul-div-cancel, mod-lt, mul-assoc}
+use mathlib.Core.Bool.{Bool, true, false}
+use mathlib.Core.List.{List}
+use native.Mathlib.Nat.{add-mul, mul-le-mul-right, mul-div-mul-right, div-add-mod', le-div-iff-mul-le, add-mul-mod-self-right, mul-div-cancel, mul-assoc}
 use native.Mathlib.Omega.{arith}
 use lib.Dec.{ltb}
-use lib.ListN.{length, take, drop, getD, length-take}
-use lib.Seq.{getD-take, getD-drop}
 use borrow.Author.Tests.{le-ltb, ltb-true, ltb-false}
 use Rattle.units.specs.Numbers.{top, bytesOf, blocksIn, mapRegion}
 use Rattle.bitmap.specs.Blocks.{blockAt, allAre, nextSet, nextClear}
@@ -17,12 +15,12 @@ use Rattle.bitmap.proofs.Laws.{Lowest, all-split, next-at, next-nothing}
 use Rattle.units.proofs.Tests.{by-test, and-left}
 use Rattle.units.specs.declared.HostAddr.{HostAddr}
 use Rattle.rows.specs.declared.MapRow.{MapRow}
-use Rattle.rows.specs.Rows.{rowAt, mappingOf}
+use Rattle.rows.specs.Rows.{rowAt}
 use Rattle.rows.proofs.Laws.{mapping-at}
 use Rattle.change.specs.declared.Change.the-variants.{Legal}
 use Rattle.change.specs.declared.HostRange.the-variants.{At as HostAt}
 use Rattle.change.specs.Change.{hostOf, hostIn, hostSum, changeOf}
-use Rattle.change.proofs.Laws.{InRange, host-is, legal-when}
+use Rattle.change.proofs.Laws.{host-is, legal-when}
 use Rattle.driver.proofs.Laws.{border}
 use Rattle.driver.specs.Plan.{borderAfter, limitOf, stopAt, stopOf, roomOf, countOf}
 use Rattle.driving.specs.Sound.{SoundRows}

@@ -1,5 +1,5 @@
 -- `border_after` meets its contract. Assumes nothing.
-use Prim.Native.Nat.{_+_, _*_, _/_, _≤_, _<_}
+use Prim.Native.Nat.{_+_, _*_, _/_, _≤_}
 use native.Mathlib.Omega.{arith}
 use Rattle.units.specs.Numbers.{blocksIn, mapRegion}
 use Rattle.driver.proofs.Laws.{border, per-some}

@@ -1,6 +1,5 @@
 -- `count_of` meets its contract. Assumes nothing.
 use Prim.Native.Nat.{_≤_}
-use mathlib.Core.Path.{_∙_}
 use native.Mathlib.Omega.{arith}
 use Rattle.units.specs.Numbers.{blocksIn, mapRegion}
 use Rattle.driver.specs.Plan.{limitOf}

@@ -1,5 +1,5 @@
 -- `room_of` meets its contract. Assumes nothing.
-use Prim.Native.Nat.{ℕ, _-_}
+use Prim.Native.Nat.{_-_}
 use mathlib.Core.Path.{_≡_, sym}
 use native.Mathlib.Nat.{zero-div}
 use native.Mathlib.Omega.{arith}
