@@ -175,7 +175,7 @@ fn plan(out: &mut [u8], v: Row) -> usize {
     }
 }
 
-// Plugs what is proposed, where it is.
+// Plans, and plugs what is proposed.
 fn plug(c: VirtioMemConfig, bitmap: &mut [u8], lent: usize) -> Turn {
     match driver::plan(c, first_bytes(&bitmap[..], lent)) {
         Proposal::Plug(addr, count) => {
