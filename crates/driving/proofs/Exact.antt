@@ -30,7 +30,7 @@ use Rattle.step.specs.Step.{blockSize, region, usable, plugged, requested, star
 use Rattle.driver.specs.declared.Proposal.the-variants.{Plug, Refused}
 use Rattle.driver.specs.Plan.{borderAfter, limitOf, stopAt, stopOf, roomOf, countOf, planAt, planOf}
 use Rattle.driver.proofs.Laws.{border, per-some}
-use Rattle.driving.specs.Sound.{Ready}
+use Rattle.driving.specs.Sound.{Ready, Stops, Greatest}
 use Rattle.driving.proofs.Acks.{plan-is, ready-zero, not-false}
 
 -- ---- what 17 says
@@ -136,13 +136,6 @@ module _ (w : World) (r : Ready w) (e : planOf (w .device .config) (w .blocks) �
       (λ t. not-legal (changing w (addr .0) 1 true) refl (ltb-false (requested w) (plugged w + bytesOf (blockSize w) 1) t) len (simp (z, q, t) at a))
 
 -- ---- one block more would meet a plugged block, the border, the usable end or the requested size
-abbrev pub Stops : VirtioMemConfig → List Bool → (first n : ℕ) → Type 0
-Stops c bs first n =
-    (blockAt bs (first + n) ≡ true)
-    ⊎ ((first + n ≡ borderAfter (c .«block_size») first)
-    ⊎ ((first + n ≡ blocksIn (c .«block_size») (c .«usable_region_size»))
-    ⊎ (c .«requested_size» < c .«plugged_size» + bytesOf (c .«block_size») (suc n))))
-
 module _ (c : VirtioMemConfig) (bs : List Bool) (first n : ℕ) (bsz : c .«block_size» ≡ 4194304) (f : first < blocksIn (c .«block_size») (c .«usable_region_size»)) where
   below : first ≤ limitOf (c .«block_size») (c .«usable_region_size») first
   below =
@@ -178,8 +171,15 @@ module _ (c : VirtioMemConfig) (bs : List Bool) (first n : ℕ) (bsz : c .«bloc
       let k : n ≡ run = omega arith in
       at-stop (nextSet bs first (limitOf (c .«block_size») (c .«usable_region_size») first)) refl k)
 
-pub greatest : (c : VirtioMemConfig) (bs : List Bool) (addr : GuestAddr) (n : ℕ) (e : planOf c bs ≡ Plug addr n) → Stops c bs (plan-is c bs addr n e .first) n
-greatest c bs addr n e =
+pub plan-stops : (c : VirtioMemConfig) (bs : List Bool) (addr : GuestAddr) (n : ℕ) (e : planOf c bs ≡ Plug addr n) → Stops c bs (plan-is c bs addr n e .first) n
+plan-stops c bs addr n e =
     let p = plan-is c bs addr n e in
     let f = next-at false bs 0 (blocksIn (c .«block_size») (c .«usable_region_size»)) (p .first) (p .lowest) in
     stops c bs (p .first) n (config-shaped-is c (p .shaped) .block-size) (f .before-end) (p .count-is)
+
+pub greatest : (c : VirtioMemConfig) (bs : List Bool) (addr : GuestAddr) (n : ℕ) → planOf c bs ≡ Plug addr n → Greatest c bs addr n
+greatest c bs addr n e =
+    let p = plan-is c bs addr n e in
+    let f = next-at false bs 0 (blocksIn (c .«block_size») (c .«usable_region_size»)) (p .first) (p .lowest) in
+    let z : p .first - 0 ≡ p .first = omega arith in
+    record { first = p .first; addr-is = p .addr-is; all-below = rw z at (f .none-below); is-free = f .found; stops = plan-stops c bs addr n e }

@@ -28,10 +28,10 @@ use Rattle.step.specs.Step.{blockSize, region, usable, plugged, requested, star
 use Rattle.driver.specs.declared.Proposal.{Proposal}
 use Rattle.driver.specs.declared.Proposal.the-variants.{Plug, Refused}
 use Rattle.driver.specs.Plan.{borderAfter, stopOf, roomOf, planAt, planOf}
-use Rattle.driving.specs.Sound.{Ready, planned, pluggedWorld, driveAt, drives, usableBlocks, pluggedBlocks, Counted, There, begins, runsBelow, freeRuns}
+use Rattle.driving.specs.Sound.{Stops, Ready, planned, pluggedWorld, driveAt, drives, usableBlocks, pluggedBlocks, Counted, There, begins, runsBelow, freeRuns}
 use Rattle.driving.proofs.Legal.{run, proposed, some-count}
 use Rattle.driving.proofs.Acks.{plan-is, acknowledged}
-use Rattle.driving.proofs.Exact.{spent-is, Stops, greatest}
+use Rattle.driving.proofs.Exact.{spent-is, plan-stops}
 
 -- ---- at 17 no more is asked for, or no more is usable
 -- the blocks of the usable part are blocks of the bitmap
@@ -98,7 +98,7 @@ gains w r addr n e =
       in-end = omega (arith, few, t .some, t .in-usable);
       in-border = omega (arith, few, t .some, t .in-border);
       free = k .not-wanted;
-      stops = greatest (w .device .config) (w .blocks) addr n e;
+      stops = plan-stops (w .device .config) (w .blocks) addr n e;
     }
 
 idle-ok : (p : Pending) (b region plugged : ℕ) (several : Bool) → isIdle p ≡ true → pendingOk p b region several plugged ≡ true

@@ -1,18 +1,21 @@
--- What the theorems ask of a device: sound rows, and that it is ready for a request. And where planning and plugging leads.
+-- What the theorems ask of a device: sound rows, and that it is ready for a request. What they say of a proposal, and where planning and plugging leads.
 use Prim.Native.Nat.{ℕ, zero, suc, _+_, _-_, _/_, _%_, _<_, _≤_, min, max}
 use mathlib.Core.Path.{_≡_}
-use mathlib.Core.Bool.{Bool, true, cond, not, _&&_, _||_}
+use mathlib.Core.Bool.{Bool, true, false, cond, not, _&&_, _||_}
 use mathlib.Core.List.{List}
+use mathlib.Core.Logic.{_⊎_}
 use lib.Dec.{eqb}
 use lib.ListN.{length, take}
 use Rattle.units.specs.Numbers.{top, bytesOf, blocksIn, mapRegion}
-use Rattle.bitmap.specs.Blocks.{blockAt, ones, fill}
+use Rattle.units.specs.declared.GuestAddr.{GuestAddr}
+use Rattle.bitmap.specs.Blocks.{blockAt, allAre, ones, fill}
 use Rattle.rows.specs.declared.MapRow.{MapRow}
 use Rattle.rows.specs.Rows.{rowAt}
+use Rattle.wire.specs.declared.VirtioMemConfig.{VirtioMemConfig}
 use Rattle.record.specs.Shape.{shapedOf, isIdle}
 use Rattle.driver.specs.declared.Proposal.{Proposal}
 use Rattle.driver.specs.declared.Proposal.the-variants.{Plug, Refused}
-use Rattle.driver.specs.Plan.{planOf}
+use Rattle.driver.specs.Plan.{borderAfter, planOf}
 use Rattle.step.specs.World.{World, Guest, Outcome}
 use Rattle.record.specs.Changes.{pluggedTo}
 use Rattle.step.specs.Step.{blockSize, usable, plugged, requested, start, several, regionBlocks, regionRows, plugs}
@@ -37,6 +40,21 @@ pub record Acknowledged (w : World) (addr count status : ℕ) (g : Guest) (o : O
   pub first : ℕ
   pub addr-is : addr ≡ start w + bytesOf (blockSize w) first
   pub outcome : o ≡ plugs w first count status g
+
+-- ---- a proposal is as long as can be: it starts at the lowest free block, and one block more would meet a plugged block, the 2 GiB border, the usable end or the requested size
+abbrev pub Stops : VirtioMemConfig → List Bool → (first n : ℕ) → Type 0
+Stops c bs first n =
+    (blockAt bs (first + n) ≡ true)
+    ⊎ ((first + n ≡ borderAfter (c .«block_size») first)
+    ⊎ ((first + n ≡ blocksIn (c .«block_size») (c .«usable_region_size»))
+    ⊎ (c .«requested_size» < c .«plugged_size» + bytesOf (c .«block_size») (suc n))))
+
+pub record Greatest (c : VirtioMemConfig) (bs : List Bool) (addr : GuestAddr) (n : ℕ) : Type 0 where
+  pub first : ℕ
+  pub addr-is : addr .0 ≡ c .addr .0 + bytesOf (c .«block_size») first
+  pub all-below : allAre bs 0 first true ≡ true
+  pub is-free : blockAt bs first ≡ false
+  pub stops : Stops c bs first n
 
 -- ---- planning and plugging
 -- what the planner gives for a device: it reads the config and the bitmap alone
