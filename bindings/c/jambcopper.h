@@ -8,9 +8,13 @@
  *   - the bitmap, one bit a block of 4 MiB: block 8j+k is bit k of byte j, set when plugged;
  *   - the map table, JAMBCOPPER_ROW_WORDS words a row;
  *   - guest memory: a slice, and the guest address of its first byte.
+ * The guest's side, jambcopper_driver_.., knows no device and keeps nothing: it writes the bytes of a request, reads
+ * those of a response and of a config, and proposes the next plug.
+ *
  * A slice is a pointer and how many elements it has. Elements that a call has no use for are not touched.
- * Any contents are allowed, every one of them: words that are no record or no queue are refused with 12, and a table
- * that is too short with 11. Two slices of one call must not overlap, and a pointer is never NULL.
+ * Any contents are allowed, every one of them: words that are no record or no queue are refused with 12, a table that
+ * is too short with 11, and bytes that are no response or no config with 16. Two slices of one call must not overlap,
+ * and a pointer is never NULL.
  *
  * What is proved of every run of calls (docs/GUIDE.md) holds where each call is lent the record that the call before it
  * left and, while the device is placed or a host call is pending, the bitmap and the map table that were left. Before
@@ -28,6 +32,7 @@
  *
  * Each function returns the number of its refusal, or 0. A refused call changes nothing but the answer, which is
  * written in any case, where the function takes one; after 10 alone more has changed, and the numbers below say what.
+ * A refused call of the guest's side changes nothing at all.
  */
 #ifndef JAMBCOPPER_H
 #define JAMBCOPPER_H
@@ -55,8 +60,10 @@ extern "C" {
 /* A map table of so many words is long enough for every device; one needs a row for each map region, or one row
  * where it has a single region. */
 #define JAMBCOPPER_MAX_TABLE_WORDS 1536
-/* The config space, struct virtio_mem_config. */
+/* The config space, struct virtio_mem_config; a request, struct virtio_mem_req; a response, struct virtio_mem_resp. */
 #define JAMBCOPPER_CONFIG_BYTES 56
+#define JAMBCOPPER_REQUEST_BYTES 24
+#define JAMBCOPPER_RESPONSE_BYTES 10
 /* The guest's split queue: the entries of its descriptor table and of each ring, and the bytes of the two rings. */
 #define JAMBCOPPER_QUEUE_SIZE 128
 #define JAMBCOPPER_AVAILABLE_BYTES 262
@@ -133,7 +140,23 @@ extern "C" {
 #define JAMBCOPPER_KIND_SERVED 5   /* the request has ended: the chain is used with the length */
 #define JAMBCOPPER_KIND_EMPTY 7    /* the available ring has no head; the other words are 0 */
 
-/* ---- the numbers. Order of the tests: 12 (record, queue), 7 or 8, 5 or 6, 11, then 14, 15, or 2, 1, 3, 4, 9.
+/* ---- the guest's side: which word is what. */
+
+/* A response: its type, VIRTIO_MEM_RESP_.., and its state, VIRTIO_MEM_STATE_... */
+#define JAMBCOPPER_RESPONSE_WORDS 2
+#define JAMBCOPPER_RESPONSE_TYPE 0  /* 0 ACK, 1 NACK, 2 BUSY, 3 ERROR */
+#define JAMBCOPPER_RESPONSE_STATE 1 /* 0 plugged, 1 unplugged, 2 mixed */
+
+/* A config: the first words of a record, from JAMBCOPPER_RECORD_BLOCK_SIZE to JAMBCOPPER_RECORD_REQUESTED_SIZE. */
+#define JAMBCOPPER_CONFIG_WORDS 7
+
+/* A plug to ask for. */
+#define JAMBCOPPER_PLUG_WORDS 2
+#define JAMBCOPPER_PLUG_ADDRESS 0 /* guest address of the first block */
+#define JAMBCOPPER_PLUG_BLOCKS 1  /* how many blocks; from 1 on, below 65536 */
+
+/* ---- the numbers. Order of the tests: 12 (record, queue), 7 or 8, 5 or 6, 11, then 14, 15, or 2, 1, 3, 4, 9; on the
+ * guest's side 16, 12, 11, 17.
  *
  * 10 ends the call that asked for the creation, and leaves what that call has written:
  *   - a size change: the new requested size stands; the usable size and the map table do not change;
@@ -154,9 +177,11 @@ extern "C" {
 #define JAMBCOPPER_CREATION_FAILED 10 /* the host could not create; nothing is pending any more: see above */
 #define JAMBCOPPER_SHORT_TABLE 11    /* bitmap or map table too short */
 #define JAMBCOPPER_BAD_RECORD 12     /* the words are no record or no queue, a head is out while no discard is pending,
-                                      * or an unplug is larger than the plugged size */
+                                      * or an unplug is larger than the plugged size; no device has that config */
 #define JAMBCOPPER_RING_OUTSIDE 14   /* a ring is not wholly inside guest memory */
 #define JAMBCOPPER_BAD_INDEX 15      /* the available ring's index is more than 128 ahead of the next head */
+#define JAMBCOPPER_BAD_BYTES 16      /* bytes that are no response or no config, or no room for what is written */
+#define JAMBCOPPER_NO_PLUG 17        /* no plug to propose */
 
 /* ---- why a chain is no request */
 
@@ -269,6 +294,45 @@ uint64_t jambcopper_read_config(const uint64_t *record, size_t record_words, uin
 /* A write of the config space, which does nothing. 12. */
 uint64_t jambcopper_write_config(const uint64_t *record, size_t record_words, uint64_t offset, const uint8_t *data,
                                  size_t data_bytes);
+
+/* ---- the guest's side: what a driver, or a test that plays one, writes and reads. All of it is little-endian. */
+
+/*
+ * Writes the bytes of a request to the front of the slice, its padding zero; the rest of the slice stays. 16 where the
+ * slice has fewer than JAMBCOPPER_REQUEST_BYTES.
+ *   type             VIRTIO_MEM_REQ_.., or any other number
+ *   address, blocks  the range, which an unplug-all does not look at
+ */
+uint64_t jambcopper_driver_write_request(uint8_t *bytes, size_t byte_count, uint16_t type, uint64_t address,
+                                         uint16_t blocks);
+
+/*
+ * Reads a response from the front of the slice into JAMBCOPPER_RESPONSE_WORDS words. 16 where the bytes are fewer than
+ * JAMBCOPPER_RESPONSE_BYTES, the type is above 3, the state above 2, or a byte of the padding, 2 to 7, is not zero; and
+ * where the words have no room.
+ */
+uint64_t jambcopper_driver_read_response(const uint8_t *bytes, size_t byte_count, uint64_t *response,
+                                         size_t response_words);
+
+/*
+ * Reads a config from the front of the slice into JAMBCOPPER_CONFIG_WORDS words. 16 where the bytes are fewer than
+ * JAMBCOPPER_CONFIG_BYTES or a byte of the padding, 10 to 15, is not zero; and where the words have no room. Whether a
+ * device can have that config is not tested.
+ */
+uint64_t jambcopper_driver_read_config(const uint8_t *bytes, size_t byte_count, uint64_t *config, size_t config_words);
+
+/*
+ * Proposes a plug, in JAMBCOPPER_PLUG_WORDS words: it starts at the lowest free block, and takes all blocks up to the
+ * next plugged one, the next 2 GiB border of offsets, the usable end or the spent requested size, whichever is first. A
+ * device with that config and bitmap, its memory mapped and no host call pending, acknowledges it.
+ *   config  the bytes of the config, as the guest has read them
+ *   bitmap  what the guest believes to be plugged, as a device's bitmap is: see above
+ * 16 as where a config is read, and where the words have no room for a plug; 12 where no device has that config; 11
+ * where the bitmap has fewer bits than the region has blocks; 17 exactly where no plug of one block is legal: no block
+ * below the usable end is free, or the requested size is spent.
+ */
+uint64_t jambcopper_driver_plan(const uint8_t *config, size_t config_bytes, const uint8_t *bitmap, size_t bitmap_bytes,
+                                uint64_t *plug, size_t plug_words);
 
 #ifdef __cplusplus
 }
