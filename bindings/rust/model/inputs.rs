@@ -1,6 +1,8 @@
 // SPDX-License-Identifier: Apache-2.0 AND BSD-3-Clause
 //! Guests with their devices, and what guest and host do between calls, right and wrong: by chance, and again with the same seed.
 
+use jambcopper::driver::{Request, REQUEST_BYTES};
+
 use crate::queue::{Held, Memory};
 use crate::random::Random;
 use crate::sys::{self, PENDING_DISCARD, PENDING_NOTHING, QUEUE_WORDS, RECORD_WORDS};
@@ -236,7 +238,7 @@ fn spot(random: &mut Random, memory: &Memory, queue: &[u64; QUEUE_WORDS], size: 
 }
 
 /// A request, mostly one that may be granted.
-fn request_bytes(random: &mut Random, held: &Held) -> [u8; 24] {
+fn request_bytes(random: &mut Random, held: &Held) -> [u8; REQUEST_BYTES] {
     let any = random.next();
     let none = random.pick(&[4, any as u16]);
     let request_type = random.pick(&[0, 0, 0, 0, 0, 0, 1, 1, 1, 2, 3, 3, 3, none]);
@@ -255,11 +257,12 @@ fn request_bytes(random: &mut Random, held: &Held) -> [u8; 24] {
     let addr = START + BLOCK * block;
     let addr = random.pick(&[addr, addr, addr, addr, addr, addr, addr + 1, any]);
     let blocks = random.pick(&[1, 1, 1, 1, 2, 3, 9, 0, any as u16]);
-    let mut bytes = [0; 24];
-    bytes[..2].copy_from_slice(&request_type.to_le_bytes());
-    bytes[8..16].copy_from_slice(&addr.to_le_bytes());
-    bytes[16..18].copy_from_slice(&blocks.to_le_bytes());
-    bytes
+    let request = Request {
+        request_type,
+        addr,
+        blocks,
+    };
+    request.to_bytes()
 }
 
 /// What guest and host do between calls: requests, other bytes, a change of size, calls that go past the queue.

@@ -6,14 +6,12 @@ use std::env;
 use std::fmt;
 use std::process::exit;
 
-use jambcopper as _; // links the library
-
 mod fence;
 mod inputs;
 mod queue;
 #[path = "../../../compare/oracle/src/random.rs"]
 mod random;
-#[allow(dead_code)] // the config's part
+#[allow(dead_code)] // the config's part, and the driver's
 #[path = "../src/sys.rs"]
 mod sys;
 

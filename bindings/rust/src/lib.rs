@@ -4,7 +4,8 @@
 //! [`Device`] keeps the device's record, its bitmap and its map table, and lends them to the proved functions of the
 //! static library; its methods are named as those are in `bindings/c/jambcopper.h`. It never calls back: where the host
 //! must create or discard memory, a call answers [`Answer::Wants`], and the host answers by [`Device::host_answer`].
-//! [`Queue`] is the guest's queue, which [`Device::serve`] goes over.
+//! [`Queue`] is the guest's queue, which [`Device::serve`] goes over. [`driver`] is the guest's side: its requests, the
+//! responses and the config that it reads, and a planner.
 //!
 //! ```
 //! use jambcopper::{Answer, Device, Error, HostAnswer, HostCall};
@@ -40,6 +41,7 @@
 
 use std::fmt;
 
+pub mod driver;
 mod queue;
 mod sys;
 
@@ -90,12 +92,16 @@ pub enum Error {
     /// The bitmap or the map table is too short.
     ShortTable = 11,
     /// The record or the queue is not of the stated shape, a head is out while no discard is pending, or an otherwise
-    /// legal unplug is larger than the plugged size.
+    /// legal unplug is larger than the plugged size. For [`driver::plan`]: no device has that config.
     BadRecord = 12,
     /// The available or the used ring is not wholly inside guest memory.
     RingOutside = 14,
     /// The available ring's index is more than 128 ahead of the next head.
     BadIndex = 15,
+    /// Bytes that are no response or no config, or too few for a request to be written.
+    BadBytes = 16,
+    /// No plug to propose: no plug of one block is legal.
+    NoPlug = 17,
     /// The host's answer is to another kind of question than the pending one: [`HostAnswer::Discarded`] to a creation,
     /// or [`HostAnswer::Created`] to a discard. The call stays pending. The library has no number for it, since it is
     /// told only whether the host did what was asked.
@@ -121,7 +127,9 @@ impl Error {
             12 => Error::BadRecord,
             14 => Error::RingOutside,
             15 => Error::BadIndex,
-            _ => unreachable!("the device refuses with 1 to 12, 14 and 15"),
+            16 => Error::BadBytes,
+            17 => Error::NoPlug,
+            _ => unreachable!("the library refuses with 1 to 12 and 14 to 17"),
         })
     }
 }
@@ -143,10 +151,12 @@ impl fmt::Display for Error {
             Error::CreationFailed => "the host could not create the memory",
             Error::ShortTable => "bitmap or map table too short",
             Error::BadRecord => {
-                "no record of a device or of its queue, or an unplug of more than is plugged"
+                "no record, queue or config of a device, or an unplug of more than is plugged"
             }
             Error::RingOutside => "a ring that is not wholly inside guest memory",
             Error::BadIndex => "an available index more than 128 ahead",
+            Error::BadBytes => "bytes that are no response or no config, or too few for a request",
+            Error::NoPlug => "no plug to propose",
             Error::WrongAnswer => {
                 return f.write_str("an answer to another kind of question than the pending one")
             }

@@ -10,22 +10,19 @@ use crate::Error;
 /// the guest resets the device the host makes it anew, and answers what is pending before that.
 ///
 /// ```
+/// use jambcopper::driver::Request;
 /// use jambcopper::{Answer, Device, Error, HostAnswer, Queue};
-/// # const PLUG: u16 = 0;
-/// # const UNPLUG_ALL: u16 = 2;
-/// # fn ask(mem: &mut [u8], nth: u16, request_type: u16, addr: u64, blocks: u16) {
+/// # fn ask(mem: &mut [u8], nth: u16, request: Request) {
 /// #     let mut put = |at: usize, bytes: &[u8]| mem[at..at + bytes.len()].copy_from_slice(bytes);
-/// #     let (first, request) = (2 * nth, 3344 + 40 * u64::from(nth));
-/// #     for (at, addr, len, flags) in [(first, request, 24u32, 1u16), (first + 1, request + 24, 10, 2)] {
+/// #     let (first, there) = (2 * nth, 3344 + 40 * u64::from(nth));
+/// #     for (at, addr, len, flags) in [(first, there, 24u32, 1u16), (first + 1, there + 24, 10, 2)] {
 /// #         let at = 16 * usize::from(at);
 /// #         put(at, &((1 << 30) + addr).to_le_bytes());
 /// #         put(at + 8, &len.to_le_bytes());
 /// #         put(at + 12, &flags.to_le_bytes());
 /// #         put(at + 14, &(first + 1).to_le_bytes());
 /// #     }
-/// #     put(request as usize, &request_type.to_le_bytes());
-/// #     put(request as usize + 8, &addr.to_le_bytes());
-/// #     put(request as usize + 16, &blocks.to_le_bytes());
+/// #     put(there as usize, &request.to_bytes());
 /// #     put(2048 + 4 + 2 * usize::from(nth), &first.to_le_bytes());
 /// #     put(2048 + 2, &(nth + 1).to_le_bytes());
 /// # }
@@ -39,8 +36,8 @@ use crate::Error;
 /// let mut queue = Queue::new(base, base + 2048, base + 2312);
 ///
 /// // The guest puts two requests into the ring, heads 0 and 2: a plug of two blocks, and an unplug-all.
-/// ask(&mut mem, 0, PLUG, 1 << 32, 2);
-/// ask(&mut mem, 1, UNPLUG_ALL, 0, 0);
+/// ask(&mut mem, 0, Request::plug(1 << 32, 2));
+/// ask(&mut mem, 1, Request::unplug_all());
 ///
 /// // It notifies the host, which serves the queue until it is empty.
 /// let mut asked = 0;

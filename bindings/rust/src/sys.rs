@@ -5,6 +5,12 @@
 pub const RECORD_WORDS: usize = 15;
 pub const QUEUE_WORDS: usize = 6;
 pub const ANSWER_WORDS: usize = 9;
+pub const REQUEST_BYTES: usize = 24;
+pub const RESPONSE_BYTES: usize = 10;
+pub const RESPONSE_WORDS: usize = 2;
+pub const CONFIG_BYTES: usize = 56;
+pub const CONFIG_WORDS: usize = 7;
+pub const PLUG_WORDS: usize = 2;
 
 /// The kinds of a pending host call, word 11 of the record.
 pub const PENDING_NOTHING: u64 = 0;
@@ -135,6 +141,33 @@ mod c {
             offset: u64,
             data: *const u8,
             data_bytes: usize,
+        ) -> u64;
+        pub fn jambcopper_driver_write_request(
+            bytes: *mut u8,
+            byte_count: usize,
+            request_type: u16,
+            address: u64,
+            blocks: u16,
+        ) -> u64;
+        pub fn jambcopper_driver_read_response(
+            bytes: *const u8,
+            byte_count: usize,
+            response: *mut u64,
+            response_words: usize,
+        ) -> u64;
+        pub fn jambcopper_driver_read_config(
+            bytes: *const u8,
+            byte_count: usize,
+            config: *mut u64,
+            config_words: usize,
+        ) -> u64;
+        pub fn jambcopper_driver_plan(
+            config: *const u8,
+            config_bytes: usize,
+            bitmap: *const u8,
+            bitmap_bytes: usize,
+            plug: *mut u64,
+            plug_words: usize,
         ) -> u64;
     }
 }
@@ -355,6 +388,57 @@ pub fn write_config(record: &[u64], offset: u64, data: &[u8]) -> u64 {
             offset,
             data.as_ptr(),
             data.len(),
+        )
+    }
+}
+
+#[inline]
+pub fn driver_write_request(bytes: &mut [u8], request_type: u16, address: u64, blocks: u16) -> u64 {
+    unsafe {
+        c::jambcopper_driver_write_request(
+            bytes.as_mut_ptr(),
+            bytes.len(),
+            request_type,
+            address,
+            blocks,
+        )
+    }
+}
+
+#[inline]
+pub fn driver_read_response(bytes: &[u8], response: &mut [u64]) -> u64 {
+    unsafe {
+        c::jambcopper_driver_read_response(
+            bytes.as_ptr(),
+            bytes.len(),
+            response.as_mut_ptr(),
+            response.len(),
+        )
+    }
+}
+
+#[inline]
+pub fn driver_read_config(bytes: &[u8], config: &mut [u64]) -> u64 {
+    unsafe {
+        c::jambcopper_driver_read_config(
+            bytes.as_ptr(),
+            bytes.len(),
+            config.as_mut_ptr(),
+            config.len(),
+        )
+    }
+}
+
+#[inline]
+pub fn driver_plan(config: &[u8], bitmap: &[u8], plug: &mut [u64]) -> u64 {
+    unsafe {
+        c::jambcopper_driver_plan(
+            config.as_ptr(),
+            config.len(),
+            bitmap.as_ptr(),
+            bitmap.len(),
+            plug.as_mut_ptr(),
+            plug.len(),
         )
     }
 }

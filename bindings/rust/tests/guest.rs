@@ -1,20 +1,22 @@
 // SPDX-License-Identifier: Apache-2.0 AND BSD-3-Clause
-//! A guest over the static library: the whole example of 01, the refusals at the binding's edge, and a restart.
+//! A guest over the static library: the whole example of 01, the refusals at the binding's edge, a restart, and a guest
+//! that plans.
 
+use jambcopper::driver::{plan, Config, Request, Response, CONFIG_BYTES, RESPONSE_BYTES};
 use jambcopper::{
     Answer, Device, Error, HostAnswer, HostCall, BLOCK_SIZE, RECORD_WORDS, ROW_WORDS,
 };
 
 mod common;
 
-use common::{again, discard, placed, served, BASE, HOST, PLUG, START, STATE, UNPLUG, UNPLUG_ALL};
+use common::{again, discard, placed, served, BASE, HOST, START};
 
 const REQUEST: usize = 2048;
 const RESPONSE: usize = 2072;
 
 /// Guest memory with the descriptors of one request at its start.
-fn chain(request_type: u16, addr: u64, blocks: u16) -> Vec<u8> {
-    let mut mem = vec![0; RESPONSE + 10];
+fn chain(request: Request) -> Vec<u8> {
+    let mut mem = vec![0; RESPONSE + RESPONSE_BYTES];
     let mut put = |at: usize, bytes: &[u8]| mem[at..at + bytes.len()].copy_from_slice(bytes);
     put(0, &(BASE + REQUEST as u64).to_le_bytes());
     put(8, &24u32.to_le_bytes());
@@ -23,32 +25,34 @@ fn chain(request_type: u16, addr: u64, blocks: u16) -> Vec<u8> {
     put(16, &(BASE + RESPONSE as u64).to_le_bytes());
     put(24, &10u32.to_le_bytes());
     put(28, &2u16.to_le_bytes());
-    put(REQUEST, &request_type.to_le_bytes());
-    put(REQUEST + 8, &addr.to_le_bytes());
-    put(REQUEST + 16, &blocks.to_le_bytes());
+    put(REQUEST, &request.to_bytes());
     mem
 }
 
-fn ask(device: &mut Device, mem: &mut [u8]) -> Answer {
+fn send(device: &mut Device, mem: &mut [u8]) -> Answer {
     device.request(mem, BASE, BASE, 0).unwrap()
+}
+
+fn ask(device: &mut Device, request: Request) -> Answer {
+    send(device, &mut chain(request))
 }
 
 #[test]
 fn the_whole_example() {
     let mut device = placed();
-    assert_eq!(ask(&mut device, &mut chain(PLUG, START, 2)), served(0, 0));
+    assert_eq!(ask(&mut device, Request::plug(START, 2)), served(0, 0));
     assert_eq!(device.plugged_size(), 8_388_608);
     assert_eq!(
-        ask(&mut device, &mut chain(PLUG, START + 2 * BLOCK_SIZE, 3)),
+        ask(&mut device, Request::plug(START + 2 * BLOCK_SIZE, 3)),
         served(1, 0)
     );
     assert_eq!(
-        ask(&mut device, &mut chain(STATE, START + BLOCK_SIZE, 2)),
+        ask(&mut device, Request::state(START + BLOCK_SIZE, 2)),
         served(0, 2)
     );
 
-    let mut mem = chain(UNPLUG_ALL, 0, 0);
-    assert_eq!(ask(&mut device, &mut mem), discard(0));
+    let mut mem = chain(Request::unplug_all());
+    assert_eq!(send(&mut device, &mut mem), discard(0));
     assert_eq!(device.set_requested_size(20), Err(Error::Pending));
     assert_eq!(
         device.host_answer(&mut mem, BASE, HostAnswer::Discarded),
@@ -59,7 +63,11 @@ fn the_whole_example() {
         device.host_answer(&mut mem, BASE, HostAnswer::Failed),
         Ok(served(3, 0))
     );
-    assert_eq!(mem[RESPONSE..], [3, 0, 0, 0, 0, 0, 0, 0, 0, 0]);
+    let response = Response {
+        resp_type: Response::ERROR,
+        state: 0,
+    };
+    assert_eq!(Response::read(&mem[RESPONSE..]), Ok(response));
     assert_eq!((device.plugged_size(), device.bitmap()[0]), (4_194_304, 2));
 
     assert_eq!(device.set_requested_size(20), Ok(Answer::Sized));
@@ -145,17 +153,19 @@ fn a_placing_that_failed_is_tried_again() {
 #[test]
 fn the_config_reads_as_the_guest_sees_it() {
     let mut device = placed();
-    let mut config = [0xaa; 60];
+    let mut config = [0xaa; CONFIG_BYTES + 4];
     device.read_config(0, &mut config);
-    let word = |at: usize| u64::from_le_bytes(config[at..at + 8].try_into().unwrap());
-    assert_eq!(
-        (word(0), word(8), word(16), word(24)),
-        (BLOCK_SIZE, 0, START, 256 << 20)
-    );
-    assert_eq!(
-        (word(32), word(40), word(48), &config[56..]),
-        (256 << 20, 0, 16 << 20, &[0xaa; 4][..])
-    );
+    let read = Config {
+        block_size: BLOCK_SIZE,
+        node_id: 0,
+        start: START,
+        region_size: 256 << 20,
+        usable_size: 256 << 20,
+        plugged_size: 0,
+        requested_size: 16 << 20,
+    };
+    assert_eq!(Config::read(&config), Ok(read));
+    assert_eq!(config[CONFIG_BYTES..], [0xaa; 4]);
     let before = device.clone();
     device.write_config(40, &[1; 8]);
     assert_eq!(device, before);
@@ -205,10 +215,10 @@ fn an_answer_to_another_question_is_refused() {
         Ok(Answer::Sized)
     );
 
-    ask(&mut device, &mut chain(PLUG, START, 2));
-    for (request_type, blocks) in [(UNPLUG, 1), (UNPLUG_ALL, 0)] {
-        let mut mem = chain(request_type, START, blocks);
-        assert!(matches!(ask(&mut device, &mut mem), Answer::Wants(_)));
+    ask(&mut device, Request::plug(START, 2));
+    for request in [Request::unplug(START, 1), Request::unplug_all()] {
+        let mut mem = chain(request);
+        assert!(matches!(send(&mut device, &mut mem), Answer::Wants(_)));
         refuses(&mut device, &mut mem, HostAnswer::Created(HOST));
         assert_eq!(
             device.host_answer(&mut mem, BASE, HostAnswer::Discarded),
@@ -236,9 +246,9 @@ fn a_host_restarts_in_the_middle_of_an_unplug_all() {
     assert_eq!(device.table(), [1, 1, HOST]);
 
     // Three blocks: one is discarded, the second is asked for, and the host restarts.
-    ask(&mut device, &mut chain(PLUG, START, 3));
-    let mut mem = chain(UNPLUG_ALL, 0, 0);
-    ask(&mut device, &mut mem);
+    ask(&mut device, Request::plug(START, 3));
+    let mut mem = chain(Request::unplug_all());
+    send(&mut device, &mut mem);
     let asked = device.host_answer(&mut mem, BASE, HostAnswer::Discarded);
     assert_eq!(asked, Ok(discard(1)));
     let mut one = device.clone();
@@ -263,12 +273,12 @@ fn a_host_restarts_in_the_middle_of_an_unplug_all() {
 #[test]
 fn a_restarted_host_has_its_memory_elsewhere() {
     let mut device = placed();
-    ask(&mut device, &mut chain(PLUG, START, 1));
+    ask(&mut device, Request::plug(START, 1));
     let mut table = device.table().to_vec();
     table[2] = HOST + (1 << 40);
     let mut device = Device::from_parts(device.record(), device.bitmap(), &table).unwrap();
     assert_eq!(
-        ask(&mut device, &mut chain(UNPLUG, START, 1)),
+        ask(&mut device, Request::unplug(START, 1)),
         Answer::Wants(HostCall::Discard {
             offset: 0,
             size: BLOCK_SIZE,
@@ -345,9 +355,9 @@ fn longer_parts_are_kept_whole() {
     assert_eq!((device.bitmap(), device.table()), (&bitmap[..], &table[..]));
 
     // All that the device does leaves what lies behind the need as it was.
-    ask(&mut device, &mut chain(PLUG, START, 4));
-    let mut mem = chain(UNPLUG_ALL, 0, 0);
-    let mut answer = ask(&mut device, &mut mem);
+    ask(&mut device, Request::plug(START, 4));
+    let mut mem = chain(Request::unplug_all());
+    let mut answer = send(&mut device, &mut mem);
     while answer != served(0, 0) {
         answer = device
             .host_answer(&mut mem, BASE, HostAnswer::Discarded)
@@ -355,4 +365,78 @@ fn longer_parts_are_kept_whole() {
     }
     assert_eq!((device.bitmap(), device.table()), (&bitmap[..], &table[..]));
     again(&device);
+}
+
+/// Capacity and requested size in MiB, whether there are several regions, plugs beforehand (block and how many), and the
+/// plugs that are planned until 17.
+type Driven = (u64, u64, bool, &'static [(u64, u16)], &'static [(u64, u16)]);
+
+const DRIVEN: [Driven; 7] = [
+    (256, 16, false, &[], &[(0, 4)]),
+    (256, 16, false, &[(1, 1)], &[(0, 1), (2, 2)]),
+    (256, 16, false, &[(0, 1), (2, 3)], &[]),
+    (
+        256,
+        256,
+        false,
+        &[(1, 1), (3, 2), (62, 1)],
+        &[(0, 1), (2, 1), (5, 57), (63, 1)],
+    ),
+    (4096, 4096, false, &[], &[(0, 512), (512, 512)]),
+    (
+        4096,
+        4096,
+        true,
+        &[(510, 1), (512, 1)],
+        &[(0, 510), (511, 1), (513, 511)],
+    ),
+    (4096, 2056, true, &[(570, 1)], &[(0, 512), (512, 1)]),
+];
+
+/// The guest plugs, is acknowledged, and believes in the blocks: which is the first, and how many.
+fn plug(device: &mut Device, believed: &mut [u8], request: Request) -> (u64, u16) {
+    let mut mem = chain(request);
+    assert_eq!(send(device, &mut mem), served(0, 0));
+    let response = Response::read(&mem[RESPONSE..]).unwrap();
+    assert_eq!(response.resp_type, Response::ACK);
+    let first = (request.addr - START) / BLOCK_SIZE;
+    for block in first..first + u64::from(request.blocks) {
+        believed[block as usize / 8] |= 1 << (block % 8);
+    }
+    (first, request.blocks)
+}
+
+#[test]
+fn a_guest_plans_until_there_is_no_plug() {
+    for (capacity, requested, several, before, planned) in DRIVEN {
+        let mut device = Device::new(capacity, requested, several, None, 1 << 30).unwrap();
+        let slots: Vec<u32> = (0..device.map_regions() as u32).collect();
+        device.place(START, capacity << 20, &slots).unwrap();
+        device
+            .host_answer(&mut [], 0, HostAnswer::Created(HOST))
+            .unwrap();
+        let mut believed = vec![0; device.bitmap().len()];
+        for &(first, blocks) in before {
+            let request = Request::plug(START + first * BLOCK_SIZE, blocks);
+            plug(&mut device, &mut believed, request);
+        }
+
+        let mut config = [0; CONFIG_BYTES];
+        let mut plugs = Vec::new();
+        let end = loop {
+            device.read_config(0, &mut config);
+            match plan(&config, &believed) {
+                Ok(request) => plugs.push(plug(&mut device, &mut believed, request)),
+                Err(end) => break end,
+            }
+        };
+        assert_eq!((&plugs[..], end), (planned, Error::NoPlug));
+        assert_eq!(device.bitmap(), believed);
+        // All that the guest is asked to have is plugged.
+        assert_eq!(device.plugged_size(), requested << 20);
+        assert_eq!(
+            Config::read(&config).unwrap().plugged_size,
+            device.plugged_size()
+        );
+    }
 }

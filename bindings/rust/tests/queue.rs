@@ -1,17 +1,18 @@
 // SPDX-License-Identifier: Apache-2.0 AND BSD-3-Clause
 //! A guest's queue over the static library: which head is taken, what is refused, and what stands in the used ring.
 
+use jambcopper::driver::{Request, REQUEST_BYTES, RESPONSE_BYTES};
 use jambcopper::{Answer, Device, Error, HostAnswer, Queue, BLOCK_SIZE, QUEUE_WORDS};
 
 mod common;
 
-use common::{again, discard, placed, served, BASE, HOST, PLUG, START, STATE, UNPLUG, UNPLUG_ALL};
+use common::{again, discard, placed, served, BASE, HOST, START};
 
 /// Where the parts of the queue lie in guest memory; behind them an exchange for each two descriptors.
 const AVAILABLE: usize = 2048;
 const USED: usize = 2312;
 const EXCHANGES: usize = 3344;
-const EXCHANGE: usize = 34;
+const EXCHANGE: usize = REQUEST_BYTES + RESPONSE_BYTES;
 const MEMORY: usize = EXCHANGES + 64 * EXCHANGE;
 
 /// A guest with its queue, and the device on it.
@@ -58,13 +59,11 @@ impl Machine {
     }
 
     /// Lays down a request from an even descriptor on.
-    fn lay(&mut self, head: u16, request_type: u16, addr: u64, blocks: u16) {
+    fn lay(&mut self, head: u16, request: Request) {
         let at = EXCHANGES + EXCHANGE * usize::from(head / 2);
-        self.put(at, &request_type.to_le_bytes());
-        self.put(at + 8, &addr.to_le_bytes());
-        self.put(at + 16, &blocks.to_le_bytes());
+        self.put(at, &request.to_bytes());
         self.descriptor(head, at, 24, 1, head + 1);
-        self.descriptor(head + 1, at + 24, 10, 2, 0);
+        self.descriptor(head + 1, at + REQUEST_BYTES, 10, 2, 0);
     }
 
     /// Puts a head into the available ring: the entry, then the index.
@@ -75,8 +74,8 @@ impl Machine {
         self.put(AVAILABLE + 2, &index.wrapping_add(1).to_le_bytes());
     }
 
-    fn ask(&mut self, head: u16, request_type: u16, addr: u64, blocks: u16) {
-        self.lay(head, request_type, addr, blocks);
+    fn ask(&mut self, head: u16, request: Request) {
+        self.lay(head, request);
         self.offer(head);
     }
 
@@ -124,7 +123,7 @@ fn the_next_head_by_how_far_the_index_is_ahead() {
             // Head 2 is a request, and stands where the next head is; all other entries have none.
             let next_used = next.wrapping_add(7);
             let mut machine = Machine::new().with(&[(3, next.into()), (4, next_used.into())]);
-            machine.lay(2, STATE, START, 1);
+            machine.lay(2, Request::state(START, 1));
             machine.put(AVAILABLE + 4, &[0xff; 256]);
             machine.put(AVAILABLE + 4 + 2 * usize::from(next % 128), &[2, 0]);
             let index = next.wrapping_add(ahead);
@@ -149,7 +148,7 @@ fn the_next_head_by_how_far_the_index_is_ahead() {
 #[test]
 fn a_bad_index_does_not_stick() {
     let mut machine = Machine::new();
-    machine.ask(0, STATE, START, 1);
+    machine.ask(0, Request::state(START, 1));
     machine.put(AVAILABLE + 2, &129u16.to_le_bytes());
     assert_eq!(machine.serve(), Err(Error::BadIndex));
     machine.put(AVAILABLE + 2, &1u16.to_le_bytes());
@@ -202,8 +201,8 @@ fn both_rings_lie_inside() {
 fn both_rings_lie_inside_when_the_host_answers() {
     for (base, available, used, inside) in RINGS {
         let mut machine = Machine::new();
-        machine.ask(0, PLUG, START, 1);
-        machine.ask(2, UNPLUG, START, 1);
+        machine.ask(0, Request::plug(START, 1));
+        machine.ask(2, Request::unplug(START, 1));
         machine.serve().unwrap();
         assert_eq!(machine.serve(), Ok(Some(discard(0))));
         machine = machine.with(&[(1, available), (2, used)]);
@@ -241,9 +240,13 @@ fn every_head_is_reported_with_its_length() {
         (2, Answer::Unserved { reason: 0 }, 0), // a type that is none
     ] {
         let mut machine = Machine::new();
-        machine.lay(0, STATE, START, 1);
-        machine.lay(126, STATE, START, 1);
-        machine.lay(2, 4, START, 1);
+        machine.lay(0, Request::state(START, 1));
+        machine.lay(126, Request::state(START, 1));
+        let none = Request {
+            request_type: 4,
+            ..Request::state(START, 1)
+        };
+        machine.lay(2, none);
         machine.offer(head);
         assert_eq!(machine.serve(), Ok(Some(told)), "head {head}");
         assert_eq!(machine.used(0), (head.into(), length));
@@ -255,7 +258,7 @@ fn every_head_is_reported_with_its_length() {
 fn heads_come_back_once_and_in_order_past_both_wraps() {
     let mut machine = Machine::new().with(&[(4, 1000)]);
     for slot in 0..64 {
-        machine.lay(2 * slot, STATE, START, 1);
+        machine.lay(2 * slot, Request::state(START, 1));
     }
     let (mut asked, mut seen) = (0u32, 0u32);
     let head = |nth: u32| (nth * 7 % 64 * 2) as u16;
@@ -279,9 +282,9 @@ fn heads_come_back_once_and_in_order_past_both_wraps() {
 #[test]
 fn an_unplug_all_is_reported_when_it_has_ended() {
     let mut machine = Machine::new();
-    machine.ask(0, PLUG, START, 3);
-    machine.ask(2, UNPLUG_ALL, 0, 0);
-    machine.ask(4, STATE, START, 1);
+    machine.ask(0, Request::plug(START, 3));
+    machine.ask(2, Request::unplug_all());
+    machine.ask(4, Request::state(START, 1));
     assert_eq!(machine.serve(), Ok(Some(served(0, 0))));
     assert_eq!(machine.serve(), Ok(Some(discard(0))));
     for block in 1..3 {
@@ -320,8 +323,8 @@ fn a_creation_is_answered_without_memory() {
 #[test]
 fn a_head_is_out_only_while_a_discard_is_pending() {
     let mut machine = Machine::new();
-    machine.ask(0, PLUG, START, 1);
-    machine.ask(2, UNPLUG, START, 1);
+    machine.ask(0, Request::plug(START, 1));
+    machine.ask(2, Request::unplug(START, 1));
     machine.serve().unwrap();
     machine.serve().unwrap();
     let wrong = machine.answer(HostAnswer::Created(HOST));
@@ -344,9 +347,9 @@ fn a_head_is_out_only_while_a_discard_is_pending() {
 #[test]
 fn an_unplug_of_more_than_is_plugged_takes_no_head() {
     let mut machine = Machine::new();
-    machine.ask(0, PLUG, START, 2);
+    machine.ask(0, Request::plug(START, 2));
     machine.serve().unwrap();
-    machine.ask(2, UNPLUG, START, 2);
+    machine.ask(2, Request::unplug(START, 2));
     let mut record = *machine.device.record();
     record[5] = BLOCK_SIZE;
     machine.device =
@@ -358,7 +361,7 @@ fn an_unplug_of_more_than_is_plugged_takes_no_head() {
 fn the_response_is_written_before_the_head_is_reported() {
     // A response of NACK on the used ring: its first two bytes stay, and the rest is the index and the element.
     let mut machine = Machine::new();
-    machine.ask(0, PLUG, START, 5);
+    machine.ask(0, Request::plug(START, 5));
     machine.descriptor(1, USED, 10, 2, 0);
     assert_eq!(machine.serve(), Ok(Some(served(1, 0))));
     assert_eq!(

@@ -7,11 +7,6 @@ pub const BASE: u64 = 0x4000_0000;
 pub const START: u64 = 4_294_967_296;
 pub const HOST: u64 = 140_737_488_355_328;
 
-pub const PLUG: u16 = 0;
-pub const UNPLUG: u16 = 1;
-pub const UNPLUG_ALL: u16 = 2;
-pub const STATE: u16 = 3;
-
 pub fn placed() -> Device {
     let mut device = Device::new(256, 16, false, None, 1 << 30).unwrap();
     device.place(START, 256 << 20, &[1]).unwrap();
