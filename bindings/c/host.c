@@ -2,7 +2,8 @@
 /*
  * A small real host: it creates the device's memory with memfd_create and mmap, gives it back by punching a hole into
  * the memfd (fallocate), and plays a guest that plugs, touches and unplugs it by a split queue, which the kernel's
- * header lays out (vring_init). The numbers that it prints are the kernel's: how much memory the memfd holds (st_blocks).
+ * header lays out (vring_init). The guest's requests are written, and what it reads is read, by jambcopper_driver_...
+ * The numbers that it prints are the kernel's: how much memory the memfd holds (st_blocks); and what the guest reads.
  */
 #define _GNU_SOURCE
 #include "jambcopper.h"
@@ -25,8 +26,8 @@
 
 /* A request, and room for its response. */
 struct exchange {
-    struct virtio_mem_req request;
-    struct virtio_mem_resp response;
+    uint8_t request[JAMBCOPPER_REQUEST_BYTES];
+    uint8_t response[JAMBCOPPER_RESPONSE_BYTES];
 };
 
 /* The guest's memory: its queue, and an exchange for each two descriptors. */
@@ -42,6 +43,10 @@ struct guest {
     struct exchange *exchanges;
     uint16_t put;
     uint16_t taken;
+    uint64_t response[JAMBCOPPER_RESPONSE_WORDS]; /* the last that it read */
+    uint8_t config[JAMBCOPPER_CONFIG_BYTES];      /* as it read it last, and its fields */
+    uint64_t fields[JAMBCOPPER_CONFIG_WORDS];
+    uint8_t believed[JAMBCOPPER_MAX_BITMAP_BYTES]; /* the blocks that it takes for plugged */
 };
 
 /* What a host keeps for a device. */
@@ -153,53 +158,102 @@ static void put(struct guest *g, uint16_t type, uint64_t addr, uint16_t blocks)
 {
     uint16_t head = (uint16_t)(2 * (g->put % EXCHANGES));
     struct exchange *e = &g->exchanges[g->put % EXCHANGES];
-    memset(e, 0, sizeof *e);
-    e->request.type = type;
-    e->request.u.plug.addr = addr;
-    e->request.u.plug.nb_blocks = blocks;
-    e->response.type = 0xffff;
+    expect(jambcopper_driver_write_request(e->request, sizeof e->request, type, addr, blocks) == 0, "no request");
+    memset(e->response, 0xff, sizeof e->response); /* which is no response */
     g->ring.desc[head] = (struct vring_desc){
-        .addr = address(g, &e->request), .len = sizeof e->request, .flags = VRING_DESC_F_NEXT, .next = head + 1
+        .addr = address(g, e->request), .len = sizeof e->request, .flags = VRING_DESC_F_NEXT, .next = head + 1
     };
     g->ring.desc[head + 1] =
-        (struct vring_desc){ .addr = address(g, &e->response), .len = sizeof e->response, .flags = VRING_DESC_F_WRITE };
+        (struct vring_desc){ .addr = address(g, e->response), .len = sizeof e->response, .flags = VRING_DESC_F_WRITE };
     g->ring.avail->ring[g->put % JAMBCOPPER_QUEUE_SIZE] = head;
     g->ring.avail->idx = ++g->put;
 }
 
-/* The guest takes the next element out of the used ring, which is its oldest request, and reads the response's type. */
-static uint16_t take(struct guest *g)
+/* The guest takes the next element out of the used ring, which is its oldest request, and reads the response. */
+static uint64_t take(struct guest *g)
 {
     expect(g->ring.used->idx != g->taken, "the used ring has no more");
     const struct vring_used_elem *used = &g->ring.used->ring[g->taken % JAMBCOPPER_QUEUE_SIZE];
     const struct exchange *e = &g->exchanges[g->taken % EXCHANGES];
     expect(used->id == 2u * (g->taken % EXCHANGES), "another head is used");
     expect(used->len == sizeof e->response, "the response is not delivered");
+    expect(jambcopper_driver_read_response(e->response, sizeof e->response, g->response,
+                                           JAMBCOPPER_RESPONSE_WORDS) == 0,
+           "no response");
     g->taken++;
-    return e->response.type;
+    return g->response[JAMBCOPPER_RESPONSE_TYPE];
 }
 
 /* The guest asks, and the host serves it. */
-static uint16_t ask(struct host *h, uint16_t type, uint64_t addr, uint16_t blocks)
+static uint64_t ask(struct host *h, uint16_t type, uint64_t addr, uint16_t blocks)
 {
     put(&h->guest, type, addr, blocks);
     serve_all(h);
-    uint16_t response = take(&h->guest);
+    uint64_t response = take(&h->guest);
     expect(h->guest.ring.used->idx == h->guest.taken, "the used ring has more than was asked");
     return response;
+}
+
+/* The guest reads its config. */
+static const uint64_t *read_config(struct host *h)
+{
+    struct guest *g = &h->guest;
+    expect(jambcopper_read_config(h->record, JAMBCOPPER_RECORD_WORDS, 0, g->config, sizeof g->config) == 0,
+           "the config is not read");
+    expect(jambcopper_driver_read_config(g->config, sizeof g->config, g->fields, JAMBCOPPER_CONFIG_WORDS) == 0,
+           "no config");
+    return g->fields;
 }
 
 /* How many bytes the kernel holds for the device, and how many the guest reads as plugged. */
 static void print(struct host *h, const char *when)
 {
     struct stat s;
-    struct virtio_mem_config config;
     if (fstat(h->memfd, &s) != 0)
         fail("fstat");
-    expect(jambcopper_read_config(h->record, JAMBCOPPER_RECORD_WORDS, 0, (uint8_t *)&config, sizeof config) == 0,
-           "the config is not read");
     printf("%-22s held=%" PRIu64 " KiB plugged=%" PRIu64 " KiB\n", when, (uint64_t)s.st_blocks / 2,
-           (uint64_t)config.plugged_size / 1024);
+           read_config(h)[JAMBCOPPER_RECORD_PLUGGED_SIZE] / 1024);
+}
+
+static void believe(struct guest *g, uint64_t first, uint64_t blocks)
+{
+    for (uint64_t block = first; block < first + blocks; block++)
+        g->believed[block / 8] |= (uint8_t)(1 << block % 8);
+}
+
+/* The guest asks which blocks are plugged, of those that it may plug. */
+static void learn(struct host *h)
+{
+    uint64_t blocks = read_config(h)[JAMBCOPPER_RECORD_USABLE_SIZE] / JAMBCOPPER_BLOCK_SIZE;
+    for (uint64_t block = 0; block < blocks; block++) {
+        expect(ask(h, VIRTIO_MEM_REQ_STATE, REGION_START + block * JAMBCOPPER_BLOCK_SIZE, 1) == VIRTIO_MEM_RESP_ACK,
+               "no state");
+        if (h->guest.response[JAMBCOPPER_RESPONSE_STATE] == VIRTIO_MEM_STATE_PLUGGED)
+            believe(&h->guest, block, 1);
+    }
+}
+
+/* The guest plugs what is proposed to it, which is acknowledged, until there is nothing to propose. */
+static void plan_all(struct host *h)
+{
+    struct guest *g = &h->guest;
+    for (;;) {
+        read_config(h);
+        uint64_t plug[JAMBCOPPER_PLUG_WORDS];
+        uint64_t refused = jambcopper_driver_plan(g->config, sizeof g->config, g->believed, sizeof g->believed, plug,
+                                                  JAMBCOPPER_PLUG_WORDS);
+        if (refused == JAMBCOPPER_NO_PLUG)
+            return;
+        expect(refused == JAMBCOPPER_DONE, "no plan");
+        uint64_t first = (plug[JAMBCOPPER_PLUG_ADDRESS] - REGION_START) / JAMBCOPPER_BLOCK_SIZE;
+        uint16_t blocks = (uint16_t)plug[JAMBCOPPER_PLUG_BLOCKS];
+        expect(ask(h, VIRTIO_MEM_REQ_PLUG, plug[JAMBCOPPER_PLUG_ADDRESS], blocks) == VIRTIO_MEM_RESP_ACK,
+               "a plug that was proposed");
+        believe(g, first, blocks);
+        char when[64];
+        snprintf(when, sizeof when, "planned %u from block %" PRIu64, blocks, first);
+        print(h, when);
+    }
 }
 
 int main(void)
@@ -252,5 +306,10 @@ int main(void)
     expect(take(&h.guest) == VIRTIO_MEM_RESP_ACK, "no unplug of three");
     expect(take(&h.guest) == VIRTIO_MEM_RESP_ERROR, "a plug of what is plugged");
     print(&h, "three requests at once");
+
+    /* Blocks 3 to 7 are plugged, and 16 is what the guest is asked to have. */
+    learn(&h);
+    plan_all(&h);
+    print(&h, "no plug to propose");
     return 0;
 }
