@@ -32,14 +32,14 @@ fn main() {
     };
     let mut random = Random::new(seed);
     let began = Instant::now();
-    let mut numbers = [[0u64; 16]; 10];
+    let mut numbers = [[0u64; 18]; 14];
     let mut calls = 0;
     while began.elapsed() < Duration::from_secs(seconds) {
         let mut lent = Lent::any(&mut random);
         for _ in 0..8 {
             let before = lent.clone();
             let (export, number) = lent.call(&mut random);
-            assert!(number <= 15, "{export}: {number}");
+            assert!(number <= 17, "{export}: {number}");
             if number != 0 && number != 10 {
                 lent.answer.clone_from(&before.answer);
                 assert!(
@@ -51,7 +51,7 @@ fn main() {
             calls += 1;
         }
     }
-    println!("{calls} calls from seed {seed}; by export, how many gave 0 to 15:");
+    println!("{calls} calls from seed {seed}; by export, how many gave 0 to 17:");
     let names = [
         "make",
         "place",
@@ -63,6 +63,10 @@ fn main() {
         "queue_make",
         "serve",
         "serve_answer",
+        "write_request",
+        "read_response",
+        "driver_config",
+        "plan",
     ];
     for (name, numbers) in names.iter().zip(numbers) {
         println!("{name:13} {numbers:?}");
@@ -207,7 +211,9 @@ impl Lent {
         } = self;
         let base = random.pick(&[BASE, BASE, BASE, BASE, 0, u64::MAX - 511, u64::MAX]);
         let (any, other) = (number(random), number(random));
-        let export = random.pick(&[0, 1, 1, 2, 3, 3, 3, 4, 4, 4, 5, 6, 7, 8, 8, 8, 9, 9, 9]);
+        let export = random.pick(&[
+            0, 1, 1, 2, 3, 3, 3, 4, 4, 4, 5, 6, 7, 8, 8, 8, 9, 9, 9, 10, 11, 12, 13, 13,
+        ]);
         let size = random.pick(&[record.get(3).copied().unwrap_or(0), other]);
         let device = sys::Lent {
             record,
@@ -246,6 +252,39 @@ impl Lent {
             }
             8 => device.serve(queue, memory, base, answer),
             9 => device.serve_answer(queue, memory, base, random.chance(80), any, answer),
+            10 => {
+                let size = length(random, 24);
+                let mut data = bytes(random, size);
+                lend(&mut data, |data| {
+                    sys::driver_write_request(data, any as u16, other, (any >> 16) as u16)
+                })
+            }
+            11 => {
+                let (size, room) = (length(random, 10), length(random, 2));
+                let mut data = bytes(random, size);
+                for (at, byte) in data.iter_mut().enumerate() {
+                    if random.chance(95) {
+                        *byte = u8::from(at % 8 == 0) * random.below(4) as u8;
+                    }
+                }
+                lend(&mut words(random, room), |response| {
+                    sys::driver_read_response(&data, response)
+                })
+            }
+            12 => {
+                let room = length(random, 7);
+                let data = config(random, device.record);
+                lend(&mut words(random, room), |config| {
+                    sys::driver_read_config(&data, config)
+                })
+            }
+            13 => {
+                let room = length(random, 2);
+                let data = config(random, device.record);
+                lend(&mut words(random, room), |plug| {
+                    sys::driver_plan(&data, device.bitmap, plug)
+                })
+            }
             _ => {
                 let size = length(random, 56);
                 sys::write_config(device.record, any, &bytes(random, size))
@@ -253,6 +292,31 @@ impl Lent {
         };
         (export, number)
     }
+}
+
+/// A call that is lent a slice, which it leaves as it was where it refuses.
+fn lend<T: Clone + PartialEq>(slice: &mut Box<[T]>, call: impl FnOnce(&mut [T]) -> u64) -> u64 {
+    let before = slice.clone();
+    let number = call(slice);
+    assert!(
+        number == 0 || *slice == before,
+        "refused, and yet something changed"
+    );
+    number
+}
+
+/// The config of a record, where it is one, some of its bytes changed; else any bytes.
+fn config(random: &mut Random, record: &[u64]) -> Box<[u8]> {
+    let size = length(random, 56);
+    let mut data = bytes(random, size);
+    sys::read_config(record, 0, &mut data);
+    for _ in 0..random.pick(&[0, 0, 0, 1]) {
+        let at = random.below(64) as usize;
+        if let Some(byte) = data.get_mut(at) {
+            *byte = random.next() as u8;
+        }
+    }
+    data
 }
 
 /// A queue whose rings are behind the chain, some of its words changed; or any words.
