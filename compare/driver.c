@@ -33,7 +33,7 @@ _Static_assert(sizeof(struct virtio_mem_config) == JAMBCOPPER_CONFIG_BYTES, "con
 #define JUNK UINT64_C(0xa5a5a5a5a5a5a5a5)
 #define PAGE 65536 /* a multiple of every processor's */
 
-static void die(const char *why)
+static _Noreturn void die(const char *why)
 {
     fprintf(stderr, "driver: %s\n", why);
     exit(2);
