@@ -48,4 +48,5 @@ planOf c bs =
     let b = c .«block_size» in
     cond (not (configShapedOf c)) (Refused 12)
     (cond (ltb (length bs) (blocksIn b (c .«region_size»))) (Refused 11)
-    (planAt (nextClear bs 0 (blocksIn b (c .«usable_region_size»))) b (c .addr .0) (c .«usable_region_size») (c .«plugged_size») (c .«requested_size») bs))
+    (planAt (nextClear bs 0 (blocksIn b (c .«usable_region_size»)))
+    b (c .addr .0) (c .«usable_region_size») (c .«plugged_size») (c .«requested_size») bs))
