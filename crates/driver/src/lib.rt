@@ -9,6 +9,7 @@ use little_endian::write_u64;
 use record::config_shaped;
 use units::GuestAddr;
 use units::MemTool;
+use units::saturating_sub;
 use units::smaller;
 use wire::VirtioMemConfig;
 use wire::VirtioMemReq;
@@ -134,10 +135,7 @@ fn room_of(block_size: u64, plugged: u64, requested: u64) -> u64
     requires { ⌜ 0 < «block_size» ⌝ }
     ensures { λ r. ⌜ r ≡ roomOf «block_size» plugged requested ⌝ }
 {
-    if requested < plugged {
-        return 0;
-    }
-    (requested - plugged) / block_size
+    saturating_sub(requested, plugged) / block_size
 }
 
 // How many blocks a plug from `first` on takes, of those that there is room for.
