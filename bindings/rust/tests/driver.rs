@@ -107,20 +107,17 @@ fn a_config_is_read_or_refused() {
         let top = u64::MAX;
         [top, 65_535, top - 1, top - 2, top - 3, top - 4, top - 5]
     }] {
-        let [block_size, node, start, region_size, usable_size, plugged_size, requested_size] =
-            words;
-        let fields = Config {
-            block_size,
-            node_id: node as u16,
-            start,
-            region_size,
-            usable_size,
-            plugged_size,
-            requested_size,
-        };
         let bytes = config(words);
-        assert_eq!(Config::read(&bytes), Ok(fields));
-        assert_eq!(Config::read(&[&bytes[..], &[0xff; 3]].concat()), Ok(fields));
+        let read = |bytes: &[u8]| {
+            Config::read(bytes).map(|c| {
+                let (block, node, region) = (c.block_size, c.node_id.into(), c.region_size);
+                let (usable, plugged, requested) =
+                    (c.usable_size, c.plugged_size, c.requested_size);
+                [block, node, c.start, region, usable, plugged, requested]
+            })
+        };
+        assert_eq!(read(&bytes), Ok(words));
+        assert_eq!(read(&[&bytes[..], &[0xff; 3]].concat()), Ok(words));
         for length in 0..CONFIG_BYTES {
             assert_eq!(Config::read(&bytes[..length]), Err(Error::BadBytes));
         }

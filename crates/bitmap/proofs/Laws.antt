@@ -420,16 +420,7 @@ next-nothing v bs f e p = first-nothing v f (range bs f (e - f)) p
 pub next-nothing-ones : (bs : List Bool) (f e : ℕ) → nextSet bs f e ≡ Nothing → ones (range bs f (e - f)) ≡ 0
 next-nothing-ones bs f e p = ones-none (range bs f (e - f)) (next-nothing true bs f e p)
 
-first-clear : (s : ℕ) (bs : List Bool) → every false bs ≡ true → firstOf true s bs ≡ Nothing
-unfolding firstOf every
-first-clear s [] e = refl
-first-clear s (true ∷ bs) e = absurd (let z : _≡_ {A = ℕ} 0 1 = cc in omega arith)
-first-clear s (false ∷ bs) e = first-clear (suc s) bs e
-
-pub next-clear : (bs : List Bool) (f e : ℕ) → allAre bs f (e - f) false ≡ true → nextSet bs f e ≡ Nothing
-next-clear bs f e p = first-clear f (range bs f (e - f)) p
-
--- a search goes on past clear blocks, and never starts again
+-- a search goes on past clear blocks
 next-step-in : (bs : List Bool) (f e : ℕ) → blockAt bs f ≡ false → f < e → nextSet bs (suc f) e ≡ nextSet bs f e
 unfolding firstOf
 next-step-in bs f e p h =
@@ -451,12 +442,6 @@ next-skip (suc k) bs f e h =
     let w : f + suc k ≡ suc f + k = omega arith in
     rw w (next-skip k bs (suc f) e (λ i p q. h i (omega arith) (omega arith)) ∙ next-step bs f e (h f (omega arith) (omega arith)))
 
-pub next-goes-on : (bs : List Bool) (f k e : ℕ) → allAre bs f k false ≡ true → nextSet bs (f + k) e ≡ nextSet bs f e
-next-goes-on bs f k e p = next-skip k bs f e (λ i. all-clear-at bs f k i p)
-
-pub next-from-zero : (bs : List Bool) (f e : ℕ) → allAre bs 0 f false ≡ true → nextSet bs f e ≡ nextSet bs 0 e
-next-from-zero bs f e p = let w : 0 + f ≡ f = zero-add f in rw w at (next-goes-on bs 0 f e p)
-
 -- the block that was found, cleared: the search goes on after it
 pub next-cleared : (bs : List Bool) (f e i : ℕ) → nextSet bs f e ≡ At i → nextSet (fill bs i 1 false) f e ≡ nextSet bs (suc i) e
 next-cleared bs f e i p =
@@ -469,15 +454,3 @@ next-cleared bs f e i p =
     (lt-or-ge x i) in
     sym (next-skip (suc (i - f)) (fill bs i 1 false) f e h)
     ∙ rw w (ap (firstOf true (suc i)) (fill-after bs i 1 false (suc i) (e - suc i) (omega arith)))
-
--- a search reads no block from `end` on
-pub next-take : (n : ℕ) (bs : List Bool) (f e : ℕ) → e ≤ n → nextSet (take n bs) f e ≡ nextSet bs f e
-next-take n bs f e h =
-    ⊎-elim (λ l. rw (range-take n bs f (e - f) (omega arith)))
-    (λ g. let z : e - f ≡ 0 = omega arith in rw z)
-    (lt-or-ge f e)
-
-pub next-same : (bs cs : List Bool) (f e : ℕ) → take e bs ≡ take e cs → nextSet bs f e ≡ nextSet cs f e
-next-same bs cs f e p =
-    let h : e ≤ e = omega arith in
-    sym (next-take e bs f e h) ∙ ap (λ (ds : List Bool). nextSet ds f e) p ∙ next-take e cs f e h

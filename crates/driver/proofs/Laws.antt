@@ -173,19 +173,19 @@ unfolding part littleEndian
 config-means xs c t =
     let l = ap length (t .text) ∙ length-config c in
     let n = length-take 56 xs in
-    let u : c .«node_id» < 65536 = t .node-fits in
+    let u : c .«node_id» < 65536 = t .fits .node in
     let e = config-words c u in
     let part-at : ℕ → List ℕ → List ℕ = λ at ys. part ys at 8 in
     record {
       long = omega arith;
       node-two = u;
-      block-is = word-at xs c 0 (c .«block_size») (omega arith) (t .text) (ap (part-at 0) e) (t .block-fits);
+      block-is = word-at xs c 0 (c .«block_size») (omega arith) (t .text) (ap (part-at 0) e) (t .fits .block);
       node-is = word-at xs c 8 (c .«node_id») (omega arith) (t .text) (ap (part-at 8) e) (omega arith);
-      start-is = word-at xs c 16 (c .addr .0) (omega arith) (t .text) (ap (part-at 16) e) (t .start-fits);
-      region-is = word-at xs c 24 (c .«region_size») (omega arith) (t .text) (ap (part-at 24) e) (t .region-fits);
-      usable-is = word-at xs c 32 (c .«usable_region_size») (omega arith) (t .text) (ap (part-at 32) e) (t .usable-fits);
-      plugged-is = word-at xs c 40 (c .«plugged_size») (omega arith) (t .text) (ap (part-at 40) e) (t .plugged-fits);
-      requested-is = word-at xs c 48 (c .«requested_size») (omega arith) (t .text) (ap (part-at 48) e) (t .requested-fits);
+      start-is = word-at xs c 16 (c .addr .0) (omega arith) (t .text) (ap (part-at 16) e) (t .fits .start);
+      region-is = word-at xs c 24 (c .«region_size») (omega arith) (t .text) (ap (part-at 24) e) (t .fits .region);
+      usable-is = word-at xs c 32 (c .«usable_region_size») (omega arith) (t .text) (ap (part-at 32) e) (t .fits .usable);
+      plugged-is = word-at xs c 40 (c .«plugged_size») (omega arith) (t .text) (ap (part-at 40) e) (t .fits .plugged);
+      requested-is = word-at xs c 48 (c .«requested_size») (omega arith) (t .text) (ap (part-at 48) e) (t .fits .requested);
     }
 
 part-step : (xs : List ℕ) (at m : ℕ) → part xs at (8 + m) ≡ part xs at 8 ++ part xs (at + 8) m
@@ -213,13 +213,15 @@ config-text xs c h m =
     let below : (at v : ℕ) → value (part xs at 8) ≡ v → v < 256 ^ 8 = λ at v q. rw (← q) (value-below xs h at 8) in
     record {
       text = all-of xs ∙ rw (config-words c (m .node-two), e₀, e₁, e₂, e₃, e₄, e₅, w₀, w₁, w₂, w₃, w₄, w₅, w₆);
-      block-fits = below 0 (c .«block_size») (m .block-is);
-      node-fits = m .node-two;
-      start-fits = below 16 (c .addr .0) (m .start-is);
-      region-fits = below 24 (c .«region_size») (m .region-is);
-      usable-fits = below 32 (c .«usable_region_size») (m .usable-is);
-      plugged-fits = below 40 (c .«plugged_size») (m .plugged-is);
-      requested-fits = below 48 (c .«requested_size») (m .requested-is);
+      fits = record {
+        block = below 0 (c .«block_size») (m .block-is);
+        node = m .node-two;
+        start = below 16 (c .addr .0) (m .start-is);
+        region = below 24 (c .«region_size») (m .region-is);
+        usable = below 32 (c .«usable_region_size») (m .usable-is);
+        plugged = below 40 (c .«plugged_size») (m .plugged-is);
+        requested = below 48 (c .«requested_size») (m .requested-is);
+      };
     }
 
 pub config-refused : (xs : List ℕ) → ((c : VirtioMemConfig) → ConfigText xs c → ⊥) → ReadsConfig xs (NoConfig 16)

@@ -15,7 +15,7 @@ use Rattle.driver.specs.declared.GotResponse.{GotResponse}
 use Rattle.driver.specs.declared.GotResponse.the-variants.{Response}
 use Rattle.driver.specs.declared.GotConfig.{GotConfig}
 use Rattle.driver.specs.declared.GotConfig.the-variants.{Config}
-use Rattle.driver.specs.Text.{requestBytes, Wrote, ReadsResponse, ReadsConfig}
+use Rattle.driver.specs.Text.{requestBytes, Wrote, ReadsResponse, ReadsConfig, ConfigFits}
 
 -- a text that was written where it fits stands there
 written : (xs : List ℕ) (at : ℕ) (ys : List ℕ) (n : ℕ) → length ys ≡ n → at + n ≤ length xs → part (put xs at ys) at n ≡ ys
@@ -40,27 +40,7 @@ response-back xs at v h t s r p =
     p .only v (record { text = written xs at (responseBytes v) 10 (length-response v) h; type-known = t; state-known = s })
 
 -- ---- the driver reads the config that the device wrote
-pub record Fits (c : VirtioMemConfig) : Type 0 where
-  pub block : c .«block_size» < 256 ^ 8
-  pub node : c .«node_id» < 256 ^ 2
-  pub start : c .addr .0 < 256 ^ 8
-  pub region : c .«region_size» < 256 ^ 8
-  pub usable : c .«usable_region_size» < 256 ^ 8
-  pub plugged : c .«plugged_size» < 256 ^ 8
-  pub requested : c .«requested_size» < 256 ^ 8
-
-pub config-back : (xs : List ℕ) (c : VirtioMemConfig) → 56 ≤ length xs → Fits c
+pub config-back : (xs : List ℕ) (c : VirtioMemConfig) → 56 ≤ length xs → ConfigFits c
     → (r : GotConfig) → ReadsConfig (put xs 0 (drop 0 (configBytes c))) r → r ≡ Config c
 unfolding part
-config-back xs c h f r p =
-    p .only c
-    (record {
-      text = written xs 0 (configBytes c) 56 (length-config c) h;
-      block-fits = f .block;
-      node-fits = f .node;
-      start-fits = f .start;
-      region-fits = f .region;
-      usable-fits = f .usable;
-      plugged-fits = f .plugged;
-      requested-fits = f .requested;
-    })
+config-back xs c h f r p = p .only c (record { text = written xs 0 (configBytes c) 56 (length-config c) h; fits = f })

@@ -35,16 +35,20 @@ pub record ReadsResponse (xs : List ℕ) (r : GotResponse) : Type 0 where
   pub only : (v : VirtioMemResp) → ResponseText xs v → r ≡ Response v
   pub refused : (n : ℕ) → r ≡ NoResponse n → n ≡ 16
 
--- the first 56 bytes are the text of c, whose fields fit their places
+-- the fields of a config fit their places: what the types u64 and u16 say
+pub record ConfigFits (c : VirtioMemConfig) : Type 0 where
+  pub block : c .«block_size» < 256 ^ 8
+  pub node : c .«node_id» < 256 ^ 2
+  pub start : c .addr .0 < 256 ^ 8
+  pub region : c .«region_size» < 256 ^ 8
+  pub usable : c .«usable_region_size» < 256 ^ 8
+  pub plugged : c .«plugged_size» < 256 ^ 8
+  pub requested : c .«requested_size» < 256 ^ 8
+
+-- the first 56 bytes are the text of c
 pub record ConfigText (xs : List ℕ) (c : VirtioMemConfig) : Type 0 where
   pub text : take 56 xs ≡ configBytes c
-  pub block-fits : c .«block_size» < 256 ^ 8
-  pub node-fits : c .«node_id» < 256 ^ 2
-  pub start-fits : c .addr .0 < 256 ^ 8
-  pub region-fits : c .«region_size» < 256 ^ 8
-  pub usable-fits : c .«usable_region_size» < 256 ^ 8
-  pub plugged-fits : c .«plugged_size» < 256 ^ 8
-  pub requested-fits : c .«requested_size» < 256 ^ 8
+  pub fits : ConfigFits c
 
 -- c is given exactly if the bytes are its text; otherwise 16
 pub record ReadsConfig (xs : List ℕ) (r : GotConfig) : Type 0 where

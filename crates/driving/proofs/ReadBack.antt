@@ -41,9 +41,9 @@ use Rattle.step.specs.Step.{blockSize, region, plugged, requested, several, reg
 use Rattle.driver.specs.declared.GotConfig.{GotConfig}
 use Rattle.driver.specs.declared.GotConfig.the-variants.{Config}
 use Rattle.driver.specs.declared.Proposal.the-variants.{Plug, Refused as NoPlug}
-use Rattle.driver.specs.Text.{ReadsConfig}
+use Rattle.driver.specs.Text.{ReadsConfig, ConfigFits}
 use Rattle.driver.specs.Plan.{roomOf, planAt, planOf}
-use Rattle.driver.proofs.Trips.{Fits, config-back}
+use Rattle.driver.proofs.Trips.{config-back}
 use Rattle.driving.specs.Sound.{Ready, Acknowledged}
 use Rattle.driving.specs.Chain.{Holds, plugOf, laidIn, in66, GoesTo, OfChain, OfUnplug, OfUnplugAll, ReadAt, ReadBack}
 use Rattle.driving.proofs.Held.{held-parses, acknowledged-held, proposal-fits, length-laid, laid-holds, is-inside, in-66}
@@ -242,7 +242,7 @@ held-read w g table head q status h resp e =
     moved (step w (Request g table head) .bytes) resp (o .0) (o .1) (b .read refl)
 
 -- ---- the config
-config-fits : (d : Device) → shapedOf d ≡ true → d .config .«node_id» < 65536 → Fits (d .config)
+config-fits : (d : Device) → shapedOf d ≡ true → d .config .«node_id» < 65536 → ConfigFits (d .config)
 config-fits d e n =
     let s = shaped-is d e in
     record {
