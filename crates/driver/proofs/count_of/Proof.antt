@@ -1,12 +1,25 @@
 -- `count_of` meets its contract. Assumes nothing.
-use Prim.Native.Nat.{_≤_}
+use Prim.Native.Nat.{ℕ, _-_, _≤_, min}
+use mathlib.Core.Path.{_≡_, ap, _∙_}
 use native.Mathlib.Omega.{arith}
 use Rattle.units.specs.Numbers.{blocksIn, mapRegion}
-use Rattle.driver.specs.Plan.{limitOf}
+use Rattle.bitmap.specs.Blocks.{blocks, nextSet}
+use Rattle.driver.specs.Plan.{limitOf, stopAt, stopOf}
 use Rattle.driver.proofs.Laws.{border, per-some, stop-from}
 use borrow.Author.Needs.{needs}
 use Rattle.driver.proofs.count_of.Statement.{statement}
 use Rattle.driver.proofs.count_of.Tie as tie
+
+-- the limit is the usable end or the border, and it stops where the definition says
+limit-is : (c : tie.After-smaller) → let a = c .before .before .before .args in c .smaller .result ≡ limitOf (a .block-size) (a .usable) (a .first)
+limit-is c =
+    let a = c .before .before .before .args in
+    c .smaller .ensures ∙ ap (min (blocksIn (a .block-size) (a .usable))) (c .before .border-after .ensures)
+
+stop-is : (c : tie.After-stop-at) → let a = c .before .before .before .before .args in c .stop-at .result ≡ stopOf (a .block-size) (a .usable) (blocks (a .bitmap .now)) (a .first)
+stop-is c =
+    let a = c .before .before .before .before .args in
+    c .stop-at .ensures ∙ ap (λ (limit : ℕ). stopAt (nextSet (blocks (a .bitmap .now)) (a .first) limit) limit) (limit-is (c .before))
 
 border-after-requires : tie.Need-border-after-requires
 border-after-requires c κs = search needs
@@ -26,17 +39,15 @@ sub-smaller c =
     let a = start .args in
     let b = border (a .first) (blocksIn (a .block-size) mapRegion) (per-some (a .block-size) (start .pre .0 .0) (start .pre .0 .1)) in
     let h : a .first ≤ limitOf (a .block-size) (a .usable) (a .first) = omega (arith, b .above, start .pre .1 .1) in
-    let s = stop-from _ (a .first) (limitOf (a .block-size) (a .usable) (a .first)) h in
-    let e = rw (c .before .smaller .ensures, c .before .before .border-after .ensures) at (c .stop-at .ensures) in
-    rw e s
+    rw (stop-is c) (stop-from _ (a .first) (limitOf (a .block-size) (a .usable) (a .first)) h)
 
 smaller-requires-2 : tie.Need-smaller-requires-2
 smaller-requires-2 c κs = search needs
 
 returns : tie.Need-returns
 returns c =
-    let e = rw (c .before .before .smaller .ensures, c .before .before .before .border-after .ensures) at (c .before .stop-at .ensures) in
-    rw e at (c .smaller2 .ensures)
+    let a = c .before .before .before .before .before .args in
+    c .smaller2 .ensures ∙ ap (λ (stop : ℕ). min (stop - a .first) (a .room)) (stop-is (c .before))
 
 pub count-of-spec : {M : Type 1} → statement M
 count-of-spec =
