@@ -30,7 +30,7 @@ abbrev pub taken : ℕ → ℕ → List ℕ → List ℕ
 taken k zero vs = []
 taken k (suc n) vs = getD vs k 0 ∷ taken (suc k) n vs
 
-taken-all : (a n : ℕ) (vs : List ℕ) → a + n ≤ length vs → take n (drop a vs) ≡ taken a n vs
+pub taken-all : (a n : ℕ) (vs : List ℕ) → a + n ≤ length vs → take n (drop a vs) ≡ taken a n vs
 taken-all a zero vs h = refl
 taken-all a (suc n) vs h =
     rw (drop-cons vs a 0 (omega arith)) (ap (λ (l : List ℕ). getD vs a 0 ∷ l) (taken-all (suc a) n vs (omega arith)))
@@ -167,7 +167,7 @@ scan-read room form s us h =
 -- ---- what a caller of `scan` finds in its values
 
 -- numbers that were stored first in a list: each where it stood, and what was 0 past them is 0
-stored-at : (before us : List ℕ) (i : ℕ) → length us ≤ length before → getD before i 0 ≡ 0 → getD (sets before 0 us) i 0 ≡ getD us i 0
+pub stored-at : (before us : List ℕ) (i : ℕ) → length us ≤ length before → getD before i 0 ≡ 0 → getD (sets before 0 us) i 0 ≡ getD us i 0
 stored-at before us i h z =
     let e : sets before 0 us ≡ us ++ drop (0 + length us) before = sets-eq us before 0 (omega arith) in
     by-test (ltb i (length us)) (λ l. rw e (List·getD-append us (drop (0 + length us) before) 0 i (ltb-true i (length us) l)))

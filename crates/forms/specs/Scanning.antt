@@ -4,9 +4,12 @@ use mathlib.Core.Path.{_≡_}
 use mathlib.Core.Bool.{Bool, true, false, cond}
 use mathlib.Core.List.{List, [], _∷_}
 use lib.Dec.{eqb}
+use lib.ListN.{drop}
 use lib.Seq.{sets}
 use Rattle.text.specs.Reading.{Got, got, nothing, wordOf}
 use Rattle.forms.specs.Forms.{isHole}
+use Rattle.forms.specs.declared.Place.{Place}
+use Rattle.forms.specs.declared.Place.the-variants.{At, Nowhere}
 
 -- the text is a filled form, or it is not; with the numbers that were read, up to where it was lost
 pub data Scan : Type 0 where
@@ -52,3 +55,44 @@ scanOf room (t ∷ ts) s =
 pub record Scanned (before : List ℕ) (scan : Scan) (r : Bool) (after : List ℕ) : Type 0 where
   pub answer : r ≡ isFound scan
   pub values : after ≡ sets before 0 (numbers scan)
+
+-- ---- a filled form at the start of a text
+
+-- the text starts with a filled form: the numbers, and the text after it; or it does not: the numbers up to where it was lost
+pub data Part : Type 0 where
+  part : List ℕ → List ℕ → Part
+  none : List ℕ → Part
+
+abbrev pub partNumbers : Part → List ℕ
+partNumbers (part vs rest) = vs
+partNumbers (none vs) = vs
+
+unfoldable pub pushPart : ℕ → Part → Part
+pushPart v (part vs rest) = part (v ∷ vs) rest
+pushPart v (none vs) = none (v ∷ vs)
+
+unfoldable pub holePart : ℕ → Got → (ℕ → List ℕ → Part) → Part
+holePart zero g f = none []
+holePart (suc room) nothing f = none []
+holePart (suc room) (got v rest) f = pushPart v (f room rest)
+
+unfoldable pub bytePart : ℕ → List ℕ → (List ℕ → Part) → Part
+bytePart t [] f = none []
+bytePart t (x ∷ xs) f = cond (eqb x t) (f xs) (none [])
+
+unfoldable pub partOf : ℕ → List ℕ → List ℕ → Part
+partOf room [] s = part [] s
+partOf room (t ∷ ts) s =
+    cond (isHole t)
+    (holePart room (wordOf s) (λ left rest. partOf left ts rest))
+    (bytePart t s (λ rest. partOf room ts rest))
+
+-- what the code's answer says of the text s, with the numbers that were read
+abbrev pub placed : List ℕ → Place → List ℕ → Part
+placed s (At n) vs = part vs (drop n s)
+placed s Nowhere vs = none vs
+
+-- the answer says whether the text starts with a filled form, and where it goes on; the values as for `Scanned`
+pub record ScannedAt (before s : List ℕ) (w : Part) (r : Place) (after : List ℕ) : Type 0 where
+  pub answer : w ≡ placed s r (partNumbers w)
+  pub values : after ≡ sets before 0 (partNumbers w)

@@ -1,19 +1,22 @@
--- `forms::put_form` meets its contract. The invariant: the text put so far, with what is left of the form filled, is the whole (`Puts`).
+-- `forms::put_form_at` meets its contract. The invariant: the text put so far, with what is left of the form filled, is the whole (`Puts`).
 use Prim.Native.Nat.{_-_}
 use native.Mathlib.Omega.{arith}
 use lib.ListN.{length}
 use Rattle.forms.proofs.Turns.{Puts, puts-none, puts-long, put-hole, put-byte, put-end}
-use Rattle.forms.proofs.put_form.Statement.{statement}
-use Rattle.forms.proofs.put_form.Tie as tie
+use Rattle.forms.proofs.put_form_at.Statement.{statement}
+use Rattle.forms.proofs.put_form_at.Tie as tie
 
 abbrev Inv-loop : tie.InvT-loop
-Inv-loop out₀ form values to₀ j₀ k₀ out to j k = Puts out₀ form values out to j k
+Inv-loop out₀ at form values to₀ j₀ k₀ out to j k = Puts out₀ at form values out to j k
 
 abbrev μ-loop : tie.MeasureT-loop
-μ-loop out₀ form values to₀ j₀ k₀ out to j k = length form - j
+μ-loop out₀ at form values to₀ j₀ k₀ out to j k = length form - j
+
+within-requires : tie.Need-within-requires Inv-loop μ-loop
+within-requires c κs = tt
 
 loop-holds : tie.Need-loop-holds Inv-loop μ-loop
-loop-holds c = puts-none _ _ _
+loop-holds c = puts-none _ _ _ _ _ (c .within .ensures)
 
 shared-slice-read-if1 : tie.Need-shared-slice-read-if1 Inv-loop μ-loop
 shared-slice-read-if1 c = omega arith
@@ -57,12 +60,13 @@ same-length c = puts-long (c .before .loop .inv)
 returns : tie.Need-returns Inv-loop μ-loop
 returns c = put-end (c .before .loop .inv) (c .loop-test .left)
 
-pub put-form-spec : {M : Type 1} → statement M
-put-form-spec =
+pub put-form-at-spec : {M : Type 1} → statement M
+put-form-at-spec =
     tie.close
     (tie.spec
     Inv-loop
     μ-loop
+    within-requires
     loop-holds
     shared-slice-read-if1
     value-at-requires

@@ -1,0 +1,250 @@
+-- What each step of reading does. Assumes nothing.
+use Prim.Native.Nat.{ℕ, zero, suc, _+_, _-_, _≤_, _<_}
+use mathlib.Core.Path.{_≡_, refl, ap, _∙_, sym}
+use mathlib.Core.Bool.{Bool, true, false, _&&_, not}
+use mathlib.Core.List.{List, [], _∷_, _++_}
+use native.Mathlib.Omega.{arith}
+use borrow.Author.Tests.{le-leb, lt-ltb, leb-true, ltb-true}
+use lib.Dec.{leb, ltb}
+use lib.ListN.{length, drop, getD, length-append, length-drop, drop-of-length-le}
+use Rattle.units.proofs.Tests.{and-left, and-right, refused, passed}
+use Rattle.text.specs.Decimal.{largest}
+use Rattle.bitmap.specs.Blocks.{blocks, fill, Filled}
+use Rattle.forms.specs.Forms.{holes, filled, filledFrom}
+use Rattle.forms.specs.Scanning.{Part, part, none, bytePart, partOf, ScannedAt}
+use Rattle.forms.specs.declared.Place.{Place}
+use Rattle.forms.specs.declared.Place.the-variants as place
+use Rattle.forms.proofs.Parts.{part-found, part-read}
+use Rattle.save.specs.declared.Counted.{Counted}
+use Rattle.save.specs.declared.Counted.the-variants.{Blocks, Bad}
+use Rattle.save.specs.declared.RunLine.{RunLine}
+use Rattle.save.specs.declared.RunLine.the-variants as line
+use Rattle.save.specs.Runs.{Run, Apart}
+use Rattle.save.specs.Text.{runLine, runsText}
+use Rattle.save.specs.Reading.{IsRun, runOk, total, Counts, laidOn, Lays}
+use Rattle.save.proofs.Text.{no-run, run-part}
+
+-- ---- `run_at`
+
+pub run-found : (s l : List ℕ) {after : List ℕ} {r : Place} → ScannedAt (0 ∷ 0 ∷ []) s (partOf 2 runLine l) r after → (n : ℕ) → r ≡ place.At n
+    → partOf 2 runLine l ≡ part (getD after 0 0 ∷ getD after 1 0 ∷ []) (drop n s)
+unfolding holes
+run-found s l o n e = let f = part-found runLine s l o n e in rw (f .at 0 refl, f .at 1 refl) (f .is)
+
+-- ---- `count_runs`
+
+missing : {vs us end : List ℕ} → none vs ≡ part us end → ⊥
+missing h = let z : _≡_ {A = ℕ} 0 1 = cc in omega arith
+
+bad-is : {n : ℕ} → Bad ≡ Blocks n → ⊥
+bad-is h = let z : _≡_ {A = ℕ} 0 1 = cc in omega arith
+
+-- a text that starts with no run's line is that of no run, and empty
+no-line : (from end : ℕ) (l : List ℕ) → end ≤ largest → ((us rest : List ℕ) → partOf 2 runLine l ≡ part us rest → ⊥) → (rs : List Run) → Apart from end rs → runsText rs ≡ l → l ≡ []
+unfolding runsText
+no-line from end l h n [] a t = sym t
+no-line from end l h n (r ∷ rs) a t =
+    absurd (n _ _ (ap (partOf 2 runLine) (sym t) ∙ run-part r rs (omega (arith, a .2)) (omega (arith, a .2))))
+
+pub counts-none : (from end sum : ℕ) (l : List ℕ) → end ≤ largest → 0 < length l → ((us rest : List ℕ) → partOf 2 runLine l ≡ part us rest → ⊥) → Counts from end sum l Bad
+counts-none from end sum l h p n =
+    record {
+      whole = λ rs a t. let e : length l ≡ 0 = ap length (no-line from end l h n rs a t) in absurd (omega arith);
+      only = λ m e. absurd (bad-is e);
+    }
+
+pub counts-end : (from end sum : ℕ) → end ≤ largest → Counts from end sum [] (Blocks sum)
+unfolding total runsText
+counts-end from end sum h = record { whole = go; only = λ m e. ([], tt, refl, (let q : sum ≡ m = cc in omega arith)) }
+  where
+    go : (rs : List Run) → Apart from end rs → runsText rs ≡ [] → Blocks sum ≡ Blocks (sum + total rs)
+    go [] a t = let z : sum ≡ sum + 0 = omega arith in ap Blocks z
+    go (r ∷ rs) a t =
+        absurd (missing (sym no-run ∙ ap (partOf 2 runLine) (sym t) ∙ run-part r rs (omega (arith, a .2)) (omega (arith, a .2))))
+
+run-ok : (first count from end : ℕ) → runOk first count from end ≡ true → (from ≤ first) × (0 < count) × (first + count ≤ end)
+unfolding runOk
+run-ok first count from end e =
+    let r = and-right (leb from first) _ e in
+    (leb-true from first (and-left (leb from first) _ e), ltb-true 0 count (and-left (ltb 0 count) _ r), leb-true (first + count) end (and-right (ltb 0 count) _ r))
+
+ok-run : (first count from end : ℕ) → from ≤ first → 0 < count → first + count ≤ end → runOk first count from end ≡ true
+unfolding runOk
+ok-run first count from end p q r = rw (le-leb from first p, lt-ltb 0 count q) (le-leb (first + count) end r)
+
+module _ (from end sum : ℕ) (l : List ℕ) (h : end ≤ largest) (first count : ℕ) (rest : List ℕ) (e : partOf 2 runLine l ≡ part (first ∷ count ∷ []) rest) where
+  -- runs whose text is l start with this one
+  starts : (P : Type 0) (rs : List Run) → Apart from end rs → runsText rs ≡ l
+      → ((qs : List Run) → runOk first count from end ≡ true → Apart (suc (first + count)) end qs → runsText qs ≡ rest → total rs ≡ count + total qs → P) → P
+  unfolding total
+  starts P [] a t f = absurd (missing (sym no-run ∙ ap (partOf 2 runLine) t ∙ e))
+  starts P (r ∷ rs) a t f =
+      let q : part (r .first ∷ r .count ∷ []) (runsText rs) ≡ part (first ∷ count ∷ []) rest =
+      sym (run-part r rs (omega (arith, a .2)) (omega (arith, a .2))) ∙ ap (partOf 2 runLine) t ∙ e in
+      let x : r .first ≡ first = cc in
+      let y : r .count ≡ count = cc in
+      let w : runsText rs ≡ rest = cc in
+      let z : r .first + r .count ≡ first + count = omega arith in
+      f rs (ok-run first count from end (omega (arith, a .0)) (omega (arith, a .1)) (omega (arith, a .2))) (rw z at (a .3)) w (rw y)
+
+  pub counts-bad : runOk first count from end ≡ false → Counts from end sum l Bad
+  counts-bad n =
+      record {
+        whole = λ rs a t. starts (Bad ≡ Blocks (sum + total rs)) rs a t (λ qs y b u v. absurd (let z : _≡_ {A = ℕ} 0 1 = cc in omega arith));
+        only = λ m q. absurd (bad-is q);
+      }
+
+  pub counts-turn : (w : Counted) → runOk first count from end ≡ true → Counts (suc (first + count)) end (sum + count) rest w → Counts from end sum l w
+  unfolding total runsText holes
+  counts-turn w y c =
+      let o = run-ok first count from end y in
+      record {
+        whole =
+            λ rs a t.
+            starts (w ≡ Blocks (sum + total rs)) rs a t
+            (λ qs y b u v. let z : sum + count + total qs ≡ sum + total rs = omega arith in c .whole qs b u ∙ ap Blocks z);
+        only =
+            λ m q.
+            let d = c .only m q in
+            let k = d .3 in
+            let p = part-read 2 runLine l (first ∷ count ∷ []) rest e .1 in (
+              record { first = first; count = count } ∷ d .0,
+              (o .0, o .1, o .2, d .1),
+              ap (λ (r : List ℕ). filled runLine (first ∷ count ∷ []) ++ r) (d .2) ∙ p,
+              omega arith,
+            );
+      }
+
+  -- the text that is left is shorter
+  pub shorter : length rest < length l
+  unfolding filledFrom holes
+  shorter =
+      let p = part-read 2 runLine l (first ∷ count ∷ []) rest e .1 in
+      let q : length l ≡ length (filled runLine (first ∷ count ∷ []) ++ rest) = ap length (sym p) in
+      let r = length-append (filled runLine (first ∷ count ∷ [])) rest in
+      omega arith
+
+line-at : (s l : List ℕ) (r : RunLine) → IsRun s l r → (f c n : ℕ) → r ≡ line.At f c n → partOf 2 runLine l ≡ part (f ∷ c ∷ []) (drop n s)
+line-at s l r h f c n e = let g : IsRun s l (line.At f c n) = rw e at h in g
+
+line-bad : (s l : List ℕ) (r : RunLine) → IsRun s l r → r ≡ line.Bad → (us rest : List ℕ) → partOf 2 runLine l ≡ part us rest → ⊥
+line-bad s l r h e = let g : IsRun s l line.Bad = rw e at h in g
+
+-- the loop stands at i of the text, with `sum` blocks in runs that end before block `from`: what is right for the text that is left is right for the whole
+pub record Reading (s : List ℕ) (at end i from sum : ℕ) : Type 0 where
+  pub back : (w : Counted) → Counts from end sum (drop i s) w → Counts 0 end 0 (drop at s) w
+  pub few : sum ≤ from
+  pub inside : from ≤ end + 1
+
+pub reading-start : (s : List ℕ) (at end : ℕ) → Reading s at end at 0 0
+reading-start s at end = record { back = λ w c. c; few = omega arith; inside = omega arith }
+
+module _ {s : List ℕ} {at end i from sum : ℕ} (h : end ≤ 1099511627776) (o : Reading s at end i from sum) where
+  left-long : i < length s → 0 < length (drop i s)
+  left-long p = let d = length-drop i s in omega arith
+
+  pub read-none : i < length s → (r : RunLine) → IsRun s (drop i s) r → r ≡ line.Bad → Counts 0 end 0 (drop at s) Bad
+  read-none p r q e = o .back Bad (counts-none from end sum (drop i s) (omega arith) (left-long p) (line-bad s (drop i s) r q e))
+
+  pub read-end : length s ≤ i → Counts 0 end 0 (drop at s) (Blocks sum)
+  read-end p = o .back (Blocks sum) (rw (drop-of-length-le s p) (counts-end from end sum (omega arith)))
+
+  module _ (r : RunLine) (q : IsRun s (drop i s) r) (f c n : ℕ) (e : r ≡ line.At f c n) (g : Bool) (t : g ≡ runOk f c from end) where
+    pub read-bad : not g ≡ true → Counts 0 end 0 (drop at s) Bad
+    read-bad u =
+        o .back Bad (counts-bad from end sum (drop i s) (omega arith) f c (drop n s) (line-at s (drop i s) r q f c n e) (refused (runOk f c from end) g t u))
+
+    pub read-sums : not g ≡ false → (sum + c ≤ end) × (f + c ≤ end)
+    read-sums u =
+        let k = run-ok f c from end (passed (runOk f c from end) g t u) in
+        let a = k .0 in
+        let b = k .2 in
+        let d = o .few in
+        (omega arith, b)
+
+    pub read-less : i < length s → length s - n < length s - i
+    read-less p =
+        let a = shorter from end sum (drop i s) (omega arith) f c (drop n s) (line-at s (drop i s) r q f c n e) in
+        let b = length-drop i s in
+        let d = length-drop n s in
+        omega arith
+
+    pub read-turn : not g ≡ false → Reading s at end n (f + c + 1) (sum + c)
+    read-turn u =
+        let y = passed (runOk f c from end) g t u in
+        let k = read-sums u in
+        let a = k .0 in
+        let b = k .1 in
+        let m = run-ok f c from end y .0 in
+        let d = o .few in
+        let z : f + c + 1 ≡ suc (f + c) = omega arith in
+        record {
+          back =
+              λ w v.
+              o .back w (counts-turn from end sum (drop i s) (omega arith) f c (drop n s) (line-at s (drop i s) r q f c n e) w y (rw z at v));
+          few = omega arith;
+          inside = omega arith;
+        }
+
+-- ---- `lay_runs`
+
+nothing-there : partOf 2 runLine [] ≡ none []
+unfolding partOf bytePart
+nothing-there = refl
+
+lays-none : (l entry : List ℕ) → ((us rest : List ℕ) → partOf 2 runLine l ≡ part us rest → ⊥) → Lays l entry entry
+unfolding laidOn
+lays-none l entry n = record { long = refl; laid = go }
+  where
+    go : (from end : ℕ) (rs : List Run) → end ≤ largest → Apart from end rs → runsText rs ≡ l → blocks entry ≡ laidOn rs (blocks entry)
+    go from end [] h a t = refl
+    go from end (r ∷ rs) h a t =
+        absurd (n _ _ (ap (partOf 2 runLine) (sym t) ∙ run-part r rs (omega (arith, a .2)) (omega (arith, a .2))))
+
+lays-turn : (l rest : List ℕ) (f c : ℕ) (entry mid exit : List ℕ) → partOf 2 runLine l ≡ part (f ∷ c ∷ []) rest → Filled entry mid f c true → Lays rest mid exit → Lays l entry exit
+unfolding laidOn
+lays-turn l rest f c entry mid exit e d o = record { long = o .long ∙ d .outside .same-length; laid = go }
+  where
+    go : (from end : ℕ) (rs : List Run) → end ≤ largest → Apart from end rs → runsText rs ≡ l → blocks exit ≡ laidOn rs (blocks entry)
+    go from end [] h a t = absurd (missing (sym no-run ∙ ap (partOf 2 runLine) t ∙ e))
+    go from end (r ∷ rs) h a t =
+        let q : part (r .first ∷ r .count ∷ []) (runsText rs) ≡ part (f ∷ c ∷ []) rest =
+        sym (run-part r rs (omega (arith, a .2)) (omega (arith, a .2))) ∙ ap (partOf 2 runLine) t ∙ e in
+        let x : r .first ≡ f = cc in
+        let y : r .count ≡ c = cc in
+        let w : runsText rs ≡ rest = cc in
+        let b : blocks mid ≡ fill (blocks entry) (r .first) (r .count) true = d .as-blocks ∙ rw (x, y) in
+        o .laid (suc (r .first + r .count)) end rs h (a .3) w ∙ ap (laidOn rs) b
+
+-- the loop stands at i of the text: what is right for the text that is left is right for the whole
+pub record Setting (s : List ℕ) (at : ℕ) (entry : List ℕ) (i : ℕ) (cur : List ℕ) : Type 0 where
+  pub back : (exit : List ℕ) → Lays (drop i s) cur exit → Lays (drop at s) entry exit
+  pub long : length cur ≡ length entry
+
+pub setting-start : (s : List ℕ) (at : ℕ) (entry : List ℕ) → Setting s at entry at entry
+setting-start s at entry = record { back = λ x o. o; long = refl }
+
+module _ {s : List ℕ} {at : ℕ} {entry : List ℕ} {i : ℕ} {cur : List ℕ} (o : Setting s at entry i cur) where
+  pub set-none : (r : RunLine) → IsRun s (drop i s) r → r ≡ line.Bad → Lays (drop at s) entry cur
+  set-none r q e = o .back cur (lays-none (drop i s) cur (line-bad s (drop i s) r q e))
+
+  pub set-end : length s ≤ i → Lays (drop at s) entry cur
+  set-end h = o .back cur (rw (drop-of-length-le s h) (lays-none [] cur empty))
+    where
+      empty : (us rest : List ℕ) → partOf 2 runLine [] ≡ part us rest → ⊥
+      empty us rest q = missing (sym nothing-there ∙ q)
+
+  module _ (r : RunLine) (q : IsRun s (drop i s) r) (f c n : ℕ) (e : r ≡ line.At f c n) where
+    pub set-less : i < length s → length s - n < length s - i
+    set-less p =
+        let a = shorter 0 0 0 (drop i s) (omega arith) f c (drop n s) (line-at s (drop i s) r q f c n e) in
+        let b = length-drop i s in
+        let d = length-drop n s in
+        omega arith
+
+    pub set-turn : (cur′ : List ℕ) → Filled cur cur′ f c true → Setting s at entry n cur′
+    set-turn cur′ d =
+        record {
+          back = λ x v. o .back x (lays-turn (drop i s) (drop n s) f c cur cur′ x (line-at s (drop i s) r q f c n e) d v);
+          long = d .outside .same-length ∙ o .long;
+        }

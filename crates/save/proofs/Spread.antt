@@ -1,0 +1,137 @@
+-- The runs of a state, and the state of runs: how many blocks there are, and that none lies past the usable size. Assumes nothing.
+use Prim.Native.Nat.{ℕ, zero, suc, _+_, _-_, _*_, _/_, _%_, _≤_, _<_}
+use mathlib.Core.Path.{_≡_, refl, ap, _∙_, sym}
+use mathlib.Core.Bool.{Bool, true, false, _&&_, Bool·beq}
+use mathlib.Core.List.{List, [], _∷_, _++_, append-assoc, append-nil}
+use native.Mathlib.Omega.{arith}
+use lib.ListN.{length, take, drop, replicate, length-append, length-take, length-drop}
+use Rattle.units.proofs.Tests.{and-right}
+use Rattle.bitmap.specs.Blocks.{every, ones, allAre, range}
+use Rattle.save.specs.Runs.{Run, closed, runsFrom, runsOf, spread, Apart}
+use Rattle.save.specs.Reading.{total}
+use Rattle.save.proofs.Runs.{runs-apart, comes-back}
+
+same-length : (n : ℕ) (v : Bool) → length (replicate n v) ≡ n
+same-length zero v = refl
+same-length (suc n) v = ap suc (same-length n v)
+
+-- ---- of runs
+
+pub spread-length : (i end : ℕ) (rs : List Run) → i ≤ end → Apart i end rs → length (spread i end rs) ≡ end - i
+unfolding spread
+spread-length i end [] h a = same-length (end - i) false
+spread-length i end (r ∷ rs) h a =
+    let p = a .0 in
+    let q = a .2 in
+    let behind = r .first + r .count in
+    let n = spread-length behind end rs (a .2) (sooner (suc behind) behind end rs (omega arith) (a .3)) in
+    let x = length-append (replicate (r .first - i) false) (replicate (r .count) true ++ spread behind end rs) in
+    let y = length-append (replicate (r .count) true) (spread behind end rs) in
+    let u = same-length (r .first - i) false in
+    let v = same-length (r .count) true in
+    omega arith
+  where
+    sooner : (m l end : ℕ) (rs : List Run) → l ≤ m → Apart m end rs → Apart l end rs
+    sooner m l end [] q a = tt
+    sooner m l end (r ∷ rs) q a = (omega (arith, a .0), a .1, a .2, a .3)
+
+ones-false : (n : ℕ) (bs : List Bool) → ones (replicate n false ++ bs) ≡ ones bs
+unfolding ones
+ones-false zero bs = refl
+ones-false (suc n) bs = ones-false n bs
+
+ones-true : (n : ℕ) (bs : List Bool) → ones (replicate n true ++ bs) ≡ n + ones bs
+unfolding ones
+ones-true zero bs = let z : ones bs ≡ 0 + ones bs = omega arith in z
+ones-true (suc n) bs = let i = ones-true n bs in omega arith
+
+none-set : (n : ℕ) → ones (replicate n false) ≡ 0
+unfolding ones
+none-set zero = refl
+none-set (suc n) = none-set n
+
+pub spread-ones : (i end : ℕ) (rs : List Run) → ones (spread i end rs) ≡ total rs
+unfolding spread total
+spread-ones i end [] = none-set (end - i)
+spread-ones i end (r ∷ rs) =
+    let behind = r .first + r .count in
+    ones-false (r .first - i) (replicate (r .count) true ++ spread behind end rs)
+    ∙ ones-true (r .count) (spread behind end rs)
+    ∙ ap (λ (n : ℕ). r .count + n) (spread-ones behind end rs)
+
+-- the blocks of a state are as many as those of its runs
+pub runs-ones : (bs : List Bool) → total (runsOf bs) ≡ ones bs
+runs-ones bs = sym (spread-ones 0 (length bs) (runsOf bs)) ∙ ap ones (comes-back bs)
+
+more-clear : (n g : ℕ) → replicate (n + g) false ≡ replicate n false ++ replicate g false
+more-clear zero g = let z : 0 + g ≡ g = omega arith in rw z
+more-clear (suc n) g = let z : suc n + g ≡ suc (n + g) = omega arith in rw z (ap (λ (l : List Bool). false ∷ l) (more-clear n g))
+
+-- past the end of all runs nothing is set
+pub spread-more : (i end g : ℕ) (rs : List Run) → i ≤ end → Apart i end rs → spread i (end + g) rs ≡ spread i end rs ++ replicate g false
+unfolding spread
+spread-more i end g [] h a = let z : end + g - i ≡ end - i + g = omega arith in rw z (more-clear (end - i) g)
+spread-more i end g (r ∷ rs) h a =
+    let behind = r .first + r .count in
+    let x = replicate (r .first - i) false in
+    let y = replicate (r .count) true in
+    let n = spread-more behind end g rs (a .2) (sooner (suc behind) behind end rs (omega arith) (a .3)) in
+    rw (n, append-assoc x (y ++ spread behind end rs) (replicate g false), append-assoc y (spread behind end rs) (replicate g false))
+  where
+    sooner : (m l end : ℕ) (rs : List Run) → l ≤ m → Apart m end rs → Apart l end rs
+    sooner m l end [] q a = tt
+    sooner m l end (r ∷ rs) q a = (omega (arith, a .0), a .1, a .2, a .3)
+
+clear-all : (c g : ℕ) → every false (take c (replicate g false)) ≡ true
+unfolding every
+clear-all zero g = refl
+clear-all (suc c) zero = refl
+clear-all (suc c) (suc g) = clear-all c g
+
+pub past-clear : (c g : ℕ) (xs : List Bool) → every false (take c (drop (length xs) (xs ++ replicate g false))) ≡ true
+past-clear c g [] = clear-all c g
+past-clear c g (x ∷ xs) = past-clear c g xs
+
+-- ---- of a state
+
+end-clear : (i n g : ℕ) → runsFrom i n (replicate g false) ≡ closed i n []
+unfolding runsFrom closed
+end-clear i n zero = refl
+end-clear i n (suc g) = ap (closed i n) (end-clear (suc i) 0 g)
+
+runs-clear : (i n g : ℕ) (xs : List Bool) → runsFrom i n (xs ++ replicate g false) ≡ runsFrom i n xs
+unfolding runsFrom
+runs-clear i n g [] = end-clear i n g
+runs-clear i n g (true ∷ xs) = runs-clear (suc i) (suc n) g xs
+runs-clear i n g (false ∷ xs) = ap (closed i n) (runs-clear (suc i) 0 g xs)
+
+every-clear : (ys : List Bool) → every false ys ≡ true → ys ≡ replicate (length ys) false
+unfolding every
+every-clear [] e = refl
+every-clear (true ∷ ys) e = let z : _≡_ {A = ℕ} 0 1 = cc in absurd (omega arith)
+every-clear (false ∷ ys) e = ap (λ (l : List Bool). false ∷ l) (every-clear ys e)
+
+take-drop : (n : ℕ) (bs : List Bool) → take n bs ++ drop n bs ≡ bs
+take-drop zero bs = refl
+take-drop (suc n) [] = refl
+take-drop (suc n) (b ∷ bs) = ap (λ (l : List Bool). b ∷ l) (take-drop n bs)
+
+take-whole : (n : ℕ) (bs : List Bool) → length bs ≤ n → take n bs ≡ bs
+take-whole zero [] h = refl
+take-whole zero (b ∷ bs) h = absurd (omega arith)
+take-whole (suc n) [] h = refl
+take-whole (suc n) (b ∷ bs) h = ap (λ (l : List Bool). b ∷ l) (take-whole n bs (omega arith))
+
+-- where no block from `used` on is set, no run goes past it
+pub runs-inside : (bs : List Bool) (used : ℕ) → used ≤ length bs → allAre bs used (length bs - used) false ≡ true → Apart 0 used (runsOf bs)
+runs-inside bs used h e =
+    let d = length-drop used bs in
+    let t = length-take used bs in
+    let k : length (take used bs) ≡ used = omega arith in
+    let a = take-whole (length bs - used) (drop used bs) (omega arith) in
+    let c = every-clear (drop used bs) (rw a at e) in
+    let w : take used bs ++ replicate (length (drop used bs)) false ≡ bs = ap (λ (l : List Bool). take used bs ++ l) (sym c) ∙ take-drop used bs in
+    let r : runsOf (take used bs) ≡ runsOf bs = sym (runs-clear 0 0 (length (drop used bs)) (take used bs)) ∙ ap runsOf w in
+    let z : 0 + length (take used bs) ≡ used = omega arith in
+    let q : Apart 0 used (runsOf (take used bs)) = rw z at (runs-apart 0 0 (take used bs) (omega arith)) in
+    rw r at q
