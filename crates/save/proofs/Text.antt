@@ -21,43 +21,6 @@ use Rattle.save.specs.Runs.{Run, runsOf, spread, Apart}
 use Rattle.save.specs.Text.{formLine, fieldLines, fieldsOf, runLine, runsText, textOf, deviceOf, validOf, State}
 use Rattle.save.proofs.Runs.{runs-apart, comes-back}
 
--- ---- the runs' lines
-
-pub runs-open : (rs : List Run) → 9 < digitOf (runsText rs)
-unfolding runsText digitOf isDigit
-runs-open [] = omega arith
-runs-open (r ∷ rs) = opened-part 0 runLine (r .first ∷ r .count ∷ []) (runsText rs) (runs-open rs) refl
-
-pub run-part : (r : Run) (rs : List Run) → r .first ≤ largest → r .count ≤ largest → partOf 2 runLine (runsText (r ∷ rs)) ≡ part (r .first ∷ r .count ∷ []) (runsText rs)
-unfolding runsText holes isDigit
-run-part r rs p q = part-written 2 0 runLine (r .first ∷ r .count ∷ []) (runsText rs) (runs-open rs) refl (omega arith) (p, (q, tt))
-
-pub no-run : partOf 2 runLine (runsText []) ≡ none []
-unfolding runsText partOf bytePart
-no-run = refl
-
-missing : {vs us end : List ℕ} → none vs ≡ part us end → ⊥
-missing h = let z : _≡_ {A = ℕ} 0 1 = cc in omega arith
-
-run-is : (r q : Run) → r .first ≡ q .first → r .count ≡ q .count → r ≡ q
-run-is r q a b = ap (λ (x : ℕ). record { first = x; count = r .count }) a ∙ ap (λ (y : ℕ). record { first = q .first; count = y }) b
-
-pub same-runs : (i j end stop : ℕ) (rs qs : List Run) → end ≤ largest → stop ≤ largest → Apart i end rs → Apart j stop qs → runsText rs ≡ runsText qs → rs ≡ qs
-same-runs i j end stop [] [] u v a b h = refl
-same-runs i j end stop [] (q ∷ qs) u v a b h =
-    absurd (missing (sym no-run ∙ ap (partOf 2 runLine) h ∙ run-part q qs (omega (arith, b .2)) (omega (arith, b .2))))
-same-runs i j end stop (r ∷ rs) [] u v a b h =
-    absurd (missing (sym no-run ∙ ap (partOf 2 runLine) (sym h) ∙ run-part r rs (omega (arith, a .2)) (omega (arith, a .2))))
-same-runs i j end stop (r ∷ rs) (q ∷ qs) u v a b h =
-    let e : part (r .first ∷ r .count ∷ []) (runsText rs) ≡ part (q .first ∷ q .count ∷ []) (runsText qs) =
-    sym (run-part r rs (omega (arith, a .2)) (omega (arith, a .2))) ∙ ap (partOf 2 runLine) h ∙ run-part q qs (omega (arith, b .2)) (omega (arith, b .2)) in
-    let f : r .first ≡ q .first = cc in
-    let c : r .count ≡ q .count = cc in
-    let t : runsText rs ≡ runsText qs = cc in
-    let w = run-is r q f c in
-    let l = same-runs (suc (r .first + r .count)) (suc (q .first + q .count)) end stop rs qs u v (a .3) (b .3) t in
-    cc
-
 -- ---- the head
 
 pub fields-open : (form : ℕ) (f : Fields) (rs : List Run) → 9 < digitOf (filled (fieldLines form) (fieldsOf f) ++ runsText rs)

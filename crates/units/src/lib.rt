@@ -139,7 +139,7 @@ pub fn product_within(a: u64, b: u64, limit: u64) -> bool
 }
 
 // a + b, saturating at 2^64 - 1.
-fn held_sum(a: u64, b: u64) -> u64
+pub fn held_sum(a: u64, b: u64) -> u64
     ensures { λ r. ⌜ r ≡ held (a + b) ⌝ }
 {
     if sum_within(a, b, MAX) {

@@ -1,10 +1,10 @@
--- `save::run_at` meets its contract.
+-- `runs::run_at` meets its contract.
 use Rattle.forms.proofs.Parts.{part-nowhere}
-use Rattle.save.specs.Text.{runLine}
-use Rattle.save.proofs.Lines.{run-found}
+use Rattle.runs.specs.Text.{runLine}
+use Rattle.runs.proofs.Lines.{run-found}
 use borrow.Author.Needs.{needs}
-use Rattle.save.proofs.run_at.Statement.{statement}
-use Rattle.save.proofs.run_at.Tie as tie
+use Rattle.runs.proofs.run_at.Statement.{statement}
+use Rattle.runs.proofs.run_at.Tie as tie
 
 slice-aggregate-scan-at : tie.Need-slice-aggregate-scan-at
 slice-aggregate-scan-at c = search needs

@@ -1,8 +1,8 @@
--- `save::put_run` meets its contract.
-use Rattle.save.proofs.Turns.{put-no-run, put-one-run}
+-- `runs::put_run` meets its contract.
+use Rattle.runs.proofs.Turns.{put-no-run, put-one-run}
 use borrow.Author.Needs.{needs}
-use Rattle.save.proofs.put_run.Statement.{statement}
-use Rattle.save.proofs.put_run.Tie as tie
+use Rattle.runs.proofs.put_run.Statement.{statement}
+use Rattle.runs.proofs.put_run.Tie as tie
 
 within-requires : tie.Need-within-requires
 within-requires c κs = search needs

@@ -1,4 +1,4 @@
--- What each step of reading does. Assumes nothing.
+-- One text for runs that are apart, and one list of runs for a text; and what each step of reading does.
 use Prim.Native.Nat.{ℕ, zero, suc, _+_, _-_, _≤_, _<_}
 use mathlib.Core.Path.{_≡_, refl, ap, _∙_, sym}
 use mathlib.Core.Bool.{Bool, true, false, _&&_, not}
@@ -9,20 +9,57 @@ use lib.Dec.{leb, ltb}
 use lib.ListN.{length, drop, getD, length-append, length-drop, drop-of-length-le}
 use Rattle.units.proofs.Tests.{and-left, and-right, refused, passed}
 use Rattle.text.specs.Decimal.{largest}
-use Rattle.bitmap.specs.Blocks.{blocks, fill, Filled}
+use Rattle.text.specs.Reading.{isDigit, digitOf}
+use Rattle.bitmap.specs.Blocks.{blocks, fill, Outside, Filled}
 use Rattle.forms.specs.Forms.{holes, filled, filledFrom}
 use Rattle.forms.specs.Scanning.{Part, part, none, bytePart, partOf, ScannedAt}
 use Rattle.forms.specs.declared.Place.{Place}
 use Rattle.forms.specs.declared.Place.the-variants as place
-use Rattle.forms.proofs.Parts.{part-found, part-read}
-use Rattle.save.specs.declared.Counted.{Counted}
-use Rattle.save.specs.declared.Counted.the-variants.{Blocks, Bad}
-use Rattle.save.specs.declared.RunLine.{RunLine}
-use Rattle.save.specs.declared.RunLine.the-variants as line
-use Rattle.save.specs.Runs.{Run, Apart}
-use Rattle.save.specs.Text.{runLine, runsText}
-use Rattle.save.specs.Reading.{IsRun, runOk, total, Counts, laidOn, Lays}
-use Rattle.save.proofs.Text.{no-run, run-part}
+use Rattle.forms.proofs.Parts.{opened-part, part-written, part-found, part-read}
+use Rattle.runs.specs.declared.Counted.{Counted}
+use Rattle.runs.specs.declared.Counted.the-variants.{Blocks, Bad}
+use Rattle.runs.specs.declared.RunLine.{RunLine}
+use Rattle.runs.specs.declared.RunLine.the-variants as line
+use Rattle.runs.specs.Runs.{Run, Apart, total, laidOn}
+use Rattle.runs.specs.Text.{runLine, runsText}
+use Rattle.runs.specs.Reading.{IsRun, runOk, Counts, LaidRuns, Lays}
+
+-- ---- the runs' lines
+
+pub runs-open : (rs : List Run) → 9 < digitOf (runsText rs)
+unfolding runsText digitOf isDigit
+runs-open [] = omega arith
+runs-open (r ∷ rs) = opened-part 0 runLine (r .first ∷ r .count ∷ []) (runsText rs) (runs-open rs) refl
+
+pub run-part : (r : Run) (rs : List Run) → r .first ≤ largest → r .count ≤ largest → partOf 2 runLine (runsText (r ∷ rs)) ≡ part (r .first ∷ r .count ∷ []) (runsText rs)
+unfolding runsText holes isDigit
+run-part r rs p q = part-written 2 0 runLine (r .first ∷ r .count ∷ []) (runsText rs) (runs-open rs) refl (omega arith) (p, (q, tt))
+
+pub no-run : partOf 2 runLine (runsText []) ≡ none []
+unfolding runsText partOf bytePart
+no-run = refl
+
+missing : {vs us end : List ℕ} → none vs ≡ part us end → ⊥
+missing h = let z : _≡_ {A = ℕ} 0 1 = cc in omega arith
+
+run-is : (r q : Run) → r .first ≡ q .first → r .count ≡ q .count → r ≡ q
+run-is r q a b = ap (λ (x : ℕ). record { first = x; count = r .count }) a ∙ ap (λ (y : ℕ). record { first = q .first; count = y }) b
+
+pub same-runs : (i j end stop : ℕ) (rs qs : List Run) → end ≤ largest → stop ≤ largest → Apart i end rs → Apart j stop qs → runsText rs ≡ runsText qs → rs ≡ qs
+same-runs i j end stop [] [] u v a b h = refl
+same-runs i j end stop [] (q ∷ qs) u v a b h =
+    absurd (missing (sym no-run ∙ ap (partOf 2 runLine) h ∙ run-part q qs (omega (arith, b .2)) (omega (arith, b .2))))
+same-runs i j end stop (r ∷ rs) [] u v a b h =
+    absurd (missing (sym no-run ∙ ap (partOf 2 runLine) (sym h) ∙ run-part r rs (omega (arith, a .2)) (omega (arith, a .2))))
+same-runs i j end stop (r ∷ rs) (q ∷ qs) u v a b h =
+    let e : part (r .first ∷ r .count ∷ []) (runsText rs) ≡ part (q .first ∷ q .count ∷ []) (runsText qs) =
+    sym (run-part r rs (omega (arith, a .2)) (omega (arith, a .2))) ∙ ap (partOf 2 runLine) h ∙ run-part q qs (omega (arith, b .2)) (omega (arith, b .2)) in
+    let f : r .first ≡ q .first = cc in
+    let c : r .count ≡ q .count = cc in
+    let t : runsText rs ≡ runsText qs = cc in
+    let w = run-is r q f c in
+    let l = same-runs (suc (r .first + r .count)) (suc (q .first + q .count)) end stop rs qs u v (a .3) (b .3) t in
+    cc
 
 -- ---- `run_at`
 
@@ -32,9 +69,6 @@ unfolding holes
 run-found s l o n e = let f = part-found runLine s l o n e in rw (f .at 0 refl, f .at 1 refl) (f .is)
 
 -- ---- `count_runs`
-
-missing : {vs us end : List ℕ} → none vs ≡ part us end → ⊥
-missing h = let z : _≡_ {A = ℕ} 0 1 = cc in omega arith
 
 bad-is : {n : ℕ} → Bad ≡ Blocks n → ⊥
 bad-is h = let z : _≡_ {A = ℕ} 0 1 = cc in omega arith
@@ -192,12 +226,23 @@ nothing-there : partOf 2 runLine [] ≡ none []
 unfolding partOf bytePart
 nothing-there = refl
 
+same-outside : (entry : List ℕ) (end : ℕ) → Outside entry entry 0 end
+same-outside entry end = record { same-length = refl; same-before = λ n h. refl; same-past = λ n h. refl }
+
+then-outside : (entry mid exit : List ℕ) (f c end : ℕ) → f + c ≤ end → Outside entry mid f (f + c) → Outside mid exit 0 end → Outside entry exit 0 end
+then-outside entry mid exit f c end h a b =
+    record {
+      same-length = b .same-length ∙ a .same-length;
+      same-before = λ n k. b .same-before n k ∙ a .same-before n (omega arith);
+      same-past = λ n k. b .same-past n k ∙ a .same-past n (omega arith);
+    }
+
 lays-none : (l entry : List ℕ) → ((us rest : List ℕ) → partOf 2 runLine l ≡ part us rest → ⊥) → Lays l entry entry
 unfolding laidOn
 lays-none l entry n = record { long = refl; laid = go }
   where
-    go : (from end : ℕ) (rs : List Run) → end ≤ largest → Apart from end rs → runsText rs ≡ l → blocks entry ≡ laidOn rs (blocks entry)
-    go from end [] h a t = refl
+    go : (from end : ℕ) (rs : List Run) → end ≤ largest → Apart from end rs → runsText rs ≡ l → LaidRuns end rs entry entry
+    go from end [] h a t = record { as-blocks = refl; outside = same-outside entry end }
     go from end (r ∷ rs) h a t =
         absurd (n _ _ (ap (partOf 2 runLine) (sym t) ∙ run-part r rs (omega (arith, a .2)) (omega (arith, a .2))))
 
@@ -205,7 +250,7 @@ lays-turn : (l rest : List ℕ) (f c : ℕ) (entry mid exit : List ℕ) → part
 unfolding laidOn
 lays-turn l rest f c entry mid exit e d o = record { long = o .long ∙ d .outside .same-length; laid = go }
   where
-    go : (from end : ℕ) (rs : List Run) → end ≤ largest → Apart from end rs → runsText rs ≡ l → blocks exit ≡ laidOn rs (blocks entry)
+    go : (from end : ℕ) (rs : List Run) → end ≤ largest → Apart from end rs → runsText rs ≡ l → LaidRuns end rs entry exit
     go from end [] h a t = absurd (missing (sym no-run ∙ ap (partOf 2 runLine) t ∙ e))
     go from end (r ∷ rs) h a t =
         let q : part (r .first ∷ r .count ∷ []) (runsText rs) ≡ part (f ∷ c ∷ []) rest =
@@ -214,7 +259,11 @@ lays-turn l rest f c entry mid exit e d o = record { long = o .long ∙ d .outsi
         let y : r .count ≡ c = cc in
         let w : runsText rs ≡ rest = cc in
         let b : blocks mid ≡ fill (blocks entry) (r .first) (r .count) true = d .as-blocks ∙ rw (x, y) in
-        o .laid (suc (r .first + r .count)) end rs h (a .3) w ∙ ap (laidOn rs) b
+        let m = o .laid (suc (r .first + r .count)) end rs h (a .3) w in
+        record {
+          as-blocks = m .as-blocks ∙ ap (laidOn rs) b;
+          outside = then-outside entry mid exit f c end (omega (arith, a .2)) (d .outside) (m .outside);
+        }
 
 -- the loop stands at i of the text: what is right for the text that is left is right for the whole
 pub record Setting (s : List ℕ) (at : ℕ) (entry : List ℕ) (i : ℕ) (cur : List ℕ) : Type 0 where

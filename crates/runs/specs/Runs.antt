@@ -32,3 +32,13 @@ spread i end (r ∷ rs) = replicate (r .first - i) false ++ (replicate (r .count
 abbrev pub Apart : (from end : ℕ) → List Run → Type 0
 Apart from end [] = Prim.Unit {0}
 Apart from end (r ∷ rs) = (from ≤ r .first) × (0 < r .count) × (r .first + r .count ≤ end) × Apart (suc (r .first + r .count)) end rs
+
+-- how many blocks runs have
+unfoldable pub total : List Run → ℕ
+total [] = 0
+total (r ∷ rs) = r .count + total rs
+
+-- the blocks with those of the runs set
+unfoldable pub laidOn : List Run → List Bool → List Bool
+laidOn [] bs = bs
+laidOn (r ∷ rs) bs = laidOn rs (fill bs (r .first) (r .count) true)

@@ -1,8 +1,8 @@
--- `save::run_ok` meets its contract.
-use Rattle.save.specs.Reading.{runOk}
+-- `runs::run_ok` meets its contract.
+use Rattle.runs.specs.Reading.{runOk}
 use borrow.Author.Needs.{needs}
-use Rattle.save.proofs.run_ok.Statement.{statement}
-use Rattle.save.proofs.run_ok.Tie as tie
+use Rattle.runs.proofs.run_ok.Statement.{statement}
+use Rattle.runs.proofs.run_ok.Tie as tie
 
 sum-within-requires : tie.Need-sum-within-requires
 sum-within-requires c κs = search needs

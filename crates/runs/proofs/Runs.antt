@@ -1,20 +1,21 @@
--- The runs of blocks tell the blocks, and the blocks the runs. Assumes nothing.
+-- The runs of blocks tell the blocks, and the blocks the runs.
 use Prim.Native.Nat.{ℕ, zero, suc, _+_, _-_, _≤_, _<_}
 use mathlib.Core.Path.{_≡_, refl, ap, _∙_, sym}
 use mathlib.Core.Bool.{Bool, true, false}
 use mathlib.Core.List.{List, [], _∷_, _++_, append-assoc, append-nil}
 use native.Mathlib.Omega.{arith}
 use lib.ListN.{length, replicate}
-use Rattle.save.specs.Runs.{Run, closed, runsFrom, runsOf, spread, Apart}
+use Rattle.runs.specs.Runs.{Run, closed, runsFrom, runsOf, spread, Apart}
+
+-- runs that are apart from a block on are so from any before it
+pub sooner : (m l end : ℕ) (rs : List Run) → l ≤ m → Apart m end rs → Apart l end rs
+sooner m l end [] q a = tt
+sooner m l end (r ∷ rs) q a = (omega (arith, a .0), a .1, a .2, a .3)
 
 -- ---- the runs of a list are apart
 closed-apart : (i n end : ℕ) (rs : List Run) → n ≤ i → i ≤ end → Apart (suc i) end rs → Apart (i - n) end (closed i n rs)
 unfolding closed
-closed-apart i zero end rs h k a = earlier (suc i) (i - 0) end rs (omega arith) a
-  where
-    earlier : (m l end : ℕ) (rs : List Run) → l ≤ m → Apart m end rs → Apart l end rs
-    earlier m l end [] q a = tt
-    earlier m l end (r ∷ rs) q a = (omega (arith, a .0), a .1, a .2, a .3)
+closed-apart i zero end rs h k a = sooner (suc i) (i - 0) end rs (omega arith) a
 closed-apart i (suc n) end rs h k a =
     let w : i - suc n + suc n ≡ i = omega arith in
     (omega arith, omega arith, omega arith, rw w a)
@@ -102,10 +103,6 @@ closed-run : (f c : ℕ) (rs : List Run) → 0 < c → closed (f + c) c rs ≡ r
 unfolding closed
 closed-run f zero rs h = absurd (omega arith)
 closed-run f (suc c) rs h = let w : f + suc c - suc c ≡ f = omega arith in rw w
-
-sooner : (m l end : ℕ) (rs : List Run) → l ≤ m → Apart m end rs → Apart l end rs
-sooner m l end [] q a = tt
-sooner m l end (r ∷ rs) q a = (omega (arith, a .0), a .1, a .2, a .3)
 
 pub runs-spread : (i end : ℕ) (rs : List Run) → Apart i end rs → runsFrom i 0 (spread i end rs) ≡ rs
 unfolding spread closed runsFrom

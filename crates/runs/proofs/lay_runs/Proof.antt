@@ -1,11 +1,11 @@
--- `save::lay_runs` meets its contract. The invariant: what is right for the text that is left is right for the whole (`Setting`).
+-- `runs::lay_runs` meets its contract. The invariant: what is right for the text that is left is right for the whole (`Setting`).
 use Prim.Native.Nat.{_-_}
 use native.Mathlib.Omega.{arith}
 use borrow.Author.Needs.{needs}
 use lib.ListN.{length}
-use Rattle.save.proofs.Lines.{Setting, setting-start, set-none, set-end, set-less, set-turn}
-use Rattle.save.proofs.lay_runs.Statement.{statement}
-use Rattle.save.proofs.lay_runs.Tie as tie
+use Rattle.runs.proofs.Lines.{Setting, setting-start, set-none, set-end, set-less, set-turn}
+use Rattle.runs.proofs.lay_runs.Statement.{statement}
+use Rattle.runs.proofs.lay_runs.Tie as tie
 
 abbrev Inv-loop : tie.InvT-loop
 Inv-loop s at bitmap₀ i₀ bitmap i = Setting s at bitmap₀ i bitmap

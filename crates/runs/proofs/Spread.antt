@@ -1,4 +1,4 @@
--- The runs of a state, and the state of runs: how many blocks there are, and that none lies past the usable size. Assumes nothing.
+-- The runs of a state, and the state of runs: how many blocks there are, and that none lies past the usable size.
 use Prim.Native.Nat.{ℕ, zero, suc, _+_, _-_, _*_, _/_, _%_, _≤_, _<_}
 use mathlib.Core.Path.{_≡_, refl, ap, _∙_, sym}
 use mathlib.Core.Bool.{Bool, true, false, _&&_, Bool·beq}
@@ -6,10 +6,10 @@ use mathlib.Core.List.{List, [], _∷_, _++_, append-assoc, append-nil}
 use native.Mathlib.Omega.{arith}
 use lib.ListN.{length, take, drop, replicate, length-append, length-take, length-drop}
 use Rattle.units.proofs.Tests.{and-right}
-use Rattle.bitmap.specs.Blocks.{every, ones, allAre, range}
-use Rattle.save.specs.Runs.{Run, closed, runsFrom, runsOf, spread, Apart}
-use Rattle.save.specs.Reading.{total}
-use Rattle.save.proofs.Runs.{runs-apart, comes-back}
+use Rattle.bitmap.specs.Blocks.{every, ones, allAre, range, fill}
+use Rattle.bitmap.proofs.Laws.{fill-left, fill-right, fill-whole}
+use Rattle.runs.specs.Runs.{Run, closed, runsFrom, runsOf, spread, Apart, total, laidOn}
+use Rattle.runs.proofs.Runs.{runs-apart, comes-back, sooner}
 
 same-length : (n : ℕ) (v : Bool) → length (replicate n v) ≡ n
 same-length zero v = refl
@@ -30,10 +30,6 @@ spread-length i end (r ∷ rs) h a =
     let u = same-length (r .first - i) false in
     let v = same-length (r .count) true in
     omega arith
-  where
-    sooner : (m l end : ℕ) (rs : List Run) → l ≤ m → Apart m end rs → Apart l end rs
-    sooner m l end [] q a = tt
-    sooner m l end (r ∷ rs) q a = (omega (arith, a .0), a .1, a .2, a .3)
 
 ones-false : (n : ℕ) (bs : List Bool) → ones (replicate n false ++ bs) ≡ ones bs
 unfolding ones
@@ -77,10 +73,6 @@ spread-more i end g (r ∷ rs) h a =
     let y = replicate (r .count) true in
     let n = spread-more behind end g rs (a .2) (sooner (suc behind) behind end rs (omega arith) (a .3)) in
     rw (n, append-assoc x (y ++ spread behind end rs) (replicate g false), append-assoc y (spread behind end rs) (replicate g false))
-  where
-    sooner : (m l end : ℕ) (rs : List Run) → l ≤ m → Apart m end rs → Apart l end rs
-    sooner m l end [] q a = tt
-    sooner m l end (r ∷ rs) q a = (omega (arith, a .0), a .1, a .2, a .3)
 
 clear-all : (c g : ℕ) → every false (take c (replicate g false)) ≡ true
 unfolding every
@@ -135,3 +127,57 @@ runs-inside bs used h e =
     let z : 0 + length (take used bs) ≡ used = omega arith in
     let q : Apart 0 used (runsOf (take used bs)) = rw z at (runs-apart 0 0 (take used bs) (omega arith)) in
     rw r at q
+
+-- ---- runs laid on clear blocks
+
+clear-fill : (c : ℕ) (ys : List Bool) → fill (replicate c false ++ ys) 0 c true ≡ replicate c true ++ ys
+clear-fill c ys =
+    let n = same-length c false in
+    fill-left (replicate c false) ys 0 c true (omega arith)
+    ∙ ap (λ (l : List Bool). l ++ ys) (fill-whole (replicate c false) c true (omega arith) ∙ ap (λ (m : ℕ). replicate m true) n)
+
+-- behind the blocks xs, whose number is i, the blocks up to `end` are clear
+laid-behind : (i end : ℕ) (rs : List Run) (xs rest : List Bool) → length xs ≡ i → i ≤ end → Apart i end rs
+    → laidOn rs (xs ++ (replicate (end - i) false ++ rest)) ≡ xs ++ (spread i end rs ++ rest)
+unfolding laidOn spread
+laid-behind i end [] xs rest n h a = refl
+laid-behind i end (r ∷ rs) xs rest n h a =
+    let p = a .0 in
+    let q = a .2 in
+    let behind = r .first + r .count in
+    let gap = replicate (r .first - i) false in
+    let set = replicate (r .count) true in
+    let left = replicate (end - behind) false ++ rest in
+    let u = same-length (r .first - i) false in
+    let v = same-length (r .count) true in
+    let cut : replicate (end - i) false ≡ gap ++ (replicate (r .count) false ++ replicate (end - behind) false) =
+    let z : end - i ≡ r .first - i + (r .count + (end - behind)) = omega arith in
+    ap (λ (m : ℕ). replicate m false) z ∙ more-clear (r .first - i) (r .count + (end - behind)) ∙ ap (λ (l : List Bool). gap ++ l) (more-clear (r .count) (end - behind)) in
+    let apart : xs ++ (replicate (end - i) false ++ rest) ≡ (xs ++ gap) ++ (replicate (r .count) false ++ left) =
+    ap (λ (l : List Bool). xs ++ (l ++ rest)) cut
+    ∙ ap (λ (l : List Bool). xs ++ l) (append-assoc gap (replicate (r .count) false ++ replicate (end - behind) false) rest ∙ ap (λ (l : List Bool). gap ++ l) (append-assoc (replicate (r .count) false) (replicate (end - behind) false) rest))
+    ∙ sym (append-assoc xs gap (replicate (r .count) false ++ left)) in
+    let long : length (xs ++ gap) ≡ r .first = length-append xs gap ∙ omega arith in
+    let z : r .first ≡ length (xs ++ gap) + 0 = omega arith in
+    let filled : fill (xs ++ (replicate (end - i) false ++ rest)) (r .first) (r .count) true ≡ ((xs ++ gap) ++ set) ++ left =
+    ap (λ (l : List Bool). fill l (r .first) (r .count) true) apart
+    ∙ ap (λ (m : ℕ). fill ((xs ++ gap) ++ (replicate (r .count) false ++ left)) m (r .count) true) z
+    ∙ fill-right (xs ++ gap) (replicate (r .count) false ++ left) 0 (r .count) true
+    ∙ ap (λ (l : List Bool). (xs ++ gap) ++ l) (clear-fill (r .count) left)
+    ∙ sym (append-assoc (xs ++ gap) set left) in
+    let longer : length ((xs ++ gap) ++ set) ≡ behind = length-append (xs ++ gap) set ∙ omega arith in
+    ap (laidOn rs) filled
+    ∙ laid-behind behind end rs ((xs ++ gap) ++ set) rest longer q (sooner (suc behind) behind end rs (omega arith) (a .3))
+    ∙ append-assoc (xs ++ gap) set (spread behind end rs ++ rest)
+    ∙ append-assoc xs gap (set ++ (spread behind end rs ++ rest))
+    ∙ ap (λ (l : List Bool). xs ++ (gap ++ l)) (sym (append-assoc set (spread behind end rs) rest))
+    ∙ ap (λ (l : List Bool). xs ++ l) (sym (append-assoc gap (set ++ spread behind end rs) rest))
+
+-- the runs of blocks, laid where as many are clear, are the blocks
+pub runs-laid : (bs rest : List Bool) → laidOn (runsOf bs) (replicate (length bs) false ++ rest) ≡ bs ++ rest
+runs-laid bs rest =
+    let z : 0 + length bs ≡ length bs = omega arith in
+    let y : length bs - 0 ≡ length bs = omega arith in
+    let a : Apart 0 (length bs) (runsOf bs) = rw z at (runs-apart 0 0 bs (omega arith)) in
+    rw y at (laid-behind 0 (length bs) (runsOf bs) [] rest refl (omega arith) a)
+    ∙ ap (λ (l : List Bool). l ++ rest) (comes-back bs)

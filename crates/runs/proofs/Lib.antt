@@ -1,0 +1,4 @@
+pub mod Runs
+pub mod Spread
+pub mod Lines
+mod Turns

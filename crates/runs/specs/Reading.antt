@@ -1,0 +1,39 @@
+-- What counting the runs of a text, and laying them on a bitmap, promise.
+use Prim.Native.Nat.{ℕ, _+_, _≤_}
+use mathlib.Core.Path.{_≡_}
+use mathlib.Core.Bool.{Bool, true, _&&_}
+use mathlib.Core.List.{List, [], _∷_}
+use lib.Dec.{leb, ltb}
+use lib.ListN.{length, drop}
+use Rattle.text.specs.Decimal.{largest}
+use Rattle.bitmap.specs.Blocks.{blocks, Outside}
+use Rattle.forms.specs.Scanning.{part, partOf}
+use Rattle.runs.specs.declared.RunLine.{RunLine}
+use Rattle.runs.specs.declared.RunLine.the-variants as line
+use Rattle.runs.specs.declared.Counted.{Counted}
+use Rattle.runs.specs.declared.Counted.the-variants.{Blocks, Bad}
+use Rattle.runs.specs.Runs.{Run, Apart, total, laidOn}
+use Rattle.runs.specs.Text.{runLine, runsText}
+
+-- the text l, which is s from some position on, starts with a run's line, or it does not
+abbrev pub IsRun : (s l : List ℕ) → RunLine → Type 0
+IsRun s l (line.At first count next) = partOf 2 runLine l ≡ part (first ∷ count ∷ []) (drop next s)
+IsRun s l line.Bad = (us rest : List ℕ) → partOf 2 runLine l ≡ part us rest → ⊥
+
+unfoldable pub runOk : (first count from end : ℕ) → Bool
+runOk first count from end = leb from first && (ltb 0 count && leb (first + count) end)
+
+-- l is the text of runs that are apart, from block `from` on and none past `end`, and w counts their blocks on from `sum`; or it is no such text
+pub record Counts (from end sum : ℕ) (l : List ℕ) (w : Counted) : Type 0 where
+  pub whole : (rs : List Run) → Apart from end rs → runsText rs ≡ l → w ≡ Blocks (sum + total rs)
+  pub only : (n : ℕ) → w ≡ Blocks n → (rs : List Run) × Apart from end rs × (runsText rs ≡ l) × (n ≡ sum + total rs)
+
+-- the blocks of runs were set, no other changed, and no byte past them was touched
+pub record LaidRuns (end : ℕ) (rs : List Run) (entry exit : List ℕ) : Type 0 where
+  pub as-blocks : blocks exit ≡ laidOn rs (blocks entry)
+  pub outside : Outside entry exit 0 end
+
+-- where l is the text of runs, they were laid
+pub record Lays (l entry exit : List ℕ) : Type 0 where
+  pub long : length exit ≡ length entry
+  pub laid : (from end : ℕ) (rs : List Run) → end ≤ largest → Apart from end rs → runsText rs ≡ l → LaidRuns end rs entry exit

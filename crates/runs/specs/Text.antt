@@ -1,0 +1,13 @@
+-- The lines of runs: "run=first,count", each ended by one newline, the last too.
+use Prim.Native.Nat.{ℕ}
+use mathlib.Core.List.{List, [], _∷_, _++_}
+use Rattle.text.specs.Words.{bytes}
+use Rattle.forms.specs.Forms.{filled}
+use Rattle.runs.specs.Runs.{Run}
+
+abbrev pub runLine : List ℕ
+runLine = bytes "run=#,#\n"
+
+unfoldable pub runsText : List Run → List ℕ
+runsText [] = []
+runsText (r ∷ rs) = filled runLine (r .first ∷ r .count ∷ []) ++ runsText rs

@@ -1,0 +1,148 @@
+// SPDX-License-Identifier: Apache-2.0 AND BSD-3-Clause
+// The runs of plugged blocks as text, one line for each longest run: written from a packed bitmap, counted, and laid on a bitmap.
+use forms::Place;
+use units::held_sum;
+use units::sum_within;
+ghost use mathlib.Core.Path.{_≡_};
+ghost use mathlib.Core.List.{[]};
+ghost use Prim.Native.Nat.{_≤_};
+ghost use lib.ListN.{take, drop, length};
+ghost use Rattle.units.specs.Numbers.{held};
+ghost use Rattle.text.specs.Putting.{Put};
+ghost use Rattle.bitmap.specs.Blocks.{blocks};
+ghost use Rattle.runs.specs.Runs.{closed, runsOf};
+ghost use Rattle.runs.specs.Text.{runsText};
+ghost use Rattle.runs.specs.Reading.{IsRun, runOk, Counts, Lays};
+
+// How many bytes a run's line has room for: more than any has.
+const LINE: usize = 64;
+
+// Puts the run of the n set blocks that end before block i, if there are any.
+fn put_run(out: &mut [u8], at: usize, i: usize, n: usize) -> usize
+    requires { ⌜ n ≤ i ⌝ }
+    ensures { λ r. ⌜ Put (now (out .entry)) at (runsText (closed i n [])) (now (out .exit)) r ⌝ }
+{
+    if n == 0 {
+        return forms::within(at, out.len());
+    }
+    forms::put_form_at(out, at, b"run=#,#\n", &[(i - n) as u64, n as u64])
+}
+
+// Puts the runs of set blocks among the first `end`.
+pub fn put_runs(out: &mut [u8], at: usize, bitmap: &[u8], end: usize) -> usize
+    ensures { λ r. ⌜ Put (now (out .entry)) at (runsText (runsOf (take end (blocks (now (bitmap .entry)))))) (now (out .exit)) r ⌝ }
+{
+    let mut to = forms::within(at, out.len());
+    let mut i = 0;
+    let mut n = 0;
+    while i < end {
+        if bitmap::is_set(bitmap, i) {
+            n += 1;
+            i += 1;
+        } else {
+            to = put_run(out, to, i, n);
+            n = 0;
+            i += 1;
+        }
+    }
+    put_run(out, to, i, n)
+}
+
+// How long the line is of the n set blocks that end before block i.
+fn line_length(i: usize, n: usize) -> u64
+    requires { ⌜ n ≤ i ⌝ }
+    ensures { λ r. ⌜ r ≡ length (runsText (closed i n [])) ⌝ }
+{
+    let mut line = [0u8; LINE];
+    put_run(&mut line, 0, i, n) as u64
+}
+
+// How long the text is of the runs of set blocks among the first `end`.
+pub fn runs_length(bitmap: &[u8], end: usize) -> u64
+    ensures { λ r. ⌜ r ≡ held (length (runsText (runsOf (take end (blocks (now (bitmap .entry))))))) ⌝ }
+{
+    let mut sum = 0;
+    let mut i = 0;
+    let mut n = 0;
+    while i < end {
+        if bitmap::is_set(bitmap, i) {
+            n += 1;
+            i += 1;
+        } else {
+            sum = held_sum(sum, line_length(i, n));
+            n = 0;
+            i += 1;
+        }
+    }
+    held_sum(sum, line_length(i, n))
+}
+
+// A run's line, and where the text goes on.
+enum RunLine {
+    At { first: u64, count: u64, next: usize },
+    Bad,
+}
+
+// How many blocks the runs of a text have.
+pub enum Counted {
+    Blocks(u64),
+    Bad,
+}
+
+// The run's line at a position of a text.
+fn run_at(s: &[u8], at: usize) -> RunLine
+    ensures { λ r. ⌜ IsRun (now (s .entry)) (drop at (now (s .entry))) r ⌝ }
+{
+    let mut v = [0u64; 2];
+    let Place::At(next) = forms::scan_at(s, at, b"run=#,#\n", &mut v) else {
+        return RunLine::Bad;
+    };
+    RunLine::At {
+        first: v[0],
+        count: v[1],
+        next,
+    }
+}
+
+// Whether a run is not empty, begins at `from` or after and ends at `end` or before.
+fn run_ok(first: u64, count: u64, from: u64, end: u64) -> bool
+    ensures { λ r. ⌜ r ≡ runOk first count from end ⌝ }
+{
+    (from <= first) & ((0 < count) & sum_within(first, count, end))
+}
+
+// Whether the text from a position on is that of runs that neither touch nor fall back, none past block `end`; and how many blocks
+// they have.
+pub fn count_runs(s: &[u8], at: usize, end: u32) -> Counted
+    ensures { λ r. ⌜ Counts 0 end 0 (drop at (now (s .entry))) r ⌝ }
+{
+    let mut i = at;
+    let mut from = 0;
+    let mut sum = 0;
+    while i < s.len() {
+        let RunLine::At { first, count, next } = run_at(s, i) else {
+            return Counted::Bad;
+        };
+        if !run_ok(first, count, from, end as u64) {
+            return Counted::Bad;
+        }
+        sum += count;
+        from = first + count + 1;
+        i = next;
+    }
+    Counted::Blocks(sum)
+}
+
+// Sets the blocks of the runs that stand in a text from a position on.
+pub fn lay_runs(s: &[u8], at: usize, bitmap: &mut [u8])
+    ensures { λ _. ⌜ Lays (drop at (now (s .entry))) (now (bitmap .entry)) (now (bitmap .exit)) ⌝ }
+{
+    let mut i = at;
+    while i < s.len() {
+        let RunLine::At { first, count, next } = run_at(s, i) else {
+            return;
+        };
+        bitmap::set_range(bitmap, first as usize, count as usize, true);
+        i = next;
+    }
+}
