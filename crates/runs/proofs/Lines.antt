@@ -1,5 +1,5 @@
 -- One text for runs that are apart, and one list of runs for a text; and what each step of reading does.
-use Prim.Native.Nat.{ℕ, zero, suc, _+_, _-_, _≤_, _<_}
+use Prim.Native.Nat.{ℕ, zero, suc, _+_, _-_, _*_, _≤_, _<_}
 use mathlib.Core.Path.{_≡_, refl, ap, _∙_, sym}
 use mathlib.Core.Bool.{Bool, true, false, _&&_, not}
 use mathlib.Core.List.{List, [], _∷_, _++_}
@@ -15,6 +15,7 @@ use Rattle.forms.specs.Forms.{holes, filled, filledFrom}
 use Rattle.forms.specs.Scanning.{Part, part, none, bytePart, partOf, ScannedAt}
 use Rattle.forms.specs.declared.Place.{Place}
 use Rattle.forms.specs.declared.Place.the-variants as place
+use Rattle.forms.proofs.Laws.{filled-length}
 use Rattle.forms.proofs.Parts.{opened-part, part-written, part-found, part-read}
 use Rattle.runs.specs.declared.Counted.{Counted}
 use Rattle.runs.specs.declared.Counted.the-variants.{Blocks, Bad}
@@ -297,3 +298,16 @@ module _ {s : List ℕ} {at : ℕ} {entry : List ℕ} {i : ℕ} {cur : List ℕ}
           back = λ x v. o .back x (lays-turn (drop i s) (drop n s) f c cur cur′ x (line-at s (drop i s) r q f c n e) d v);
           long = d .outside .same-length ∙ o .long;
         }
+
+-- ---- how long the lines are
+
+-- no line is longer than 46 bytes, and each run has a block
+pub runs-short : (from end : ℕ) (rs : List Run) → end ≤ largest → Apart from end rs → length (runsText rs) ≤ 46 * total rs
+unfolding runsText total holes
+runs-short from end [] h a = omega arith
+runs-short from end (r ∷ rs) h a =
+    let some = a .1 in
+    let l = filled-length 0 runLine (r .first ∷ r .count ∷ []) (omega (arith, a .2), (omega (arith, a .2), tt)) in
+    let n = length-append (filled runLine (r .first ∷ r .count ∷ [])) (runsText rs) in
+    let i = runs-short (suc (r .first + r .count)) end rs h (a .3) in
+    omega arith

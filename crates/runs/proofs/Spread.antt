@@ -11,7 +11,7 @@ use Rattle.bitmap.proofs.Laws.{fill-left, fill-right, fill-whole}
 use Rattle.runs.specs.Runs.{Run, closed, runsFrom, runsOf, spread, Apart, total, laidOn}
 use Rattle.runs.proofs.Runs.{runs-apart, comes-back, sooner}
 
-same-length : (n : ℕ) (v : Bool) → length (replicate n v) ≡ n
+pub same-length : (n : ℕ) (v : Bool) → length (replicate n v) ≡ n
 same-length zero v = refl
 same-length (suc n) v = ap suc (same-length n v)
 
@@ -97,13 +97,13 @@ runs-clear i n g [] = end-clear i n g
 runs-clear i n g (true ∷ xs) = runs-clear (suc i) (suc n) g xs
 runs-clear i n g (false ∷ xs) = ap (closed i n) (runs-clear (suc i) 0 g xs)
 
-every-clear : (ys : List Bool) → every false ys ≡ true → ys ≡ replicate (length ys) false
+pub every-clear : (ys : List Bool) → every false ys ≡ true → ys ≡ replicate (length ys) false
 unfolding every
 every-clear [] e = refl
 every-clear (true ∷ ys) e = let z : _≡_ {A = ℕ} 0 1 = cc in absurd (omega arith)
 every-clear (false ∷ ys) e = ap (λ (l : List Bool). false ∷ l) (every-clear ys e)
 
-take-drop : (n : ℕ) (bs : List Bool) → take n bs ++ drop n bs ≡ bs
+pub take-drop : (n : ℕ) (bs : List Bool) → take n bs ++ drop n bs ≡ bs
 take-drop zero bs = refl
 take-drop (suc n) [] = refl
 take-drop (suc n) (b ∷ bs) = ap (λ (l : List Bool). b ∷ l) (take-drop n bs)

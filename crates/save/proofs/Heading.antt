@@ -1,4 +1,4 @@
--- The head of a text, and the whole of it. Assumes nothing.
+-- The head of a text, and the whole of it.
 use Prim.Native.Nat.{ℕ, zero, suc, _+_, _≤_, _<_}
 use mathlib.Core.Path.{_≡_, refl, ap, _∙_, sym}
 use mathlib.Core.Bool.{Bool, true, false, cond}
@@ -18,10 +18,11 @@ use Rattle.save.specs.declared.Head.{Head}
 use Rattle.save.specs.declared.Head.the-variants as head
 use Rattle.save.specs.declared.Checked.{Checked}
 use Rattle.save.specs.declared.Checked.the-variants as checked
-use Rattle.save.specs.Runs.{runsOf}
-use Rattle.save.specs.Text.{formLine, fieldLines, fieldsOf, runsText, textOf, State}
+use Rattle.runs.specs.Runs.{runsOf}
+use Rattle.runs.specs.Text.{runsText}
+use Rattle.save.specs.Text.{formLine, fieldLines, fieldsOf, textOf, State, Says}
 use Rattle.save.specs.Reading.{Laid, laterPart, isLater, IsFields, NoState, Heads, Refuses, IsHead, Accepts, Checks}
-use Rattle.save.proofs.Text.{form-part, fields-part, fields-are, state-words}
+use Rattle.save.proofs.Text.{says-form, fields-part, fields-are, state-words, state-block}
 
 -- ---- `fields_at`
 
@@ -44,59 +45,46 @@ unfolding laterPart
 not-later (part us rest) n = absurd (n us rest refl)
 not-later (none us) n = refl
 
-pub head-none : (s : List ℕ) → ((us rest : List ℕ) → partOf 1 formLine s ≡ part us rest → ⊥) → Refuses 4194304 s 18
+pub head-none : (s : List ℕ) → ((us rest : List ℕ) → partOf 1 formLine s ≡ part us rest → ⊥) → Refuses s 18
 head-none s n =
     let e = not-later (partOf 1 formLine s) n in
-    record {
-      number-is = rw e;
-      no-state = λ f bs st t. n _ _ (ap (partOf 1 formLine) (sym t) ∙ form-part 2 f bs (omega arith));
-    }
+    record { number-is = rw e; no-state = λ f bs h. n _ _ (says-form h) }
 
 module _ (s : List ℕ) (n : ℕ) (rest : List ℕ) (e : partOf 1 formLine s ≡ part (n ∷ []) rest) where
   later-is : isLater s ≡ ltb 2 n
   unfolding laterPart
   later-is = rw e
 
-  form-is : (f : Fields) (bs : List Bool) → textOf 2 f bs ≡ s → (2 ≡ n) × (filled (fieldLines 2) (fieldsOf f) ++ runsText (runsOf bs) ≡ rest)
-  form-is f bs t =
-      let q : part (2 ∷ []) (filled (fieldLines 2) (fieldsOf f) ++ runsText (runsOf bs)) ≡ part (n ∷ []) rest =
-      sym (form-part 2 f bs (omega arith)) ∙ ap (partOf 1 formLine) t ∙ e in
+  form-is : (f : Fields) (bs : List Bool) → Says s f bs → (2 ≡ n) × (filled (fieldLines 2) (fieldsOf f) ++ runsText (runsOf bs) ≡ rest)
+  form-is f bs h =
+      let q : part (2 ∷ []) (filled (fieldLines 2) (fieldsOf f) ++ runsText (runsOf bs)) ≡ part (n ∷ []) rest = sym (says-form h) ∙ e in
       (cc, cc)
 
-  pub head-later : 2 < n → Refuses 4194304 s 19
+  pub head-later : 2 < n → Refuses s 19
   head-later h =
       let l = later-is in
-      record {
-        number-is = rw (l, lt-ltb 2 n h);
-        no-state = λ f bs st t. let q = form-is f bs t .0 in omega arith;
-      }
+      record { number-is = rw (l, lt-ltb 2 n h); no-state = λ f bs t. let q = form-is f bs t .0 in omega arith }
 
-  pub head-other : n ≤ 2 → (n ≡ 2 → ⊥) → Refuses 4194304 s 18
+  pub head-other : n ≤ 2 → (n ≡ 2 → ⊥) → Refuses s 18
   head-other h d =
       let l = later-is in
-      record {
-        number-is = rw (l, le-ltb 2 n h);
-        no-state = λ f bs st t. d (sym (form-is f bs t .0));
-      }
+      record { number-is = rw (l, le-ltb 2 n h); no-state = λ f bs t. d (sym (form-is f bs t .0)) }
 
 -- the text is of form 2, and goes on with `rest`
 module _ (s rest : List ℕ) (e : partOf 1 formLine s ≡ part (2 ∷ []) rest) where
   now-later : isLater s ≡ false
   now-later = later-is s 2 rest e ∙ le-ltb 2 2 (omega arith)
 
-  fields-is : (f : Fields) (bs : List Bool) → State 4194304 f bs → textOf 2 f bs ≡ s → partOf 5 (fieldLines 2) rest ≡ part (fieldsOf f) (runsText (runsOf bs))
-  fields-is f bs st t = ap (partOf 5 (fieldLines 2)) (sym (form-is s 2 rest e f bs t .1)) ∙ fields-part 2 f (runsOf bs) (state-words st)
+  fields-is : (f : Fields) (bs : List Bool) → Says s f bs → partOf 5 (fieldLines 2) rest ≡ part (fieldsOf f) (runsText (runsOf bs))
+  fields-is f bs h = ap (partOf 5 (fieldLines 2)) (sym (form-is s 2 rest e f bs h .1)) ∙ fields-part 2 f (runsOf bs) (state-words (h .state))
 
-  pub head-fields : (r : Head) → IsFields s rest r → IsHead 4194304 s r
-  head-fields (head.At f n) h = record { rest = rest; form = e; fields = h }
+  pub head-fields : (r : Head) → IsFields s rest r → IsHead s r
+  head-fields (head.At f n) h = record { rest = rest; form = e; block = h .0; fields = h .1 }
   head-fields (head.Refused k) h =
       let l = now-later in
-      record {
-        number-is = rw l (h .0);
-        no-state = λ f bs st t. h .1 _ _ (fields-is f bs st t);
-      }
+      record { number-is = rw l (h .0); no-state = λ f bs t. h .1 _ _ (fields-is f bs t) }
 
-pub head-two : (s rest : List ℕ) (n : ℕ) → partOf 1 formLine s ≡ part (n ∷ []) rest → n ≡ 2 → (r : Head) → IsFields s rest r → IsHead 4194304 s r
+pub head-two : (s rest : List ℕ) (n : ℕ) → partOf 1 formLine s ≡ part (n ∷ []) rest → n ≡ 2 → (r : Head) → IsFields s rest r → IsHead s r
 head-two s rest n e q r h = head-fields s rest (rw q at e) r h
 
 -- ---- `check`
@@ -112,24 +100,24 @@ module _ (s : List ℕ) (f : Fields) (n : ℕ) (h : Heads s f n) where
       ∙ ap (λ (l : List ℕ). filled formLine (2 ∷ []) ++ l) b
       ∙ a
 
-  same-fields : (g : Fields) (bs : List Bool) → State 4194304 g bs → textOf 2 g bs ≡ s → (g ≡ f) × (runsText (runsOf bs) ≡ drop n s)
-  same-fields g bs st t =
-      let q : part (fieldsOf g) (runsText (runsOf bs)) ≡ part (fieldsOf f) (drop n s) = sym (fields-is s (h .rest) (h .form) g bs st t) ∙ h .fields in
-      (fields-are g f (cc) (cc) (cc) (cc) (cc), cc)
+  same-fields : (g : Fields) (bs : List Bool) → Says s g bs → (g ≡ f) × (runsText (runsOf bs) ≡ drop n s)
+  same-fields g bs t =
+      let q : part (fieldsOf g) (runsText (runsOf bs)) ≡ part (fieldsOf f) (drop n s) = sym (fields-is s (h .rest) (h .form) g bs t) ∙ h .fields in
+      (fields-are g f (state-block (t .state) ∙ sym (h .block)) (cc) (cc) (cc) (cc) (cc), cc)
 
-  pub checked-whole : (r : Checked) → Laid 4194304 f n (drop n s) r → Checks 4194304 s r
+  pub checked-whole : (r : Checked) → Laid f n (drop n s) r → Checks s r
   checked-whole (checked.State g runs) l =
       let d = l .2 in
-      rw (l .0, l .1) (record { bs = d .0; state = d .1; text = whole-text (d .0) (d .2); rest = d .2 })
+      rw (l .0, l .1) (record { bs = d .0; says = record { state = d .1; text = whole-text (d .0) (d .2) }; rest = d .2 })
   checked-whole (checked.Refused k) l =
       let z = now-later s (h .rest) (h .form) in
       record {
         number-is = rw z (l .0);
-        no-state = λ g bs st t. let q = same-fields g bs st t in l .1 bs (rw (q .0) at st) (q .1);
+        no-state = λ g bs t. let q = same-fields g bs t in l .1 bs (rw (q .0) at (t .state)) (q .1);
       }
 
-pub heads-at : (s : List ℕ) (r : Head) → IsHead 4194304 s r → (f : Fields) (n : ℕ) → r ≡ head.At f n → Heads s f n
-heads-at s r h f n e = let g : IsHead 4194304 s (head.At f n) = rw e at h in g
+pub heads-at : (s : List ℕ) (r : Head) → IsHead s r → (f : Fields) (n : ℕ) → r ≡ head.At f n → Heads s f n
+heads-at s r h f n e = let g : IsHead s (head.At f n) = rw e at h in g
 
-pub heads-refused : (s : List ℕ) (r : Head) → IsHead 4194304 s r → (k : ℕ) → r ≡ head.Refused k → Refuses 4194304 s k
-heads-refused s r h k e = let g : IsHead 4194304 s (head.Refused k) = rw e at h in g
+pub heads-refused : (s : List ℕ) (r : Head) → IsHead s r → (k : ℕ) → r ≡ head.Refused k → Refuses s k
+heads-refused s r h k e = let g : IsHead s (head.Refused k) = rw e at h in g

@@ -1,4 +1,4 @@
--- `runs_of`: the fields and the runs of a text make a state, or no state has them. Assumes nothing.
+-- `runs_of`: the fields and the runs of a text make a state, or no state has them.
 use Prim.Native.Nat.{ℕ, zero, suc, _+_, _-_, _*_, _/_, _%_, _≤_, _<_}
 use mathlib.Core.Path.{_≡_, refl, ap, _∙_, sym}
 use mathlib.Core.Bool.{Bool, true, false, _&&_, not}
@@ -10,16 +10,16 @@ use lib.ListN.{length, take, drop, replicate}
 use Rattle.units.proofs.Tests.{and-left, and-right, refused}
 use Rattle.units.specs.Numbers.{bytesOf, blocksIn}
 use Rattle.bitmap.specs.Blocks.{every, ones, allAre}
-use Rattle.record.specs.Shape.{shapedOf}
-use Rattle.record.proofs.Laws.{Shaped, shaped-is}
 use Rattle.save.specs.declared.Fields.{Fields}
-use Rattle.save.specs.declared.Counted.{Counted}
-use Rattle.save.specs.declared.Counted.the-variants.{Blocks, Bad}
-use Rattle.save.specs.Runs.{Run, runsOf, spread, Apart}
-use Rattle.save.specs.Text.{runsText, deviceOf, validOf, State}
-use Rattle.save.specs.Reading.{total, Counts}
-use Rattle.save.proofs.Runs.{runs-spread}
-use Rattle.save.proofs.Spread.{spread-length, spread-ones, spread-more, past-clear, runs-ones, runs-inside}
+use Rattle.runs.specs.declared.Counted.{Counted}
+use Rattle.runs.specs.declared.Counted.the-variants.{Blocks, Bad}
+use Rattle.runs.specs.Runs.{Run, runsOf, spread, Apart, total}
+use Rattle.runs.specs.Text.{runsText}
+use Rattle.runs.specs.Reading.{Counts}
+use Rattle.runs.proofs.Runs.{runs-spread}
+use Rattle.runs.proofs.Spread.{spread-length, spread-ones, spread-more, past-clear, runs-ones, runs-inside}
+use Rattle.save.specs.Text.{shapeOk, allOf, usedOf, validOf, State}
+use Rattle.save.proofs.Text.{shape-is, in-blocks, valid-shape, valid-past, valid-plugged, state-block}
 
 later : (i end stop : ℕ) (rs : List Run) → end ≤ stop → Apart i end rs → Apart i stop rs
 later i end stop [] h a = tt
@@ -31,31 +31,17 @@ bad-is h = let z : _≡_ {A = ℕ} 0 1 = cc in omega arith
 blocks-is : {m n : ℕ} → Blocks m ≡ Blocks n → m ≡ n
 blocks-is h = cc
 
--- what validity says, part by part
-module _ {f : Fields} {bs : List Bool} (st : State 4194304 f bs) where
-  valid-shape : shapedOf (deviceOf 4194304 f) ≡ true
-  unfolding validOf
-  valid-shape = and-left (shapedOf (deviceOf 4194304 f)) _ (st .valid)
-
-  valid-past : allAre bs (blocksIn 4194304 (f .usable)) (blocksIn 4194304 (f .region) - blocksIn 4194304 (f .usable)) false ≡ true
-  unfolding validOf
-  valid-past =
-      and-left (allAre bs (blocksIn 4194304 (f .usable)) (blocksIn 4194304 (f .region) - blocksIn 4194304 (f .usable)) false) _ (and-right (shapedOf (deviceOf 4194304 f)) _ (st .valid))
-
-  valid-plugged : f .plugged ≡ ones bs * 4194304
-  unfolding validOf
-  valid-plugged =
-      eqb-true (f .plugged) (bytesOf 4194304 (ones bs))
-      (and-right (allAre bs (blocksIn 4194304 (f .usable)) (blocksIn 4194304 (f .region) - blocksIn 4194304 (f .usable)) false) _ (and-right (shapedOf (deviceOf 4194304 f)) _ (st .valid)))
-
 -- the state of runs
-made : (f : Fields) (end : ℕ) → shapedOf (deviceOf 4194304 f) ≡ true → end ≡ blocksIn 4194304 (f .usable) → (rs : List Run) → Apart 0 end rs → (l : List ℕ) → runsText rs ≡ l → f .plugged ≡ total rs * 4194304
-    → (bs : List Bool) × State 4194304 f bs × (runsText (runsOf bs) ≡ l)
+made : (f : Fields) (end : ℕ) → shapeOk f ≡ true → end ≡ f .usable / 4194304 → (rs : List Run) → Apart 0 end rs → (l : List ℕ) → runsText rs ≡ l → f .plugged ≡ total rs * 4194304
+    → (bs : List Bool) × State f bs × (runsText (runsOf bs) ≡ l)
 unfolding validOf
 made f end s u rs a l t k =
-    let all = blocksIn 4194304 (f .region) in
-    let h = shaped-is (deviceOf 4194304 f) s .usable-in in
-    let i : end ≤ f .region / 4194304 = omega arith in
+    let all = allOf f in
+    let h = shape-is f s .usable-in in
+    let b4 = shape-is f s .block-size in
+    let ra = in-blocks f s (f .region) in
+    let ua = in-blocks f s (f .usable) in
+    let i : end ≤ all = omega arith in
     let g = all - end in
     let z : all ≡ end + g = omega arith in
     let bs = spread 0 all rs in
@@ -66,44 +52,55 @@ made f end s u rs a l t k =
     let y : allAre (spread 0 end rs ++ replicate g false) end g false ≡ true = rw m at (past-clear g g (spread 0 end rs)) in
     let p : allAre (spread 0 all rs) end g false ≡ true = rw x y in
     let o = spread-ones 0 all rs in
-    let q : eqb (f .plugged) (ones (spread 0 all rs) * 4194304) ≡ true = rw o (eq-eqb (f .plugged) (total rs * 4194304) k) in (
+    let e : end ≡ usedOf f = u ∙ sym ua in
+    let q : eqb (f .plugged) (ones (spread 0 all rs) * f .block) ≡ true = rw (o, b4) (eq-eqb (f .plugged) (total rs * 4194304) k) in (
       spread 0 all rs,
-      record { all = n; valid = rw (s, ← u, p, q) },
+      record { all = n; valid = rw (s, ← e, p, q) },
       ap runsText (runs-spread 0 all rs b) ∙ t,
     )
 
-pub laid-shape : (f : Fields) (l : List ℕ) (r : Bool) → r ≡ shapedOf (deviceOf 4194304 f) → not r ≡ true → (_≡_ {A = ℕ} 18 18) × ((bs : List Bool) → State 4194304 f bs → runsText (runsOf bs) ≡ l → ⊥)
+-- l is not the text of the runs of a state with these fields
+abbrev No : Fields → List ℕ → Type 0
+No f l = (_≡_ {A = ℕ} 18 18) × ((bs : List Bool) → State f bs → runsText (runsOf bs) ≡ l → ⊥)
+
+pub laid-shape : (f : Fields) (l : List ℕ) (r : Bool) → r ≡ shapeOk f → not r ≡ true → No f l
 laid-shape f l r p q =
-    (refl, λ bs st t. let a = refused (shapedOf (deviceOf 4194304 f)) r p q in let b = valid-shape st in let z : _≡_ {A = ℕ} 0 1 = cc in omega arith)
+    (refl, λ bs st t. let a = refused (shapeOk f) r p q in let b = valid-shape st in let z : _≡_ {A = ℕ} 0 1 = cc in omega arith)
 
-module _ (f : Fields) (end : ℕ) (s : shapedOf (deviceOf 4194304 f) ≡ true) (u : end ≡ blocksIn 4194304 (f .usable)) where
-  pub end-few : end ≤ 1099511627776
-  end-few = let h = shaped-is (deviceOf 4194304 f) s in let a = h .usable-in in let b = h .region-top in omega arith
+module _ (f : Fields) (end : ℕ) (s : shapeOk f ≡ true) (u : end ≡ f .usable / 4194304) where
+  pub end-few : end ≤ 262144
+  end-few = let h = shape-is f s in let a = h .usable-in in let b = h .region-top in omega arith
 
-  state-runs : (bs : List Bool) → State 4194304 f bs → Apart 0 end (runsOf bs)
+  state-runs : (bs : List Bool) → State f bs → Apart 0 end (runsOf bs)
   state-runs bs st =
-      let h = shaped-is (deviceOf 4194304 f) s .usable-in in
+      let h = shape-is f s .usable-in in
       let a = st .all in
-      let p : allAre bs end (length bs - end) false ≡ true = rw (a, u) (valid-past st) in
+      let ra = in-blocks f s (f .region) in
+      let e : end ≡ usedOf f = u ∙ sym (in-blocks f s (f .usable)) in
+      let p : allAre bs end (length bs - end) false ≡ true = rw (a, e) (valid-past st) in
       runs-inside bs end (omega arith) p
 
-  module _ (l : List ℕ) (w : Counted) (c : Counts 0 end 0 l w) where
-    pub laid-bad : w ≡ Bad → (_≡_ {A = ℕ} 18 18) × ((bs : List Bool) → State 4194304 f bs → runsText (runsOf bs) ≡ l → ⊥)
-    laid-bad e = (refl, λ bs st t. bad-is (sym e ∙ c .whole (runsOf bs) (state-runs bs st) t))
+  -- `end` as the code hands it on
+  module _ (e : ℕ) (same : e ≡ end) (l : List ℕ) (w : Counted) (c : Counts 0 e 0 l w) where
+    counts : Counts 0 end 0 l w
+    counts = rw same at c
 
-    module _ (n plugged : ℕ) (e : w ≡ Blocks n) (v : plugged ≡ blocksIn 4194304 (f .plugged)) where
-      pub laid-other : (plugged ≡ n → ⊥) → (_≡_ {A = ℕ} 18 18) × ((bs : List Bool) → State 4194304 f bs → runsText (runsOf bs) ≡ l → ⊥)
+    pub laid-bad : w ≡ Bad → No f l
+    laid-bad q = (refl, λ bs st t. bad-is (sym q ∙ counts .whole (runsOf bs) (state-runs bs st) t))
+
+    module _ (n plugged : ℕ) (q : w ≡ Blocks n) (v : plugged ≡ f .plugged / 4194304) where
+      pub laid-other : (plugged ≡ n → ⊥) → No f l
       laid-other d = (
         refl,
         λ bs st t.
-            let a : n ≡ 0 + total (runsOf bs) = blocks-is (sym e ∙ c .whole (runsOf bs) (state-runs bs st) t) in
+            let a : n ≡ 0 + total (runsOf bs) = blocks-is (sym q ∙ counts .whole (runsOf bs) (state-runs bs st) t) in
             let b = runs-ones bs in
-            let k = valid-plugged st in
+            let k : f .plugged ≡ ones bs * 4194304 = rw (state-block st) at (valid-plugged st) in
             d (omega arith),
       )
 
-      pub laid : plugged ≡ n → (bs : List Bool) × State 4194304 f bs × (runsText (runsOf bs) ≡ l)
-      laid d = go (c .only n e .0) (c .only n e .1) (c .only n e .2) (c .only n e .3)
+      pub laid : plugged ≡ n → (bs : List Bool) × State f bs × (runsText (runsOf bs) ≡ l)
+      laid d = let o = counts .only n q in go (o .0) (o .1) (o .2) (o .3)
         where
-          go : (rs : List Run) → Apart 0 end rs → runsText rs ≡ l → n ≡ 0 + total rs → (bs : List Bool) × State 4194304 f bs × (runsText (runsOf bs) ≡ l)
-          go rs a t k = made f end s u rs a l t (let o = shaped-is (deviceOf 4194304 f) s .plugged-blocks in omega arith)
+          go : (rs : List Run) → Apart 0 end rs → runsText rs ≡ l → n ≡ 0 + total rs → (bs : List Bool) × State f bs × (runsText (runsOf bs) ≡ l)
+          go rs a t k = made f end s u rs a l t (let o = shape-is f s .plugged-blocks in omega arith)

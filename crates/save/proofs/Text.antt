@@ -1,9 +1,10 @@
--- One state has one text, and one text one state. Assumes nothing.
-use Prim.Native.Nat.{ℕ, zero, suc, _+_, _/_, _≤_, _<_}
+-- One state has one text, and one text one state.
+use Prim.Native.Nat.{ℕ, zero, suc, _+_, _-_, _*_, _/_, _≤_, _<_}
 use mathlib.Core.Path.{_≡_, refl, ap, _∙_, sym}
 use mathlib.Core.Bool.{Bool, true, false, _&&_}
 use mathlib.Core.List.{List, [], _∷_, _++_, append-assoc}
 use native.Mathlib.Omega.{arith}
+use borrow.Author.Tests.{eqb-true}
 use lib.Dec.{eqb}
 use lib.ListN.{length}
 use Rattle.units.proofs.Tests.{and-left, and-right}
@@ -14,12 +15,15 @@ use Rattle.forms.specs.Forms.{holes, filled}
 use Rattle.forms.specs.Scanning.{Part, part, none, bytePart, partOf}
 use Rattle.forms.proofs.Laws.{Words}
 use Rattle.forms.proofs.Parts.{opened-part, part-written}
-use Rattle.record.specs.Shape.{shapedOf}
+use Rattle.record.specs.Shape.{configShapedOf, ofConfig, shapedOf}
 use Rattle.record.proofs.Laws.{Shaped, shaped-is}
 use Rattle.save.specs.declared.Fields.{Fields}
-use Rattle.save.specs.Runs.{Run, runsOf, spread, Apart}
-use Rattle.save.specs.Text.{formLine, fieldLines, fieldsOf, runLine, runsText, textOf, deviceOf, validOf, State}
-use Rattle.save.proofs.Runs.{runs-apart, comes-back}
+use Rattle.bitmap.specs.Blocks.{ones, allAre}
+use Rattle.runs.specs.Runs.{Run, runsOf, spread, Apart}
+use Rattle.runs.specs.Text.{runsText}
+use Rattle.runs.proofs.Runs.{runs-apart, comes-back}
+use Rattle.runs.proofs.Lines.{runs-open, same-runs}
+use Rattle.save.specs.Text.{formLine, fieldLines, fieldsOf, textOf, configOf, shapeOk, allOf, usedOf, validOf, State, Says}
 
 -- ---- the head
 
@@ -37,31 +41,61 @@ pub fields-part : (form : ℕ) (f : Fields) (rs : List Run) → Words (fieldsOf 
 unfolding holes isDigit
 fields-part form f rs w = part-written 5 0 (fieldLines form) (fieldsOf f) (runsText rs) (runs-open rs) refl (omega arith) w
 
-pub fields-are : (f g : Fields) → f .start ≡ g .start → f .region ≡ g .region → f .requested ≡ g .requested → f .usable ≡ g .usable → f .plugged ≡ g .plugged → f ≡ g
-fields-are f g a b c d e =
-    ap (λ (x : ℕ). record { start = x; region = f .region; requested = f .requested; usable = f .usable; plugged = f .plugged }) a
-    ∙ ap (λ (x : ℕ). record { start = g .start; region = x; requested = f .requested; usable = f .usable; plugged = f .plugged }) b
-    ∙ ap (λ (x : ℕ). record { start = g .start; region = g .region; requested = x; usable = f .usable; plugged = f .plugged }) c
-    ∙ ap (λ (x : ℕ). record { start = g .start; region = g .region; requested = g .requested; usable = x; plugged = f .plugged }) d
-    ∙ ap (λ (x : ℕ). record { start = g .start; region = g .region; requested = g .requested; usable = g .usable; plugged = x }) e
+pub fields-are : (f g : Fields) → f .block ≡ g .block → f .start ≡ g .start → f .region ≡ g .region → f .requested ≡ g .requested → f .usable ≡ g .usable → f .plugged ≡ g .plugged → f ≡ g
+fields-are f g o a b c d e =
+    ap (λ (x : ℕ). record { block = x; start = f .start; region = f .region; requested = f .requested; usable = f .usable; plugged = f .plugged }) o
+    ∙ ap (λ (x : ℕ). record { block = g .block; start = x; region = f .region; requested = f .requested; usable = f .usable; plugged = f .plugged }) a
+    ∙ ap (λ (x : ℕ). record { block = g .block; start = g .start; region = x; requested = f .requested; usable = f .usable; plugged = f .plugged }) b
+    ∙ ap (λ (x : ℕ). record { block = g .block; start = g .start; region = g .region; requested = x; usable = f .usable; plugged = f .plugged }) c
+    ∙ ap (λ (x : ℕ). record { block = g .block; start = g .start; region = g .region; requested = g .requested; usable = x; plugged = f .plugged }) d
+    ∙ ap (λ (x : ℕ). record { block = g .block; start = g .start; region = g .region; requested = g .requested; usable = g .usable; plugged = x }) e
 
 -- ---- a state
 
-module _ {b : ℕ} {f : Fields} {bs : List Bool} (s : State b f bs) where
-  pub state-shaped : Shaped (deviceOf b f)
+pub shape-is : (f : Fields) → shapeOk f ≡ true → Shaped (ofConfig (configOf f))
+unfolding configShapedOf
+shape-is f e = shaped-is (ofConfig (configOf f)) e
+
+-- blocks of 4 MiB
+pub in-blocks : (f : Fields) → shapeOk f ≡ true → (size : ℕ) → blocksIn (f .block) size ≡ size / 4194304
+in-blocks f e size = let b = shape-is f e .block-size in ap (λ (x : ℕ). size / x) b
+
+module _ {f : Fields} {bs : List Bool} (s : State f bs) where
+  pub valid-shape : shapeOk f ≡ true
   unfolding validOf
-  state-shaped = shaped-is (deviceOf b f) (and-left (shapedOf (deviceOf b f)) _ (s .valid))
+  valid-shape = and-left (shapeOk f) _ (s .valid)
+
+  pub valid-past : allAre bs (usedOf f) (allOf f - usedOf f) false ≡ true
+  unfolding validOf
+  valid-past = and-left (allAre bs (usedOf f) (allOf f - usedOf f) false) _ (and-right (shapeOk f) _ (s .valid))
+
+  pub valid-plugged : f .plugged ≡ ones bs * f .block
+  unfolding validOf
+  valid-plugged =
+      eqb-true (f .plugged) (bytesOf (f .block) (ones bs))
+      (and-right (allAre bs (usedOf f) (allOf f - usedOf f) false) _ (and-right (shapeOk f) _ (s .valid)))
+
+  pub state-block : f .block ≡ 4194304
+  state-block = shape-is f valid-shape .block-size
 
   pub state-words : Words (fieldsOf f)
-  state-words = let h = state-shaped in (omega arith, (omega arith, (omega arith, (omega arith, (omega arith, tt)))))
+  state-words = let h = shape-is f valid-shape in (omega arith, (omega arith, (omega arith, (omega arith, (omega arith, tt)))))
 
-  pub state-blocks : length bs ≤ largest
-  state-blocks = let h = state-shaped in let e = h .block-size in let a : length bs ≡ f .region / 4194304 = s .all ∙ rw e in omega arith
+  pub state-few : length bs ≤ 262144
+  state-few =
+      let h = shape-is f valid-shape .region-top in
+      let a = s .all in
+      let b = in-blocks f valid-shape (f .region) in
+      omega arith
 
   pub state-apart : Apart 0 (length bs) (runsOf bs)
   state-apart =
       let z : 0 + length bs ≡ length bs = omega arith in
       rw z at (runs-apart 0 0 bs (omega arith))
+
+-- a state's text is of form 2, and goes on with its fields and its runs
+pub says-form : {s : List ℕ} {f : Fields} {bs : List Bool} → Says s f bs → partOf 1 formLine s ≡ part (2 ∷ []) (filled (fieldLines 2) (fieldsOf f) ++ runsText (runsOf bs))
+says-form {s} {f} {bs} h = ap (partOf 1 formLine) (sym (h .text)) ∙ form-part 2 f bs (omega arith)
 
 -- what two states have in common that have one text: all
 pub record Same (m n : ℕ) (f g : Fields) (bs cs : List Bool) : Type 0 where
@@ -69,8 +103,8 @@ pub record Same (m n : ℕ) (f g : Fields) (bs cs : List Bool) : Type 0 where
   pub fields : f ≡ g
   pub blocks : bs ≡ cs
 
-pub one-state : (m n b : ℕ) (f g : Fields) (bs cs : List Bool) → m ≤ largest → n ≤ largest → State b f bs → State b g cs → textOf m f bs ≡ textOf n g cs → Same m n f g bs cs
-one-state m n b f g bs cs u v s t h =
+pub one-state : (m n : ℕ) (f g : Fields) (bs cs : List Bool) → m ≤ largest → n ≤ largest → State f bs → State g cs → textOf m f bs ≡ textOf n g cs → Same m n f g bs cs
+one-state m n f g bs cs u v s t h =
     let a : part (m ∷ []) (filled (fieldLines m) (fieldsOf f) ++ runsText (runsOf bs)) ≡ part (n ∷ []) (filled (fieldLines n) (fieldsOf g) ++ runsText (runsOf cs)) =
     sym (form-part m f bs u) ∙ ap (partOf 1 formLine) h ∙ form-part n g cs v in
     let i : m ≡ n = cc in
@@ -78,11 +112,17 @@ one-state m n b f g bs cs u v s t h =
     let k : part (fieldsOf f) (runsText (runsOf bs)) ≡ part (fieldsOf g) (runsText (runsOf cs)) =
     sym (fields-part m f (runsOf bs) (state-words s)) ∙ ap (partOf 5 (fieldLines m)) j ∙ fields-part n g (runsOf cs) (state-words t) in
     let l : runsText (runsOf bs) ≡ runsText (runsOf cs) = cc in
-    let e = fields-are f g (cc) (cc) (cc) (cc) (cc) in
-    let r = same-runs 0 0 (length bs) (length cs) (runsOf bs) (runsOf cs) (state-blocks s) (state-blocks t) (state-apart s) (state-apart t) l in
-    let o : length bs ≡ length cs = s .all ∙ ap (λ (x : Fields). blocksIn b (x .region)) e ∙ sym (t .all) in
+    let e = fields-are f g (state-block s ∙ sym (state-block t)) (cc) (cc) (cc) (cc) (cc) in
+    let r = same-runs 0 0 (length bs) (length cs) (runsOf bs) (runsOf cs) (omega (arith, state-few s)) (omega (arith, state-few t)) (state-apart s) (state-apart t) l in
+    let o : length bs ≡ length cs = s .all ∙ ap (λ (x : Fields). allOf x) e ∙ sym (t .all) in
     record {
       form = i;
       fields = e;
       blocks = sym (comes-back bs) ∙ ap (λ (x : ℕ). spread 0 x (runsOf bs)) o ∙ ap (spread 0 (length cs)) r ∙ comes-back cs;
     }
+
+-- one text has one state
+pub one-text : (s : List ℕ) (f g : Fields) (bs cs : List Bool) → Says s f bs → Says s g cs → (f ≡ g) × (bs ≡ cs)
+one-text s f g bs cs p q =
+    let o = one-state 2 2 f g bs cs (omega arith) (omega arith) (p .state) (q .state) (p .text ∙ sym (q .text)) in
+    (o .fields, o .blocks)

@@ -1,4 +1,3 @@
-pub mod Runs
 pub mod Text
 pub mod Writing
 pub mod Reading

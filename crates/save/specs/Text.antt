@@ -10,11 +10,11 @@ use Rattle.units.specs.Numbers.{bytesOf, blocksIn}
 use Rattle.text.specs.Words.{bytes}
 use Rattle.forms.specs.Forms.{filled}
 use Rattle.bitmap.specs.Blocks.{ones, allAre}
-use Rattle.record.specs.declared.Device.{Device}
-use Rattle.record.specs.declared.Pending.the-variants.{Nothing}
-use Rattle.record.specs.Shape.{shapedOf}
+use Rattle.wire.specs.declared.VirtioMemConfig.{VirtioMemConfig}
+use Rattle.record.specs.Shape.{configShapedOf}
+use Rattle.runs.specs.Runs.{runsOf}
+use Rattle.runs.specs.Text.{runsText}
 use Rattle.save.specs.declared.Fields.{Fields}
-use Rattle.save.specs.Runs.{Run, runsOf}
 
 -- ---- the text
 
@@ -30,13 +30,6 @@ fieldLines form = bytes "start=#\nregion=#\nrequested=#\nusable=#\nplugged=#\n"
 abbrev pub fieldsOf : Fields → List ℕ
 fieldsOf f = f .start ∷ f .region ∷ f .requested ∷ f .usable ∷ f .plugged ∷ []
 
-abbrev pub runLine : List ℕ
-runLine = bytes "run=#,#\n"
-
-unfoldable pub runsText : List Run → List ℕ
-runsText [] = []
-runsText (r ∷ rs) = filled runLine (r .first ∷ r .count ∷ []) ++ runsText rs
-
 -- the form's number and the fields
 abbrev pub headText : (form : ℕ) → Fields → List ℕ
 headText form f = filled formLine (form ∷ []) ++ filled (fieldLines form) (fieldsOf f)
@@ -47,35 +40,40 @@ textOf form f bs = headText form f ++ runsText (runsOf bs)
 
 -- ---- which states have one
 
--- a device with these fields: "alignment 128 MiB, one region"
-abbrev pub deviceOf : (b : ℕ) → Fields → Device
-deviceOf b f =
+-- a device's config with these fields
+abbrev pub configOf : Fields → VirtioMemConfig
+configOf f =
     record {
-      config =
-          record {
-            «block_size» = b;
-            «node_id» = 0;
-            addr = record { 0 = f .start };
-            «region_size» = f .region;
-            «usable_region_size» = f .usable;
-            «plugged_size» = f .plugged;
-            «requested_size» = f .requested;
-          };
-      alignment = 134217728;
-      «multi_region» = false;
-      «avail_features» = 0;
-      placed = true;
-      pending = Nothing;
+      «block_size» = f .block;
+      «node_id» = 0;
+      addr = record { 0 = f .start };
+      «region_size» = f .region;
+      «usable_region_size» = f .usable;
+      «plugged_size» = f .plugged;
+      «requested_size» = f .requested;
     }
 
--- the fields are of the record's shape, no block at or past the usable size is set, and plugged is the block size times the set blocks
-unfoldable pub validOf : (b : ℕ) → Fields → List Bool → Bool
-validOf b f bs =
-    shapedOf (deviceOf b f)
-    && (allAre bs (blocksIn b (f .usable)) (blocksIn b (f .region) - blocksIn b (f .usable)) false
-    && eqb (f .plugged) (bytesOf b (ones bs)))
+-- "fields .. of the record shape (alignment 128 MiB, one region)"
+abbrev pub shapeOk : Fields → Bool
+shapeOk f = configShapedOf (configOf f)
+
+-- how many blocks the region has, and how many of them are usable
+abbrev pub allOf : Fields → ℕ
+allOf f = blocksIn (f .block) (f .region)
+
+abbrev pub usedOf : Fields → ℕ
+usedOf f = blocksIn (f .block) (f .usable)
+
+-- the fields are of the shape, no block at or past the usable size is set, and plugged is the block size times the set blocks
+unfoldable pub validOf : Fields → List Bool → Bool
+validOf f bs = shapeOk f && (allAre bs (usedOf f) (allOf f - usedOf f) false && eqb (f .plugged) (bytesOf (f .block) (ones bs)))
 
 -- a state that has a text: bs are the region's blocks
-pub record State (b : ℕ) (f : Fields) (bs : List Bool) : Type 0 where
-  pub all : length bs ≡ blocksIn b (f .region)
-  pub valid : validOf b f bs ≡ true
+pub record State (f : Fields) (bs : List Bool) : Type 0 where
+  pub all : length bs ≡ allOf f
+  pub valid : validOf f bs ≡ true
+
+-- s is the text of this state
+pub record Says (s : List ℕ) (f : Fields) (bs : List Bool) : Type 0 where
+  pub state : State f bs
+  pub text : textOf 2 f bs ≡ s

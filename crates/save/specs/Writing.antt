@@ -1,29 +1,46 @@
--- What writing promises.
-use Prim.Native.Nat.{ℕ, _+_, _*_, _/_}
+-- What measuring and writing a text promise.
+use Prim.Native.Nat.{ℕ, _+_, _/_}
 use mathlib.Core.Path.{_≡_}
-use mathlib.Core.Bool.{Bool, cond}
+use mathlib.Core.Bool.{Bool, cond, _&&_}
 use mathlib.Core.List.{List}
-use lib.Dec.{ltb}
+use lib.Dec.{ltb, leb}
 use lib.ListN.{length, take}
-use Rattle.units.specs.Numbers.{blocksIn}
-use Rattle.text.specs.Putting.{Put}
+use lib.Seq.{sets}
 use Rattle.bitmap.specs.Blocks.{blocks}
 use Rattle.save.specs.declared.Fields.{Fields}
 use Rattle.save.specs.declared.Wrote.{Wrote}
 use Rattle.save.specs.declared.Wrote.the-variants.{Text, Refused}
-use Rattle.save.specs.Text.{textOf, validOf}
+use Rattle.save.specs.Text.{textOf, validOf, allOf}
 
 -- the region's blocks in a packed bitmap
-abbrev pub regionBlocks : (b : ℕ) → Fields → List ℕ → List Bool
-regionBlocks b f bitmap = take (blocksIn b (f .region)) (blocks bitmap)
+abbrev pub blocksFor : Fields → List ℕ → List Bool
+blocksFor f bitmap = take (allOf f) (blocks bitmap)
 
--- 11 where the bitmap has not a bit for each block, then 18 where the state is not valid, and 0 for one that has a text
-unfoldable pub refusalOf : (b : ℕ) → Fields → List ℕ → ℕ
-refusalOf b f bitmap =
-    cond (ltb (length bitmap) ((blocksIn b (f .region) + 7) / 8)) 11
-    (cond (validOf b f (regionBlocks b f bitmap)) 0 18)
+-- the bitmap has not a bit for each block
+abbrev pub isShort : Fields → List ℕ → Bool
+isShort f bitmap = ltb (length bitmap) ((allOf f + 7) / 8)
 
--- a state that has a text is put into the buffer; for any other nothing is changed
-abbrev pub Writes : (b : ℕ) → Fields → (bitmap before after : List ℕ) → Wrote → Type 0
-Writes b f bitmap before after (Text next) = (refusalOf b f bitmap ≡ 0) × Put before 0 (textOf 2 f (regionBlocks b f bitmap)) after next
-Writes b f bitmap before after (Refused number) = (refusalOf b f bitmap ≡ number) × (number ≡ 0 → ⊥) × (after ≡ before)
+abbrev pub validIn : Fields → List ℕ → Bool
+validIn f bitmap = validOf f (blocksFor f bitmap)
+
+abbrev pub textIn : Fields → List ℕ → List ℕ
+textIn f bitmap = textOf 2 f (blocksFor f bitmap)
+
+-- 11 for a short bitmap, 18 for what is no state, and else the length of its text
+unfoldable pub lengthOf : Fields → List ℕ → Wrote
+lengthOf f bitmap = cond (isShort f bitmap) (Refused 11) (cond (validIn f bitmap) (Text (length (textIn f bitmap))) (Refused 18))
+
+-- .. and 18 too where the text is longer than what is lent for it
+unfoldable pub wroteOf : Fields → List ℕ → (room : ℕ) → Wrote
+wroteOf f bitmap room =
+    cond (isShort f bitmap) (Refused 11)
+    (cond (validIn f bitmap && leb (length (textIn f bitmap)) room) (Text (length (textIn f bitmap))) (Refused 18))
+
+-- a text that was written stands first in the buffer, and nothing else changed; a refused call changes nothing
+abbrev pub writtenOn : Wrote → (text before : List ℕ) → List ℕ
+writtenOn (Text n) text before = sets before 0 text
+writtenOn (Refused number) text before = before
+
+pub record Writes (f : Fields) (bitmap before after : List ℕ) (r : Wrote) : Type 0 where
+  pub answer : r ≡ wroteOf f bitmap (length before)
+  pub buffer : after ≡ writtenOn r (textIn f bitmap) before

@@ -1,25 +1,37 @@
-// Save records as text: one field a line, then the runs of plugged blocks.
+// SPDX-License-Identifier: Apache-2.0 AND BSD-3-Clause
+// Save records as text (02, request 6): the fields, one a line, then the runs of plugged blocks. Written from a packed bitmap, and
+// read back whole or not at all.
 use forms::Place;
-use record::Device;
-use record::Pending;
+use runs::Counted;
+use runs::count_runs;
+use runs::lay_runs;
+use runs::put_runs;
+use runs::runs_length;
 use units::GuestAddr;
 use units::MemTool;
-use units::sum_within;
 use wire::VirtioMemConfig;
 ghost use mathlib.Core.Path.{_≡_};
-ghost use mathlib.Core.List.{[]};
-ghost use Prim.Native.Nat.{_≤_};
-ghost use lib.ListN.{take, drop, length};
+ghost use Prim.Native.Nat.{_+_, _/_};
+ghost use lib.Dec.{ltb};
+ghost use lib.ListN.{drop, length};
+ghost use Rattle.units.specs.Numbers.{blocksIn};
 ghost use Rattle.text.specs.Putting.{Put};
-ghost use Rattle.bitmap.specs.Blocks.{blocks};
-ghost use Rattle.record.specs.Shape.{shapedOf};
-ghost use Rattle.save.specs.Runs.{closed, runsOf};
-ghost use Rattle.save.specs.Text.{deviceOf, runsText, headText};
-ghost use Rattle.save.specs.Writing.{refusalOf, Writes};
-ghost use Rattle.save.specs.Reading.{IsRun, runOk, Counts, Laid, IsFields, IsHead, Checks, Lays};
+ghost use Rattle.save.specs.Text.{shapeOk, headText};
+ghost use Rattle.save.specs.Writing.{blocksFor, isShort, validIn, lengthOf, Writes};
+ghost use Rattle.save.specs.Reading.{Laid, IsFields, IsHead, Checks, Reads};
 
-// What a save record says beside the blocks.
+// The bytes of the largest packed bitmap.
+pub const BITMAP: usize = 32768;
+
+// The form's number.
+const FORM: u64 = 2;
+
+// How many bytes a head has room for: more than any has.
+const HEAD: usize = 256;
+
+// What a save record says beside the blocks. The block size is not in the text of form 2.
 pub struct Fields {
+    pub block: u64,
     pub start: u64,
     pub region: u64,
     pub requested: u64,
@@ -27,59 +39,61 @@ pub struct Fields {
     pub plugged: u64,
 }
 
-// The text stands in the buffer up to a position, one past the buffer's length if there was no room; or the state has no text.
+// The length of a state's text; or the number that the state is refused as.
 pub enum Wrote {
-    Text(usize),
+    Text(u64),
     Refused(u64),
 }
 
-const FORM: u64 = 2;
+// How many whole blocks a size holds, and 0 where a block has no size.
+pub fn blocks_in(block: u64, size: u64) -> u64
+    ensures { λ r. ⌜ r ≡ blocksIn block size ⌝ }
+{
+    if block == 0 {
+        return 0;
+    }
+    size / block
+}
 
-const ALIGNMENT: u64 = 134217728;
+// Whether a bitmap of this length has not a bit for each of n blocks.
+pub fn is_short(len: usize, n: u64) -> bool
+    ensures { λ r. ⌜ r ≡ ltb len ((n + 7) / 8) ⌝ }
+{
+    if n % 8 == 0 {
+        return (len as u64) < n / 8;
+    }
+    (len as u64) <= n / 8
+}
 
 // Whether the fields are of the record's shape, with 128 MiB of alignment and one region.
-fn shape_ok(f: Fields) -> bool
-    ensures { λ r. ⌜ r ≡ shapedOf (deviceOf 4194304 f) ⌝ }
+pub fn shape_ok(f: Fields) -> bool
+    ensures { λ r. ⌜ r ≡ shapeOk f ⌝ }
 {
-    let config = VirtioMemConfig {
-        block_size: MemTool::BLOCK_SIZE,
+    record::config_shaped(VirtioMemConfig {
+        block_size: f.block,
         node_id: 0,
         addr: GuestAddr(f.start),
         region_size: f.region,
         usable_region_size: f.usable,
         plugged_size: f.plugged,
         requested_size: f.requested,
-    };
-    record::shaped(Device {
-        config,
-        alignment: ALIGNMENT,
-        multi_region: false,
-        avail_features: 0,
-        placed: true,
-        pending: Pending::Nothing,
     })
 }
 
-// The number that a state is refused as, and 0 for one that has a text.
-fn refusal(f: Fields, bitmap: &[u8]) -> u64
-    ensures { λ r. ⌜ r ≡ refusalOf 4194304 f (now (bitmap .entry)) ⌝ }
+// Whether the fields and the region's blocks in a bitmap make a state.
+fn valid(f: Fields, bitmap: &[u8]) -> bool
+    ensures { λ r. ⌜ r ≡ validIn f (now (bitmap .entry)) ⌝ }
 {
-    let all = MemTool::blocks_in(f.region);
-    if (bitmap.len() as u64) < (all + 7) / 8 {
-        return 11;
-    }
     if !shape_ok(f) {
-        return 18;
+        return false;
     }
+    let all = MemTool::blocks_in(f.region);
     let used = MemTool::blocks_in(f.usable);
     if !bitmap::all_in_state(bitmap, used as usize, (all - used) as usize, false) {
-        return 18;
+        return false;
     }
     let set = bitmap::count_set(bitmap, 0, all as usize);
-    if f.plugged != (set as u64) * MemTool::BLOCK_SIZE {
-        return 18;
-    }
-    0
+    f.plugged == (set as u64) * MemTool::BLOCK_SIZE
 }
 
 // Puts the head: the form's number and the fields.
@@ -95,105 +109,45 @@ fn put_head(out: &mut [u8], f: Fields) -> usize
     )
 }
 
-// Puts the run of the n set blocks that end before block i, if there are any.
-fn put_run(out: &mut [u8], at: usize, i: usize, n: usize) -> usize
-    requires { ⌜ n ≤ i ⌝ }
-    ensures { λ r. ⌜ Put (now (out .entry)) at (runsText (closed i n [])) (now (out .exit)) r ⌝ }
+// How long the head is.
+fn head_length(f: Fields) -> u64
+    ensures { λ r. ⌜ r ≡ length (headText 2 f) ⌝ }
 {
-    if n == 0 {
-        return forms::within(at, out.len());
-    }
-    forms::put_form_at(out, at, b"run=#,#\n", &[(i - n) as u64, n as u64])
+    let mut head = [0u8; HEAD];
+    put_head(&mut head, f) as u64
 }
 
-// Puts the runs of set blocks among the first `end`.
-fn put_runs(out: &mut [u8], at: usize, bitmap: &[u8], end: usize) -> usize
-    requires { ⌜ end ≤ length (blocks (now bitmap)) ⌝ }
-    ensures { λ r. ⌜ Put (now (out .entry)) at (runsText (runsOf (take end (blocks (now (bitmap .entry)))))) (now (out .exit)) r ⌝ }
+// How long the text is of a state whose blocks are the first of a packed bitmap. 11, 18.
+pub fn text_length(f: Fields, bitmap: &[u8]) -> Wrote
+    ensures { λ r. ⌜ r ≡ lengthOf f (now (bitmap .entry)) ⌝ }
 {
-    let mut to = forms::within(at, out.len());
-    let mut i = 0;
-    let mut n = 0;
-    while i < end {
-        if bitmap::is_set(bitmap, i) {
-            n += 1;
-            i += 1;
-        } else {
-            to = put_run(out, to, i, n);
-            n = 0;
-            i += 1;
-        }
+    let all = blocks_in(f.block, f.region);
+    if is_short(bitmap.len(), all) {
+        return Wrote::Refused(11);
     }
-    put_run(out, to, i, n)
+    if !valid(f, bitmap) {
+        return Wrote::Refused(18);
+    }
+    Wrote::Text(head_length(f) + runs_length(bitmap, all as usize))
 }
 
-// Writes the text of a state, whose blocks are the first of a packed bitmap.
+// Writes the text of a state whose blocks are the first of a packed bitmap. 11, 18; 18 too where the buffer is shorter than the text.
 pub fn write(f: Fields, bitmap: &[u8], out: &mut [u8]) -> Wrote
-    ensures { λ r. ⌜ Writes 4194304 f (now (bitmap .entry)) (now (out .entry)) (now (out .exit)) r ⌝ }
+    ensures { λ r. ⌜ Writes f (now (bitmap .entry)) (now (out .entry)) (now (out .exit)) r ⌝ }
 {
-    let number = refusal(f, bitmap);
-    if number != 0 {
-        return Wrote::Refused(number);
-    }
-    let to = put_head(out, f);
-    let all = MemTool::blocks_in(f.region);
-    Wrote::Text(put_runs(out, to, bitmap, all as usize))
-}
-
-// A run's line, and where the text goes on.
-enum RunLine {
-    At { first: u64, count: u64, next: usize },
-    Bad,
-}
-
-// How many blocks the runs of a text have.
-enum Counted {
-    Blocks(u64),
-    Bad,
-}
-
-// The run's line at a position of a text.
-fn run_at(s: &[u8], at: usize) -> RunLine
-    ensures { λ r. ⌜ IsRun (now (s .entry)) (drop at (now (s .entry))) r ⌝ }
-{
-    let mut v = [0u64; 2];
-    let Place::At(next) = forms::scan_at(s, at, b"run=#,#\n", &mut v) else {
-        return RunLine::Bad;
-    };
-    RunLine::At {
-        first: v[0],
-        count: v[1],
-        next,
-    }
-}
-
-// Whether a run is not empty, begins at `from` or after and ends at `end` or before.
-fn run_ok(first: u64, count: u64, from: u64, end: u64) -> bool
-    ensures { λ r. ⌜ r ≡ runOk first count from end ⌝ }
-{
-    (from <= first) & ((0 < count) & sum_within(first, count, end))
-}
-
-// Whether the text from a position on is that of runs that neither touch nor fall back, none past block `end`; and how many blocks they have.
-fn count_runs(s: &[u8], at: usize, end: u64) -> Counted
-    requires { ⌜ end ≤ 1099511627776 ⌝ }
-    ensures { λ r. ⌜ Counts 0 end 0 (drop at (now (s .entry))) r ⌝ }
-{
-    let mut i = at;
-    let mut from = 0;
-    let mut sum = 0;
-    while i < s.len() {
-        let RunLine::At { first, count, next } = run_at(s, i) else {
-            return Counted::Bad;
-        };
-        if !run_ok(first, count, from, end) {
-            return Counted::Bad;
+    let long = text_length(f, bitmap);
+    match long {
+        Wrote::Refused(number) => Wrote::Refused(number),
+        Wrote::Text(n) => {
+            if (out.len() as u64) < n {
+                return Wrote::Refused(18);
+            }
+            let to = put_head(out, f);
+            let all = blocks_in(f.block, f.region);
+            put_runs(out, to, bitmap, all as usize);
+            Wrote::Text(n)
         }
-        sum += count;
-        from = first + count + 1;
-        i = next;
     }
-    Counted::Blocks(sum)
 }
 
 // A state whose text was read, and where its runs start; or the number that the text is refused as.
@@ -204,13 +158,13 @@ pub enum Checked {
 
 // Whether the text from a position on is that of the runs of a state with these fields.
 fn runs_of(f: Fields, s: &[u8], at: usize) -> Checked
-    ensures { λ r. ⌜ Laid 4194304 f at (drop at (now (s .entry))) r ⌝ }
+    ensures { λ r. ⌜ Laid f at (drop at (now (s .entry))) r ⌝ }
 {
     if !shape_ok(f) {
         return Checked::Refused(18);
     }
     let end = MemTool::blocks_in(f.usable);
-    let Counted::Blocks(n) = count_runs(s, at, end) else {
+    let Counted::Blocks(n) = count_runs(s, at, end as u32) else {
         return Checked::Refused(18);
     };
     let plugged = MemTool::blocks_in(f.plugged);
@@ -243,6 +197,7 @@ fn fields_at(s: &[u8], at: usize) -> Head
         return Head::Refused(18);
     };
     let fields = Fields {
+        block: MemTool::BLOCK_SIZE,
         start: v[0],
         region: v[1],
         requested: v[2],
@@ -254,7 +209,7 @@ fn fields_at(s: &[u8], at: usize) -> Head
 
 // The head of a text. A later form is refused by name, before anything else is read.
 fn head_of(s: &[u8]) -> Head
-    ensures { λ r. ⌜ IsHead 4194304 (now (s .entry)) r ⌝ }
+    ensures { λ r. ⌜ IsHead (now (s .entry)) r ⌝ }
 {
     let mut v = [0u64; 1];
     let Place::At(at) = forms::scan_at(s, 0, b"form=#\n", &mut v) else {
@@ -270,9 +225,9 @@ fn head_of(s: &[u8]) -> Head
     fields_at(s, at)
 }
 
-// Reads a text whole: the state that it is the text of, or the number that it is refused as.
+// Checks a text whole: the state that it is the text of, or the number that it is refused as. 19, 18.
 pub fn check(s: &[u8]) -> Checked
-    ensures { λ r. ⌜ Checks 4194304 (now (s .entry)) r ⌝ }
+    ensures { λ r. ⌜ Checks (now (s .entry)) r ⌝ }
 {
     let head = head_of(s);
     match head {
@@ -281,16 +236,27 @@ pub fn check(s: &[u8]) -> Checked
     }
 }
 
-// Sets the blocks of the runs that stand in a text from a position on.
-fn lay_runs(s: &[u8], at: usize, bitmap: &mut [u8])
-    ensures { λ _. ⌜ Lays (drop at (now (s .entry))) (now (bitmap .entry)) (now (bitmap .exit)) ⌝ }
+// The fields of a text that was read; or the number that it is refused as.
+pub enum Got {
+    Fields(Fields),
+    Refused(u64),
+}
+
+// Reads a text: the blocks of its state go into a packed bitmap, which has room for the largest region. 11, 19, 18.
+pub fn read(s: &[u8], bitmap: &mut [u8]) -> Got
+    ensures { λ r. ⌜ Reads (now (s .entry)) (now (bitmap .entry)) (now (bitmap .exit)) r ⌝ }
 {
-    let mut i = at;
-    while i < s.len() {
-        let RunLine::At { first, count, next } = run_at(s, i) else {
-            return;
-        };
-        bitmap::set_range(bitmap, first as usize, count as usize, true);
-        i = next;
+    if bitmap.len() < BITMAP {
+        return Got::Refused(11);
+    }
+    let found = check(s);
+    match found {
+        Checked::Refused(number) => Got::Refused(number),
+        Checked::State { fields, runs } => {
+            let f = fields;
+            bitmap::set_range(bitmap, 0, MemTool::blocks_in(f.region) as usize, false);
+            lay_runs(s, runs, bitmap);
+            Got::Fields(fields)
+        }
     }
 }
