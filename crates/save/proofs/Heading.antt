@@ -40,14 +40,14 @@ form-found s l o n e = let f = part-found formLine s l o n e in rw (f .at 0 refl
 
 -- ---- `head_of`
 
-not-later : (w : Part) → ((us rest : List ℕ) → w ≡ part us rest → ⊥) → laterPart w ≡ false
+no-later : (w : Part) → ((us rest : List ℕ) → w ≡ part us rest → ⊥) → laterPart w ≡ false
 unfolding laterPart
-not-later (part us rest) n = absurd (n us rest refl)
-not-later (none us) n = refl
+no-later (part us rest) n = absurd (n us rest refl)
+no-later (none us) n = refl
 
 pub head-none : (s : List ℕ) → ((us rest : List ℕ) → partOf 1 formLine s ≡ part us rest → ⊥) → Refuses s 18
 head-none s n =
-    let e = not-later (partOf 1 formLine s) n in
+    let e = no-later (partOf 1 formLine s) n in
     record { number-is = rw e; no-state = λ f bs h. n _ _ (says-form h) }
 
 module _ (s : List ℕ) (n : ℕ) (rest : List ℕ) (e : partOf 1 formLine s ≡ part (n ∷ []) rest) where
@@ -86,6 +86,10 @@ module _ (s rest : List ℕ) (e : partOf 1 formLine s ≡ part (2 ∷ []) rest) 
 
 pub head-two : (s rest : List ℕ) (n : ℕ) → partOf 1 formLine s ≡ part (n ∷ []) rest → n ≡ 2 → (r : Head) → IsFields s rest r → IsHead s r
 head-two s rest n e q r h = head-fields s rest (rw q at e) r h
+
+-- a state's text is of no later form
+pub not-later : {s : List ℕ} {f : Fields} {bs : List Bool} → Says s f bs → isLater s ≡ false
+not-later {s} h = now-later s _ (says-form h)
 
 -- ---- `check`
 

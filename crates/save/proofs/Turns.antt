@@ -29,8 +29,9 @@ use Rattle.save.specs.declared.Checked.{Checked}
 use Rattle.save.specs.declared.Checked.the-variants as checked
 use Rattle.save.specs.Text.{formLine, fieldLines, fieldsOf, headText, textOf, shapeOk, allOf, usedOf, validOf, State, Says}
 use Rattle.save.specs.Writing.{blocksFor, isShort, validIn, textIn, lengthOf, wroteOf, Writes}
-use Rattle.save.specs.Reading.{refusalOf, Refuses, Accepts, Checks, Holds, Takes, NotTaken, AnyState, noRoom, Reads}
-use Rattle.save.proofs.Text.{shape-is, in-blocks, valid-shape, state-few, state-apart}
+use Rattle.save.specs.Reading.{refusalOf, Refuses, Accepts, Checks, Holds, Takes, NotTaken, AtMost, noRoom}
+use Rattle.save.proofs.Text.{shape-is, in-blocks, valid-shape, state-few, state-apart, one-text}
+use Rattle.save.proofs.Heading.{not-later}
 
 -- ---- `is_short`
 
@@ -249,33 +250,50 @@ cleared l n h =
 
 -- ---- `read`
 
-accepts-at : (s : List ℕ) (r : Checked) → Checks s r → (f : Fields) (n : ℕ) → r ≡ checked.State f n → Accepts s f n
+pub accepts-at : (s : List ℕ) (r : Checked) → Checks s r → (f : Fields) (n : ℕ) → r ≡ checked.State f n → Accepts s f n
 accepts-at s r h f n e = let g : Checks s (checked.State f n) = rw e at h in g
 
 pub refuses-at : (s : List ℕ) (r : Checked) → Checks s r → (k : ℕ) → r ≡ checked.Refused k → Refuses s k
 refuses-at s r h k e = let g : Checks s (checked.Refused k) = rw e at h in g
 
-pub too-short : (short : Bool) (Fits : Fields → List Bool → Type 0) (s : List ℕ) → short ≡ true → NotTaken short Fits s 11
-too-short short Fits s e =
-    record { number-is = rw e; none = λ f bs t. let l = t .long in let z : _≡_ {A = ℕ} 0 1 = cc in omega arith }
+-- the ways in which a text is not taken: what is lent is too short, it is the text of no state, or the state does not fit
+module _ (short : Bool) (Fits : Fields → List Bool → Type 0) (s : List ℕ) where
+  pub too-short : short ≡ true → NotTaken short Fits s 11
+  too-short e = record { number-is = rw e; none = λ f bs t. let l = t .long in let z : _≡_ {A = ℕ} 0 1 = cc in omega arith }
 
-pub not-read : (short : Bool) (Fits : Fields → List Bool → Type 0) (s : List ℕ) (k : ℕ) → short ≡ false → Refuses s k → NotTaken short Fits s k
-not-read short Fits s k e h = record { number-is = rw e (h .number-is); none = λ f bs t. h .no-state f bs (t .says) }
+  pub not-read : (k : ℕ) → short ≡ false → Refuses s k → NotTaken short Fits s k
+  not-read k e h = record { number-is = rw e (h .number-is); none = λ f bs t. h .no-state f bs (t .says) }
 
-module _ (s before mid after : List ℕ) (long : 32768 ≤ length before) (r : Checked) (h : Checks s r) (f : Fields) (n : ℕ) (e : r ≡ checked.State f n) where
-  pub read-state : (m : ℕ) → m ≡ f .region / 4194304 → Filled before mid 0 m false → Lays (drop n s) mid after
-      → (bs : List Bool) × Takes (noRoom before) AnyState s f bs × Holds bs before after
-  read-state m w d l =
-      let a = accepts-at s r h f n e in
-      let k : m ≡ length (a .bs) = w ∙ sym (blocks-are s f n a) in
-      let few = blocks-few s f n a in
+  pub not-fitting : short ≡ false → (f : Fields) (n : ℕ) (a : Accepts s f n) → (Fits f (a .bs) → ⊥) → NotTaken short Fits s 18
+  not-fitting e f n a unfit =
+      let l = not-later (a .says) in
+      record {
+        number-is = rw (e, l);
+        none = λ g cs t. let o = one-text s f g (a .bs) cs (a .says) (t .says) in unfit (rw (o .0, o .1) (t .fits));
+      }
+
+module _ (s before mid after : List ℕ) (long : 32768 ≤ length before) (r : Checked) (h : Checks s r) (f : Fields) (n : ℕ) (e : r ≡ checked.State f n) (all : ℕ) (w : all ≡ f .region / 4194304) (most : ℕ) where
+  there : Accepts s f n
+  there = accepts-at s r h f n e
+
+  blocks-of : all ≡ length (there .bs)
+  blocks-of = w ∙ sym (blocks-are s f n there)
+
+  pub read-large : most < all → NotTaken (noRoom before) (AtMost most) s 18
+  read-large l = not-fitting (noRoom before) (AtMost most) s (le-ltb (length before) 32768 long) f n there (λ q. let k = blocks-of in omega arith)
+
+  pub read-state : all ≤ most → Filled before mid 0 all false → Lays (drop n s) mid after
+      → (bs : List Bool) × Takes (noRoom before) (AtMost most) s f bs × Holds bs before after
+  read-state q d l =
+      let k = blocks-of in
+      let few = blocks-few s f n there in
       let b = blocks-length before in
-      let c = cleared (blocks before) (length (a .bs)) (omega arith) in
-      let d′ : Filled before mid 0 (length (a .bs)) false = rw k at d in
-      let z : 0 + length (a .bs) ≡ length (a .bs) = omega arith in
-      let o : Outside before mid 0 (length (a .bs)) = rw z at (d′ .outside) in
+      let c = cleared (blocks before) (length (there .bs)) (omega arith) in
+      let d′ : Filled before mid 0 (length (there .bs)) false = rw k at d in
+      let z : 0 + length (there .bs) ≡ length (there .bs) = omega arith in
+      let o : Outside before mid 0 (length (there .bs)) = rw z at (d′ .outside) in
       (
-        a .bs,
-        record { long = le-ltb (length before) 32768 long; says = a .says; fits = tt },
-        laid-holds s f n a before mid after (d′ .as-blocks ∙ c) o l,
+        there .bs,
+        record { long = le-ltb (length before) 32768 long; says = there .says; fits = omega arith },
+        laid-holds s f n there before mid after (d′ .as-blocks ∙ c) o l,
       )

@@ -95,14 +95,14 @@ pub record NotTaken (short : Bool) (Fits : Fields → List Bool → Type 0) (s :
   pub number-is : number ≡ cond short 11 (refusalOf s)
   pub none : (f : Fields) (bs : List Bool) → Takes short Fits s f bs → ⊥
 
--- any state fits
-abbrev pub AnyState : Fields → List Bool → Type 0
-AnyState f bs = Prim.Unit {0}
+-- a state of at most so many blocks
+abbrev pub AtMost : (most : ℕ) → Fields → List Bool → Type 0
+AtMost most f bs = length bs ≤ most
 
 -- room for the largest bitmap is asked for, so that 11 does not wait for the text
 abbrev pub noRoom : List ℕ → Bool
 noRoom bitmap = ltb (length bitmap) 32768
 
-abbrev pub Reads : (s before after : List ℕ) → Got → Type 0
-Reads s before after (got.Fields f) = (bs : List Bool) × Takes (noRoom before) AnyState s f bs × Holds bs before after
-Reads s before after (got.Refused number) = NotTaken (noRoom before) AnyState s number × (after ≡ before)
+abbrev pub Reads : (s : List ℕ) (most : ℕ) (before after : List ℕ) → Got → Type 0
+Reads s most before after (got.Fields f) = (bs : List Bool) × Takes (noRoom before) (AtMost most) s f bs × Holds bs before after
+Reads s most before after (got.Refused number) = NotTaken (noRoom before) (AtMost most) s number × (after ≡ before)

@@ -242,9 +242,10 @@ pub enum Got {
     Refused(u64),
 }
 
-// Reads a text: the blocks of its state go into a packed bitmap, which has room for the largest region. 11, 19, 18.
-pub fn read(s: &[u8], bitmap: &mut [u8]) -> Got
-    ensures { λ r. ⌜ Reads (now (s .entry)) (now (bitmap .entry)) (now (bitmap .exit)) r ⌝ }
+// Reads the text of a state of at most so many blocks: they go into a packed bitmap, which has room for the largest region.
+// 11, 19, 18.
+pub fn read(s: &[u8], most: usize, bitmap: &mut [u8]) -> Got
+    ensures { λ r. ⌜ Reads (now (s .entry)) most (now (bitmap .entry)) (now (bitmap .exit)) r ⌝ }
 {
     if bitmap.len() < BITMAP {
         return Got::Refused(11);
@@ -254,7 +255,11 @@ pub fn read(s: &[u8], bitmap: &mut [u8]) -> Got
         Checked::Refused(number) => Got::Refused(number),
         Checked::State { fields, runs } => {
             let f = fields;
-            bitmap::set_range(bitmap, 0, MemTool::blocks_in(f.region) as usize, false);
+            let all = MemTool::blocks_in(f.region);
+            if (most as u64) < all {
+                return Got::Refused(18);
+            }
+            bitmap::set_range(bitmap, 0, all as usize, false);
             lay_runs(s, runs, bitmap);
             Got::Fields(fields)
         }
