@@ -1,0 +1,20 @@
+-- The old form (02, request 6): "the bitmap of a stopped builder as one byte per block, 0 or 1, the way the Rust's mem_state_map holds it".
+use Prim.Native.Nat.{ℕ}
+use mathlib.Core.Bool.{Bool, true, cond, _&&_}
+use mathlib.Core.List.{List, [], _∷_}
+use lib.Dec.{leb, eqb}
+
+-- a byte for each block
+unfoldable pub oldOf : List Bool → List ℕ
+oldOf [] = []
+oldOf (b ∷ bs) = cond b 1 0 ∷ oldOf bs
+
+-- no "byte above 1"
+unfoldable pub isOld : List ℕ → Bool
+isOld [] = true
+isOld (x ∷ xs) = leb x 1 && isOld xs
+
+-- a block for each byte
+unfoldable pub bitsOf : List ℕ → List Bool
+bitsOf [] = []
+bitsOf (x ∷ xs) = eqb x 1 ∷ bitsOf xs
