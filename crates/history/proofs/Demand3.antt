@@ -1,4 +1,4 @@
--- Demand 3 over every run: each call keeps the invariant.
+-- Demand 3 in every run: each call and each restore keeps the invariant.
 use Prim.Native.Nat.{ℕ, _+_, _≤_}
 use mathlib.Core.Path.{_≡_, refl, ap, _∙_, sym}
 use mathlib.Core.Bool.{true, false}
@@ -17,10 +17,13 @@ use Rattle.record.specs.Shape.{pendingOk}
 use Rattle.step.specs.World.{World, Call, Outcome}
 use Rattle.step.specs.Step.{blockSize, region, plugged, regionBlocks, cleared}
 use Rattle.history.specs.History.{Event, Discarded, Story, next, after, Fresh, begun, lastOn, wasPlug, Told}
+use Rattle.history.specs.Reached.{Reached, from-making, by-call, by-restore}
 use Rattle.history.proofs.Shaped.{clash}
 use Rattle.history.proofs.Invariant.{discarding, Asked, Inv, quiet-asks, idle-quiet, goes-on, inv-plugs, inv-unplugs, inv-cleared, inv-ends, placed-by, inv-placed, still, over}
 use Rattle.history.proofs.Observer.{openOf, sees}
+use Rattle.history.proofs.Restored.{inv-restored}
 use Rattle.history.proofs.Calls.{Endings, each-call}
+use Rattle.history.proofs.KeepsShape.{is-shaped}
 
 -- a pending unplug lies in the region
 pub discard-ends : (w : World) (f c : ℕ) (status : GuestAddr) → pendingOk (Discard f c status) (blockSize w) (region w) (w .device .«multi_region») (plugged w) ≡ true → f + c ≤ regionBlocks w
@@ -77,40 +80,41 @@ module _ (w : World) (es : List Event) (h : Inv w es) where
         place-asks-whole = λ a _. inv-placed w es h _ _ _ _ (a .bits) _ (a .not-placed) (a .entry .is-long) refl;
       }
 
--- ---- over any calls
-always-open : (s : Story) (cs : List Call) → openOf (s .world .device .pending) ≡ s .«open» → openOf (after s cs .world .device .pending) ≡ after s cs .«open»
-unfolding after next
-always-open s [] o = o
-always-open s (c ∷ cs) o = always-open (next s c) cs (rw o at (sees (s .world) c))
+-- ---- in every run
+-- no event, and no tables yet
+inv-made : (d : Device) → Fresh d → Inv (begun d .world) []
+unfolding lastOn wasPlug discarding ones
+inv-made d fresh =
+    let quiet : discarding (d .pending) ≡ false = rw (fresh .waits-for-nothing) in
+    record {
+      told = record {
+        bits = λ i l. refl;
+        count = rw (take-nil (blocksIn (d .config .«block_size») (d .config .«region_size»))) (omega (arith, fresh .nothing-plugged));
+      };
+      early = λ p. record { none-yet = refl; not-asked = quiet; no-size = fresh .nothing-plugged };
+      asked = quiet-asks (d .pending) _ _ quiet;
+    }
 
-always : (s : Story) (cs : List Call) → openOf (s .world .device .pending) ≡ s .«open» → Inv (s .world) (s .events) → Inv (after s cs .world) (after s cs .events)
-unfolding after next
-always s [] o h = h
-always s (c ∷ cs) o h = always (next s c) cs (rw o at (sees (s .world) c)) (rw o at (each-call (s .world) (Kept (s .events)) (kept (s .world) (s .events) h) c))
+-- what the observer holds open is what is pending
+pub open-is : (s : Story) → Reached s → openOf (s .world .device .pending) ≡ s .«open»
+unfolding next openOf
+open-is s (from-making fresh) = rw (fresh .waits-for-nothing)
+open-is s (by-call {s = before} r c) = rw (open-is before r) at (sees (before .world) c)
+open-is s (by-restore r l) = rw (l .waits-for-nothing)
 
-module _ (d : Device) (fresh : Fresh d) where
-  at-first : Inv (begun d .world) []
-  unfolding lastOn wasPlug discarding ones
-  at-first =
-      let quiet : discarding (d .pending) ≡ false = rw (fresh .waits-for-nothing) in
-      record {
-        told = record {
-          bits = λ i l. refl;
-          count = rw (take-nil (blocksIn (d .config .«block_size») (d .config .«region_size»))) (omega (arith, fresh .nothing-plugged));
-        };
-        early = λ p. record { none-yet = refl; not-asked = quiet; no-size = fresh .nothing-plugged };
-        asked = quiet-asks (d .pending) _ _ quiet;
-      }
+pub invariant : (s : Story) → Reached s → Inv (s .world) (s .events)
+unfolding next
+invariant s (from-making {d} fresh) = inv-made d fresh
+invariant s (by-call {s = before} r c) =
+    rw (open-is before r) at (each-call (before .world) (Kept (before .events)) (kept (before .world) (before .events) (invariant before r)) c)
+invariant s (by-restore {s = before} {requested} {plugs} r l) = inv-restored (before .world) requested (is-shaped before r) plugs l
 
-  -- what the observer holds open is what is pending
-  pub open-is : (cs : List Call) → openOf (after (begun d) cs .world .device .pending) ≡ after (begun d) cs .«open»
-  unfolding openOf
-  open-is cs = always-open (begun d) cs (rw (fresh .waits-for-nothing))
+-- demand 3, of every run, restores included; while a host call is pending too
+pub demand-3 : (s : Story) → Reached s → Told (s .world) (s .events)
+demand-3 s r = invariant s r .told
 
-  pub invariant : (cs : List Call) → Inv (after (begun d) cs .world) (after (begun d) cs .events)
-  unfolding openOf
-  invariant cs = always (begun d) cs (rw (fresh .waits-for-nothing)) at-first
-
-  -- demand 3, of every run of calls from a newly made device; while a host call is pending too
-  pub demand-3 : (cs : List Call) → Told (after (begun d) cs .world) (after (begun d) cs .events)
-  demand-3 cs = invariant cs .told
+-- calls go on from what is reached
+pub reached-after : (s : Story) → Reached s → (cs : List Call) → Reached (after s cs)
+unfolding after
+reached-after s r [] = r
+reached-after s r (c ∷ cs) = reached-after (next s c) (by-call r c) cs

@@ -1,8 +1,9 @@
--- The whole example of 01 as a run, guest bytes and all, a second run with every kind of event, and request 5's builder, which plugs again after a failed unplug-all. All begin with a newly made device, so what is said of every run is said of something. Computed, by `refl`.
+-- The whole example of 01 as a run, guest bytes and all, a second run with every kind of event, request 5's builder, which plugs again after a failed unplug-all, and a run that goes on from a restore. All begin with a newly made device, so what is said of every run is said of something. Computed, by `refl`.
 use Prim.Native.Nat.{ℕ}
 use mathlib.Core.Path.{_≡_, refl}
 use mathlib.Core.Bool.{true, false}
 use mathlib.Core.List.{List, [], _∷_, _++_}
+use native.Mathlib.Omega.{arith}
 use lib.ListN.{replicate}
 use Rattle.units.specs.Numbers.{mapRegions}
 use Rattle.bitmap.specs.Blocks.{every, fill, firstOf, ones}
@@ -22,7 +23,8 @@ use Rattle.step.specs.declared.Answer.{Answer}
 use Rattle.step.specs.declared.Answer.the-variants.{Wants, Sized, Served}
 use Rattle.step.specs.World.{World, Guest, Call, Place, SetRequestedSize, Request, HostAnswer}
 use Rattle.step.specs.Step.{tablesFit, readyRefusal, unplacedRefusal, pendingRefusal, unless, plugAs, plug, unplugAs, oneAs, nextAs, stateType, serve, request, resizes, placing, place, setRequestedSize, hostAnswer, step, plugged, respond}
-use Rattle.history.specs.History.{PlugAck, UnplugAck, Discarded, UnplugAllAck, ackToType, ackToRequest, ackToHost, acknowledges, discardOf, reports, ifAck, unlessRefused, eventsOf, openedByType, openedByRequest, goesOn, openedBy, askedBy, openAfter, next, after, Fresh, begun, used}
+use Rattle.history.specs.History.{Event, PlugAck, UnplugAck, Discarded, UnplugAllAck, ackToType, ackToRequest, ackToHost, acknowledges, discardOf, reports, ifAck, unlessRefused, eventsOf, openedByType, openedByRequest, goesOn, openedBy, askedBy, openAfter, Story, next, after, Fresh, begun, wasPlug, used}
+use Rattle.history.specs.Reached.{marks, counts, could, marked, counted, allCould, allPlugs, Restores, restored}
 
 -- capacity_mib=256 requested_mib=16 multi=0 node=none boot=1073741824
 pub device : Device
@@ -104,6 +106,16 @@ again =
     ∷ Request (chain 0 0 1) 0 0
     ∷ []
 
+-- blocks 0, 3 and 4 of a saved state, laid on what the second run has left, and block 0 unplugged
+pub saved : List Event
+saved = PlugAck 3 2 ∷ PlugAck 0 1 ∷ []
+
+pub resumed : Story
+resumed = restored (after (begun device) more .world) 8388608 saved
+
+pub on-with : List Call
+on-with = Request (chain 1 0 1) 0 0 ∷ HostAnswer (chain 0 0 0) true 0 ∷ []
+
 pub answers : World → List Call → List Answer
 answers w [] = []
 answers w (c ∷ cs) = step w c .answer ∷ answers (step w c .world) cs
@@ -151,9 +163,18 @@ pub record Example : Type 0 where
   pub again-told : after (begun device) again .events ≡ PlugAck 0 1 ∷ Discarded 0 ∷ PlugAck 0 4 ∷ []
   pub again-left : plugged (after (begun device) again .world) ≡ 16777216
   pub again-counted : ones (used (after (begun device) again .world)) ≡ 4
+  pub saved-restores : Restores (after (begun device) more .world) 8388608 saved
+  pub resumed-answered :
+      answers (resumed .world) on-with
+      ≡ Wants (Discard (record { 0 = 0 }) 4194304 (record { 0 = 140737488355328 }))
+      ∷ Served (respond 0 0) 10
+      ∷ []
+  pub resumed-told : after resumed on-with .events ≡ UnplugAck 0 1 ∷ PlugAck 3 2 ∷ PlugAck 0 1 ∷ []
+  pub resumed-left : plugged (after resumed on-with .world) ≡ 8388608
+  pub resumed-counted : ones (used (after resumed on-with .world)) ≡ 2
 
 pub example : Example
-unfolding device chainTo chain place-it calls more again answers mapRegions every fill firstOf ones value littleEndian part put requestAt responseBytes virtqDesc descriptorAt descriptorAddr inside linkAt linkAfter withSecond withFirst parsed reaches delivered mappingOf fillRows laid alignmentOk regionOk sizeOk spanOf startOk severalOk pendingOk shapedOf newSize growthOf insideOf rangeOf hostSum hostIn hostOf legalAt changeIn stateIn stateOf tablesFit readyRefusal unplacedRefusal pendingRefusal unless plugAs plug unplugAs oneAs nextAs stateType serve request resizes placing place setRequestedSize hostAnswer step ackToType ackToRequest ackToHost acknowledges discardOf reports ifAck unlessRefused eventsOf openedByType openedByRequest goesOn openedBy askedBy openAfter next after
+unfolding device chainTo chain place-it calls more again saved resumed on-with answers mapRegions every fill firstOf ones value littleEndian part put requestAt responseBytes virtqDesc descriptorAt descriptorAddr inside linkAt linkAfter withSecond withFirst parsed reaches delivered mappingOf fillRows laid alignmentOk regionOk sizeOk spanOf startOk severalOk pendingOk shapedOf newSize growthOf insideOf rangeOf hostSum hostIn hostOf legalAt changeIn stateIn stateOf tablesFit readyRefusal unplacedRefusal pendingRefusal unless plugAs plug unplugAs oneAs nextAs stateType serve request resizes placing place setRequestedSize hostAnswer step ackToType ackToRequest ackToHost acknowledges discardOf reports ifAck unlessRefused eventsOf openedByType openedByRequest goesOn openedBy askedBy openAfter next after wasPlug marks counts could marked counted allCould allPlugs
 example =
     record {
       answered = refl;
@@ -168,4 +189,19 @@ example =
       again-told = refl;
       again-left = refl;
       again-counted = refl;
+      saved-restores =
+          record {
+            is-placed = refl;
+            waits-for-nothing = refl;
+            is-long = omega arith;
+            none-set = refl;
+            nothing-plugged = refl;
+            requested-fits = refl;
+            only-plugs = refl;
+            all-could = refl;
+          };
+      resumed-answered = refl;
+      resumed-told = refl;
+      resumed-left = refl;
+      resumed-counted = refl;
     }

@@ -18,7 +18,8 @@ use Rattle.resize.proofs.Laws.{asking}
 use Rattle.step.specs.declared.Answer.the-variants.{Refused}
 use Rattle.step.specs.World.{World, Call, Place, SetRequestedSize, Request, HostAnswer, ReadConfig, WriteConfig, Outcome}
 use Rattle.step.specs.Step.{region, usable, several, regionBlocks, regionRows, newUsable}
-use Rattle.history.specs.History.{Event, Story, next, after, begun}
+use Rattle.history.specs.History.{Event, Story, next, after}
+use Rattle.history.specs.Reached.{Reached, from-making, by-call, by-restore}
 use Rattle.history.specs.Rules.{InEveryRun, FromEveryWorld, asks, taken, takes, waits, askedIn, takenIn, EachAskedAnswered, PendingStays, due, AsksWhatIsDue}
 use Rattle.record.proofs.Laws.{Parts}
 use Rattle.history.proofs.Shaped.{clash, idle-nothing}
@@ -79,16 +80,10 @@ balanced w =
       place-asks-whole = λ a _. rw (idle-waits p (a .entry .is-idle));
     }
 
-always-balanced : (s : Story) (cs : List Call) → askedIn (s .world) cs + waits (s .world .device .pending) ≡ takenIn (s .world) cs + waits (after s cs .world .device .pending)
-unfolding askedIn takenIn after next
-always-balanced s [] = refl
-always-balanced s (c ∷ cs) = omega (arith, always-balanced (next s c) cs, each-call (s .world) (Balanced (s .world)) (balanced (s .world)) c)
-
 pub each-asked-answered : EachAskedAnswered
-unfolding waits
-each-asked-answered d fresh cs =
-    let none : waits (d .pending) ≡ 0 = rw (fresh .waits-for-nothing) in
-    omega (arith, always-balanced (begun d) cs)
+unfolding askedIn takenIn after next
+each-asked-answered s [] = omega arith
+each-asked-answered s (c ∷ cs) = omega (arith, each-asked-answered (next s c) cs, each-call (s .world) (Balanced (s .world)) (balanced (s .world)) c)
 
 -- ---- a pending call stays but by a question or an answer
 abbrev Stays : World → Call → Outcome → List Event → Type 0
@@ -188,10 +183,11 @@ row-due w h =
           laid-due (a .table) (a .slots) (omega (arith, a .entry .has-rows)) (omega (arith, a .slots-fit));
     }
 
-always-due : (s : Story) (cs : List Call) → rowDue (s .world .device .pending) (s .world .rows) ≡ true → rowDue (after s cs .world .device .pending) (after s cs .world .rows) ≡ true
-unfolding after next
-always-due s [] h = h
-always-due s (c ∷ cs) h = always-due (next s c) cs (each-call (s .world) RowDue (row-due (s .world) h) c)
+is-due : (s : Story) → Reached s → rowDue (s .world .device .pending) (s .world .rows) ≡ true
+unfolding rowDue next
+is-due s (from-making fresh) = rw (fresh .waits-for-nothing)
+is-due s (by-call {s = before} r c) = each-call (before .world) RowDue (row-due (before .world) (is-due before r)) c
+is-due s (by-restore r l) = rw (l .waits-for-nothing)
 
 -- ---- what is asked for is due
 by-pending : (w : World) (es : List Event) (p : Pending) → w .device .pending ≡ p → Inv w es → Parts (w .device) → rowDue p (w .rows) ≡ true
@@ -204,8 +200,4 @@ by-pending w es (Discard first count status) q h s r =
 by-pending w es (DiscardOne block status) q h s r = could-discard (regionBlocks w) (w .blocks) block (rw q at (h .asked))
 
 pub asks-what-is-due : InEveryRun AsksWhatIsDue
-unfolding rowDue
-asks-what-is-due d fresh cs c =
-    let w = after (begun d) cs .world in
-    by-pending w (after (begun d) cs .events) (w .device .pending) refl (invariant d fresh cs) (is-shaped d fresh cs)
-    (always-due (begun d) cs (rw (fresh .waits-for-nothing)))
+asks-what-is-due s r c = by-pending (s .world) (s .events) (s .world .device .pending) refl (invariant s r) (is-shaped s r) (is-due s r)

@@ -2,7 +2,7 @@
 use Prim.Native.Nat.{ℕ, _+_, _-_, _*_, _/_, max, min, _≤_, _<_}
 use mathlib.Core.Path.{_≡_, refl, _∙_}
 use mathlib.Core.Bool.{Bool, true, false}
-use mathlib.Core.List.{List, [], _∷_}
+use mathlib.Core.List.{List}
 use native.Mathlib.Omega.{arith}
 use native.Mathlib.Nat.{add-mul-mod-self-right, zero-mod}
 use lib.Dec.{leb}
@@ -11,7 +11,6 @@ use Rattle.units.specs.Numbers.{bytesOf, blocksIn, mapRegion, mapRegions}
 use Rattle.units.specs.declared.GuestAddr.{GuestAddr}
 use Rattle.units.proofs.Tests.{by-test, and-left, and-right}
 use Rattle.bitmap.proofs.Laws.{next-at}
-use Rattle.record.specs.declared.Device.{Device}
 use Rattle.record.specs.declared.Pending.the-variants.{Nothing, Create, Discard, DiscardOne}
 use Rattle.record.specs.Shape.{regionOk, alignmentOk, sizeOk, pendingOk}
 use Rattle.resize.specs.declared.Growth.the-variants.{Asks}
@@ -20,10 +19,12 @@ use Rattle.resize.proofs.Laws.{new-within, new-whole, asking}
 use Rattle.rows.specs.declared.MapRow.{MapRow}
 use Rattle.step.specs.World.{World, Call, Outcome}
 use Rattle.step.specs.Step.{step, blockSize, region, usable, plugged, requested, several, regionBlocks, cleared}
-use Rattle.history.specs.History.{Event, Story, next, after, Fresh, begun}
+use Rattle.history.specs.History.{Event, Story, next}
+use Rattle.history.specs.Reached.{Reached, from-making, by-call, by-restore}
 use Rattle.history.specs.Rules.{InEveryRun, KeepsShape}
 use Rattle.record.proofs.Laws.{Parts, parts as shaped-is, whole as shaped-when, less-ok}
 use Rattle.history.proofs.Shaped.{size-whole, size-within, size-ok, reshaped, awaiting, idle-ok, cleared-shaped}
+use Rattle.history.proofs.Restored.{shaped-restored}
 use Rattle.history.proofs.Calls.{Endings, each-call}
 
 -- ---- the sizes stay whole blocks, at most the region
@@ -124,16 +125,14 @@ module _ (w : World) (s : Parts (w .device)) where
   pub step-shaped : (c : Call) → Parts (step w c .world .device)
   step-shaped c = each-call w StaysShaped stays-shaped c
 
--- ---- over any calls
-always-shaped : (s : Story) (cs : List Call) → Parts (s .world .device) → Parts (after s cs .world .device)
-unfolding after next
-always-shaped s [] h = h
-always-shaped s (c ∷ cs) h = always-shaped (next s c) cs (step-shaped (s .world) h c)
-
-pub is-shaped : (d : Device) → Fresh d → (cs : List Call) → Parts (after (begun d) cs .world .device)
-is-shaped d fresh cs = always-shaped (begun d) cs (shaped-is d (fresh .shaped))
+-- ---- in every run
+pub is-shaped : (s : Story) → Reached s → Parts (s .world .device)
+unfolding next
+is-shaped s (from-making {d} fresh) = shaped-is d (fresh .shaped)
+is-shaped s (by-call {s = before} r c) = step-shaped (before .world) (is-shaped before r) c
+is-shaped s (by-restore {s = before} {requested} {plugs} r l) = shaped-restored (before .world) requested (is-shaped before r) plugs l
 
 -- the record keeps its shape
 pub keeps-shape : InEveryRun KeepsShape
 unfolding next
-keeps-shape d fresh cs c = shaped-when _ (step-shaped (after (begun d) cs .world) (is-shaped d fresh cs) c)
+keeps-shape s r c = shaped-when _ (step-shaped (s .world) (is-shaped s r) c)

@@ -1,10 +1,11 @@
 pub mod Shaped
 pub mod Cases
 pub mod Invariant
+pub mod Restored
 pub mod Observer
 pub mod Calls
-pub mod Demand3
 pub mod KeepsShape
+pub mod Demand3
 pub mod Sizes
 pub mod SizeChange
 pub mod Whole

@@ -1,4 +1,4 @@
--- Every device that is made is a newly made device in the sense of the runs, so demand 3 holds from making on. Assumes nothing.
+-- Every device that is made is a newly made device in the sense of the runs, so demand 3 holds from making on.
 use Prim.Native.Nat.{ℕ}
 use mathlib.Core.Path.{_≡_}
 use mathlib.Core.Bool.{Bool}
@@ -10,7 +10,8 @@ use Rattle.making.specs.declared.Made.the-variants.{Device as MadeDevice}
 use Rattle.making.specs.Made.{made}
 use Rattle.making.proofs.Newly.{made-new}
 use Rattle.history.specs.History.{Fresh, Told, after, begun}
-use Rattle.history.proofs.Demand3.{demand-3}
+use Rattle.history.specs.Reached.{from-making}
+use Rattle.history.proofs.Demand3.{demand-3, reached-after}
 
 module _ (capacity requested : ℕ) (several : Bool) (node : Node) (boot : ℕ) (d : Device) (e : made capacity requested several node boot ≡ MadeDevice d) where
   pub made-fresh : Fresh d
@@ -26,4 +27,4 @@ module _ (capacity requested : ℕ) (several : Bool) (node : Node) (boot : ℕ) 
 
   -- demand 3, from the making of a device on
   pub demand-3-from-making : (cs : List Call) → Told (after (begun d) cs .world) (after (begun d) cs .events)
-  demand-3-from-making cs = demand-3 d made-fresh cs
+  demand-3-from-making cs = demand-3 (after (begun d) cs) (reached-after (begun d) (from-making made-fresh) cs)

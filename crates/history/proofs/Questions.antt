@@ -19,7 +19,7 @@ use Rattle.step.specs.declared.Answer.{Answer}
 use Rattle.step.specs.declared.Answer.the-variants.{Wants}
 use Rattle.step.specs.World.{World, Call, Outcome}
 use Rattle.step.specs.Step.{blockSize, region, start, several}
-use Rattle.history.specs.History.{Event, after, begun}
+use Rattle.history.specs.History.{Event}
 use Rattle.history.specs.Rules.{InEveryRun, FromEveryWorld, DiscardsNothing, SizeChangeDiscardsNothing, asks}
 use Rattle.history.specs.Questions.{IsDiscard, creationDue, IsCreation, WaitsFor, AsksForPending, isUnplug, isUnplugAll, mayDiscard, openOf, OnlyUnplugsDiscard, OnlyOpenUnplugsDiscard, OthersDiscardNothing}
 use Rattle.history.proofs.Shaped.{clash}
@@ -112,7 +112,7 @@ pub only-unplugs-discard : FromEveryWorld OnlyUnplugsDiscard
 only-unplugs-discard w c = each-call w (IsQuestion w) (question w) c .by-unplug
 
 pub only-open-unplugs-discard : InEveryRun OnlyOpenUnplugsDiscard
-only-open-unplugs-discard d fresh cs c = rw (open-is d fresh cs) at (only-unplugs-discard (after (begun d) cs .world) c)
+only-open-unplugs-discard s r c = rw (open-is s r) at (only-unplugs-discard (s .world) c)
 
 -- ---- the calls that discard nothing
 never : (w : World) (c : Call) → mayDiscard (openOf (w .device .pending)) c ≡ false → DiscardsNothing w c

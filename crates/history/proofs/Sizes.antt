@@ -10,7 +10,7 @@ use Rattle.step.specs.declared.Answer.{Answer}
 use Rattle.step.specs.declared.Answer.the-variants.{Refused, Wants, Sized, Unserved, Served, Done}
 use Rattle.step.specs.World.{World, Call, Outcome}
 use Rattle.step.specs.Step.{blockSize, usable, plugged, requested, regionBlocks}
-use Rattle.history.specs.History.{Event, next, after, begun}
+use Rattle.history.specs.History.{Event}
 use Rattle.history.specs.Rules.{InEveryRun, FromEveryWorld, Never12, DiscardIsCounted, UsableNeverShrinks, isSizeChange, OnlySizeChangeMovesRequested, PlugWithinRequested}
 use Rattle.record.proofs.Laws.{Parts, whole as shaped-when}
 use Rattle.history.proofs.Shaped.{clash}
@@ -71,16 +71,14 @@ module _ (w : World) (s : Parts (w .device)) (es : List Event) (h : Inv w es) wh
 
 pub never-12 : InEveryRun Never12
 unfolding is12
-never-12 d fresh cs c e =
-    let w = after (begun d) cs .world in
-    clash (ap is12 e) (each-call w Not12 (not-12 w (is-shaped d fresh cs) (after (begun d) cs .events) (invariant d fresh cs)) c)
+never-12 s r c e = clash (ap is12 e) (each-call (s .world) Not12 (not-12 (s .world) (is-shaped s r) (s .events) (invariant s r)) c)
 
 -- ---- the block that an unplug-all waits for is counted
 pub discard-is-counted : InEveryRun DiscardIsCounted
 unfolding Asked
-discard-is-counted d fresh cs c block status waits =
-    let w = after (begun d) cs .world in
-    let h = invariant d fresh cs in
+discard-is-counted s r c block status waits =
+    let w = s .world in
+    let h = invariant s r in
     let enough = are-counted (blockSize w) (plugged w) 1 _ _ (used-one (regionBlocks w) (w .blocks) block (rw waits at (h .asked))) (h .told .count) in
     omega arith
 

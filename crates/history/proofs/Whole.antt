@@ -10,8 +10,9 @@ use Rattle.bitmap.specs.declared.Found.the-variants.{At, Nothing as NoneSet}
 use Rattle.bitmap.proofs.Laws.{next-at, next-nothing}
 use Rattle.step.specs.World.{World, Call, Outcome}
 use Rattle.step.specs.Step.{plugged, regionBlocks}
-use Rattle.history.specs.History.{Event, PlugAck, UnplugAck, Discarded, UnplugAllAck, next, after, begun}
-use Rattle.history.specs.Rules.{InEveryRun, marks, counts, could, marked, counted, allCould, Whole, isPlace, WholeOrNotAtAll}
+use Rattle.history.specs.History.{Event, PlugAck, UnplugAck, Discarded, UnplugAllAck, next}
+use Rattle.history.specs.Reached.{marks, counts, could, marked, counted, allCould}
+use Rattle.history.specs.Rules.{InEveryRun, Whole, isPlace, WholeOrNotAtAll}
 use Rattle.history.proofs.Shaped.{clash}
 use Rattle.history.proofs.Invariant.{Inv, Asked, goes-on}
 use Rattle.history.proofs.Calls.{Endings, each-call}
@@ -92,6 +93,4 @@ module _ (w : World) (es : List Event) (h : Inv w es) where
 
 pub whole-or-not-at-all : InEveryRun WholeOrNotAtAll
 unfolding next
-whole-or-not-at-all d fresh cs c =
-    let s = after (begun d) cs in
-    rw (open-is d fresh cs) at (each-call (s .world) (IsWhole (s .world)) (whole (s .world) (s .events) (invariant d fresh cs)) c)
+whole-or-not-at-all s r c = rw (open-is s r) at (each-call (s .world) (IsWhole (s .world)) (whole (s .world) (s .events) (invariant s r)) c)

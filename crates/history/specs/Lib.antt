@@ -1,4 +1,5 @@
 pub mod History
+pub mod Reached
 pub mod Rules
 pub mod Questions
 pub mod Refusals

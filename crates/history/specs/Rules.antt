@@ -1,17 +1,14 @@
 -- The rule of the requested size, sentence by sentence: each is what holds of every call c, at every point s of every run or, where no run is needed, from every world w with the outcome o.
-use Prim.Native.Nat.{ℕ, _+_, _-_, _*_, _≤_, _<_}
+use Prim.Native.Nat.{ℕ, _+_, _*_, _≤_, _<_}
 use mathlib.Core.Path.{_≡_}
-use mathlib.Core.Bool.{Bool, true, false, cond, _&&_}
+use mathlib.Core.Bool.{Bool, true, false, cond}
 use mathlib.Core.List.{List, [], _∷_}
-use lib.Dec.{leb, ltb, eqb}
-use Rattle.units.specs.Numbers.{bytesOf}
+use lib.Dec.{eqb}
 use Rattle.units.specs.declared.GuestAddr.{GuestAddr}
 use Rattle.units.specs.declared.RegionOffset.{RegionOffset}
 use Rattle.units.specs.declared.HostAddr.{HostAddr}
-use Rattle.bitmap.specs.Blocks.{blockAt, allAre, fill}
 use Rattle.rows.specs.declared.MapRow.{MapRow}
 use Rattle.rows.specs.Rows.{rowAt}
-use Rattle.record.specs.declared.Device.{Device}
 use Rattle.record.specs.declared.Pending.{Pending}
 use Rattle.record.specs.declared.Pending.the-variants.{Nothing, Create, Discard, DiscardOne}
 use Rattle.record.specs.declared.HostCall.the-variants.{Discard as DiscardCall}
@@ -20,11 +17,12 @@ use Rattle.step.specs.declared.Answer.{Answer}
 use Rattle.step.specs.declared.Answer.the-variants.{Refused, Wants, Sized, Unserved, Served, Done}
 use Rattle.step.specs.World.{World, Call, Place, SetRequestedSize, Request, HostAnswer, ReadConfig, WriteConfig, Outcome}
 use Rattle.step.specs.Step.{step, blockSize, usable, plugged, requested, newUsable, regionBlocks, Untouched}
-use Rattle.history.specs.History.{Event, PlugAck, UnplugAck, Discarded, UnplugAllAck, eventsOf, Story, next, after, Fresh, begun}
+use Rattle.history.specs.History.{Event, UnplugAck, Discarded, eventsOf, Story, next, after}
+use Rattle.history.specs.Reached.{marked, counted, could, allCould, Reached}
 
--- of any list of calls from any newly made device, and of any call after them
+-- of every point that a run reaches, and of any call there
 abbrev pub InEveryRun : (Story → Call → Type 0) → Type 0
-InEveryRun P = (d : Device) → Fresh d → (cs : List Call) (c : Call) → P (after (begun d) cs) c
+InEveryRun P = (s : Story) → Reached s → (c : Call) → P s c
 
 -- of any call from any world, whatever led to it
 abbrev pub FromEveryWorld : (World → Call → Outcome → Type 0) → Type 0
@@ -82,39 +80,6 @@ LoweringAsksNothing w c o = (mib : ℕ) → c ≡ SetRequestedSize mib → mib *
     → (usable (o .world) ≡ usable w) × (o .world .device .pending ≡ w .device .pending)
 
 -- ---- every plug and unplug happens whole or not at all
--- what an event does to the blocks, and to the plugged size of blocks of b bytes
-unfoldable pub marks : Event → List Bool → List Bool
-marks (PlugAck first count) bs = fill bs first count true
-marks (UnplugAck first count) bs = fill bs first count false
-marks (Discarded block) bs = fill bs block 1 false
-marks UnplugAllAck bs = bs
-
-unfoldable pub counts : (b : ℕ) → Event → ℕ → ℕ
-counts b (PlugAck first count) size = size + bytesOf b count
-counts b (UnplugAck first count) size = size - bytesOf b count
-counts b (Discarded block) size = size - b
-counts b UnplugAllAck size = 0
-
--- what must be so before it, in a region of n blocks: a plug finds all its blocks unplugged, an unplug all of them plugged, an unplug-all discards the lowest plugged block, and acknowledges where none is left
-unfoldable pub could : Event → List Bool → (n : ℕ) → Bool
-could (PlugAck first count) bs n = leb (first + count) n && allAre bs first count false
-could (UnplugAck first count) bs n = leb (first + count) n && allAre bs first count true
-could (Discarded block) bs n = ltb block n && (blockAt bs block && allAre bs 0 block false)
-could UnplugAllAck bs n = allAre bs 0 n false
-
--- of a list of events, newest first
-unfoldable pub marked : List Event → List Bool → List Bool
-marked [] bs = bs
-marked (e ∷ es) bs = marks e (marked es bs)
-
-unfoldable pub counted : (b : ℕ) → List Event → ℕ → ℕ
-counted b [] size = size
-counted b (e ∷ es) size = counts b e (counted b es size)
-
-unfoldable pub allCould : List Event → List Bool → (n : ℕ) → Bool
-allCould [] bs n = true
-allCould (e ∷ es) bs n = allCould es bs n && could e (marked es bs) n
-
 pub record Whole (w : World) (new : List Event) (w′ : World) : Type 0 where
   pub blocks-by : w′ .blocks ≡ marked new (w .blocks)
   pub size-by : plugged w′ ≡ counted (blockSize w) new (plugged w)
@@ -175,10 +140,10 @@ unfoldable pub takenIn : World → List Call → ℕ
 takenIn w [] = 0
 takenIn w (c ∷ cs) = takes c (step w c .answer) + takenIn (step w c .world) cs
 
--- each question has one answer before the next is asked; where nothing is pending none is left unanswered
+-- each question has one answer before the next is asked; where nothing is pending none is left unanswered. Of any calls from anywhere, a newly made or a restored device included, where nothing is pending at first
 abbrev pub EachAskedAnswered : Type 0
-EachAskedAnswered = (d : Device) → Fresh d → (cs : List Call)
-    → askedIn (begun d .world) cs ≡ takenIn (begun d .world) cs + waits (after (begun d) cs .world .device .pending)
+EachAskedAnswered = (s : Story) (cs : List Call)
+    → waits (s .world .device .pending) + askedIn (s .world) cs ≡ takenIn (s .world) cs + waits (after s cs .world .device .pending)
 
 -- a pending call stays as it is but where a question is asked or an answer is taken
 abbrev pub PendingStays : World → Call → Outcome → Type 0
