@@ -1,20 +1,20 @@
 -- A restore: its plugs, one after the other, keep the invariant and the shape.
-use Prim.Native.Nat.{ℕ, _+_, _*_, _≤_}
-use mathlib.Core.Path.{_≡_, refl, _∙_}
-use mathlib.Core.Bool.{Bool, true, false}
+use Prim.Native.Nat.{ℕ, _+_, _*_, _≤_, _<_}
+use mathlib.Core.Path.{_≡_, refl, _∙_, sym}
+use mathlib.Core.Bool.{Bool, true, false, _&&_}
 use mathlib.Core.List.{List, [], _∷_}
 use native.Mathlib.Omega.{arith}
 use native.Mathlib.Nat.{mul-mod-left, div-mul-le-self, mul-le-mul-right}
-use lib.Dec.{leb}
+use lib.Dec.{leb, ltb}
 use lib.ListN.{length, length-take}
-use borrow.Author.Tests.{leb-true}
+use borrow.Author.Tests.{leb-true, ltb-true}
 use Rattle.units.specs.Numbers.{blocksIn}
-use Rattle.units.proofs.Tests.{and-left, and-right}
-use Rattle.bitmap.specs.Blocks.{ones, allAre}
+use Rattle.units.proofs.Tests.{by-test, and-left, and-right}
+use Rattle.bitmap.specs.Blocks.{blockAt, ones, allAre}
 use Rattle.bitmap.proofs.Laws.{all-clear-at, fill-length, ones-none, ones-length}
 use Rattle.step.specs.World.{World}
 use Rattle.step.specs.Step.{blockSize, region, usable, plugged, start, regionBlocks}
-use Rattle.history.specs.History.{Event, PlugAck, UnplugAck, Discarded, UnplugAllAck, lastOn, wasPlug, used}
+use Rattle.history.specs.History.{Event, PlugAck, UnplugAck, Discarded, UnplugAllAck, within, on, lastOn, wasPlug, used}
 use Rattle.history.specs.Reached.{marks, counts, could, marked, counted, allCould, allPlugs, Restores, laidOn}
 use Rattle.record.proofs.Laws.{Parts}
 use Rattle.history.proofs.Shaped.{clash, block-is, size-ok, size-within, reshaped, idle-ok}
@@ -38,6 +38,18 @@ module _ (first count n : ℕ) (bs : List Bool) (e : could (PlugAck first count)
   plug-finds : allAre bs first count false ≡ true
   unfolding could
   plug-finds = and-right (leb (first + count) n) _ e
+
+-- a block whose last event is a plug lies in the region of n blocks
+last-inside : (es : List Event) (bs : List Bool) (n i : ℕ) → allPlugs es ≡ true → allCould es bs n ≡ true → wasPlug (lastOn es i) ≡ true → i < n
+unfolding allPlugs allCould lastOn on within wasPlug
+last-inside [] bs n i p q last = clash last refl
+last-inside (PlugAck first count ∷ es) bs n i p q last =
+    let ends = plug-ends first count n (marked es bs) (and-right (allCould es bs n) _ q) in
+    by-test (leb first i && ltb i (first + count)) (λ t. let before = ltb-true i (first + count) (and-right (leb first i) _ t) in omega arith)
+    (λ t. last-inside es bs n i p (and-left _ _ q) (rw t at last))
+last-inside (UnplugAck first count ∷ es) bs n i p q last = clash p refl
+last-inside (Discarded block ∷ es) bs n i p q last = clash p refl
+last-inside (UnplugAllAck ∷ es) bs n i p q last = clash p refl
 
 within-all : (a b c : ℕ) → a ≤ b → b ≤ c → a ≤ c
 within-all a b c p q = omega arith
@@ -81,7 +93,11 @@ module _ (w : World) (requested : ℕ) (s : Parts (w .device)) where
   inv-restored (Discarded block ∷ es) r = clash (r .only-plugs) refl
   inv-restored (UnplugAllAck ∷ es) r = clash (r .only-plugs) refl
 
-  -- so the plugged size is of whole blocks, and the shape stays
+  -- what it plugs lies in the usable size
+  pub restored-inside : (plugs : List Event) → Restores w requested plugs → (i : ℕ) → i < regionBlocks w → blockAt (marked plugs (w .blocks)) i ≡ true → i < blocksIn (blockSize w) (usable w)
+  restored-inside plugs r i l p = last-inside plugs (w .blocks) _ i (r .only-plugs) (r .all-could) (sym (inv-restored plugs r .told .bits i l) ∙ p)
+
+  -- the plugged size is of whole blocks of the region, so the shape stays
   pub shaped-restored : (plugs : List Event) → Restores w requested plugs → Parts (laidOn w requested plugs .device)
   shaped-restored plugs r =
       let w′ = laidOn w requested plugs in

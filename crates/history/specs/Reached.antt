@@ -85,3 +85,9 @@ pub data Reached : Story → Type 0 where
   from-making : {d : Device} → Fresh d → Reached (begun d)
   by-call : {s : Story} → Reached s → (c : Call) → Reached (next s c)
   by-restore : {s : Story} {requested : ℕ} {plugs : List Event} → Reached s → Restores (s .world) requested plugs → Reached (restored (s .world) requested plugs)
+
+-- the device as it was made
+unfoldable pub madeAs : {s : Story} → Reached s → Device
+madeAs (from-making {d} fresh) = d
+madeAs (by-call r c) = madeAs r
+madeAs (by-restore r l) = madeAs r

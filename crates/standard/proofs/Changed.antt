@@ -2,25 +2,28 @@
 use Prim.Native.Nat.{ℕ, _+_, _*_, _≤_, _<_}
 use mathlib.Core.Path.{_≡_, refl, ap, _∙_, sym}
 use mathlib.Core.Bool.{Bool, true, false}
-use mathlib.Core.List.{List, [], _∷_}
+use mathlib.Core.List.{List, []}
 use mathlib.Core.Option.{Option, some, none}
 use native.Mathlib.Omega.{arith}
 use lib.Dec.{leb, ltb, eqb}
 use lib.ListN.{length}
 use borrow.Author.Tests.{leb-true, leb-false, ltb-true, ltb-false, eqb-true, eqb-false}
+use Rattle.units.specs.Numbers.{blocksIn}
 use Rattle.units.specs.declared.GuestAddr.{GuestAddr}
 use Rattle.units.proofs.Tests.{by-test}
 use Rattle.bitmap.specs.Blocks.{blockAt, fill}
 use Rattle.bitmap.proofs.Laws.{at-inside, at-before, at-after, all-clear-at, all-filled}
 use Rattle.wire.specs.declared.VirtioMemReq.{VirtioMemReq}
 use Rattle.rows.specs.declared.MapRow.{MapRow}
-use Rattle.record.specs.declared.Device.{Device}
 use Rattle.record.specs.declared.Pending.the-variants.{Discard, DiscardOne}
 use Rattle.step.specs.World.{World, Guest, Call, Place, SetRequestedSize, Request, HostAnswer, ReadConfig, WriteConfig, Outcome}
 use Rattle.step.specs.Step.{step, hostAnswer, blockSize, usable, regionBlocks, cleared, placed}
-use Rattle.history.specs.History.{Story, next, after, begun}
+use Rattle.history.specs.History.{Story, next}
+use Rattle.history.specs.Reached.{Reached, from-making, by-call, by-restore}
 use Rattle.history.specs.Rules.{InEveryRun, FromEveryWorld, isPlace}
 use Rattle.history.proofs.Shaped.{clash}
+use Rattle.history.proofs.KeepsShape.{is-shaped}
+use Rattle.history.proofs.Restored.{restored-inside}
 use Rattle.history.proofs.Sizes.{usable-never-shrinks}
 use Rattle.history.proofs.Cases.{on-unplaced, place-cases, placing-cases}
 use Rattle.standard.specs.Config.{OutsideIsUnplugged}
@@ -175,16 +178,19 @@ inside-by w (HostAnswer g ok host) h = kept-inside w (HostAnswer g ok host) refl
 inside-by w (ReadConfig offset buffer) h = kept-inside w (ReadConfig offset buffer) refl h
 inside-by w (WriteConfig offset buffer) h = kept-inside w (WriteConfig offset buffer) refl h
 
-always-inside : (s : Story) (cs : List Call) → AllInside (s .world) → AllInside (after s cs .world)
-unfolding after next
-always-inside s [] h = h
-always-inside s (c ∷ cs) h = always-inside (next s c) cs (inside-by (s .world) c h)
+block-inside : (b usable i : ℕ) → b ≡ 4194304 → i < blocksIn b usable → i * b < usable
+block-inside b usable i e l = let l′ = rw e at l in rw e (omega arith)
 
-pub plugged-inside : (d : Device) (cs : List Call) → AllInside (after (begun d) cs .world)
-plugged-inside d cs = always-inside (begun d) cs (λ i l p. clash p refl)
+pub plugged-inside : (s : Story) → Reached s → AllInside (s .world)
+unfolding next
+plugged-inside s (from-making fresh) = λ i l p. clash p refl
+plugged-inside s (by-call {s = before} r c) = inside-by (before .world) c (plugged-inside before r)
+plugged-inside s (by-restore {s = before} {requested} {plugs} r l) =
+    let w = before .world in
+    λ i n p. block-inside (blockSize w) (usable w) i (facts-at before r .block-size) (restored-inside w requested (is-shaped before r) plugs l i n p)
 
 pub outside-is-unplugged : InEveryRun OutsideIsUnplugged
-outside-is-unplugged d fresh cs c i l past =
-    let w = after (begun d) cs .world in
-    let s = facts-at d fresh cs in
-    by-test (blockAt (w .blocks) i) (λ t. let end = whole-block (blockSize w) (usable w) i (s .block-size) (s .usable-blocks) (plugged-inside d cs i l t) in let next-block : (i + 1) * blockSize w ≡ i * blockSize w + blockSize w = omega arith in absurd (omega arith)) (λ t. t)
+outside-is-unplugged s r c i l past =
+    let w = s .world in
+    let f = facts-at s r in
+    by-test (blockAt (w .blocks) i) (λ t. let end = whole-block (blockSize w) (usable w) i (f .block-size) (f .usable-blocks) (plugged-inside s r i l t) in let next-block : (i + 1) * blockSize w ≡ i * blockSize w + blockSize w = omega arith in absurd (omega arith)) (λ t. t)

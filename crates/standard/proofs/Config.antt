@@ -18,14 +18,15 @@ use Rattle.making.specs.declared.Made.the-variants.{Device as MadeDevice, Refus
 use Rattle.making.specs.Made.{requestedBad, newDevice, made}
 use Rattle.step.specs.World.{World, Call, SetRequestedSize, Outcome}
 use Rattle.step.specs.Step.{step, readConfig, blockSize, region, usable, requested}
-use Rattle.history.specs.History.{Event, Story, next, after, Fresh, begun}
+use Rattle.history.specs.History.{Event, Story, next, after}
+use Rattle.history.specs.Reached.{Reached, from-making, by-call, by-restore, madeAs}
 use Rattle.history.specs.Rules.{InEveryRun, FromEveryWorld}
 use Rattle.history.proofs.Shaped.{clash}
 use Rattle.history.proofs.Cases.{write-cases}
 use Rattle.history.proofs.Calls.{Endings, each-call}
 use Rattle.history.proofs.Demand3.{demand-3}
 use Rattle.history.proofs.KeepsShape.{is-shaped}
-use Rattle.standard.specs.Config.{configOf, Features, FeaturesFromMaking, ReadsLayout, Constant, ConstantFields, FieldsLaidOut, settledByCall, settledBy, settledAfter, RequestedIsUsable, PluggedSizeIsOfBlocks, WritesNothing}
+use Rattle.standard.specs.Config.{configOf, Features, FeaturesFromMaking, ReadsLayout, Constant, ConstantFields, ConstantInRestore, FieldsLaidOut, settledByCall, settledBy, settledAfter, RequestedIsUsable, PluggedSizeIsOfBlocks, WritesNothing}
 
 -- ---- what each call does to the config, in every world
 record Kept (w : World) (c : Call) (o : Outcome) : Type 0 where
@@ -107,6 +108,9 @@ module _ (w : World) where
 pub constant-fields : FromEveryWorld ConstantFields
 constant-fields w c = kept-by w c .constant
 
+pub constant-in-restore : ConstantInRestore
+constant-in-restore w size plugs = constants w _ refl refl refl (λ _. refl) refl
+
 -- ---- M5, over every run
 requested-is-usable-from : (before : Bool) (s : Story) (cs : List Call) → (before ≡ true → requested (s .world) ≤ usable (s .world)) → settledAfter before (s .world) cs ≡ true
     → requested (after s cs .world) ≤ usable (after s cs .world)
@@ -115,7 +119,7 @@ requested-is-usable-from before s [] h e = h e
 requested-is-usable-from before s (c ∷ cs) h e = requested-is-usable-from (settledBy before (step (s .world) c .answer)) (next s c) cs (kept-by (s .world) c .settles before h) e
 
 pub requested-is-usable : RequestedIsUsable
-requested-is-usable d fresh cs e = requested-is-usable-from false (begun d) cs (λ z. clash z refl) e
+requested-is-usable s cs e = requested-is-usable-from false s cs (λ z. clash z refl) e
 
 -- ---- M2, from making on
 features-of : (region requested alignment : ℕ) (several : Bool) (node : Node) → Features node (newDevice region requested alignment several node)
@@ -140,13 +144,13 @@ made-features capacity requested several node boot d e =
 features-stay : (node : Node) (w w′ : World) → Constant w w′ → Features node (w .device) → Features node (w′ .device)
 features-stay node w w′ k f = record { with-node = rw (k .same-features) (f .with-node); node-is = k .same-node ∙ f .node-is; accessible = rw (k .same-features) (f .accessible) }
 
-features-after : (node : Node) (s : Story) (cs : List Call) → Features node (s .world .device) → Features node (after s cs .world .device)
-unfolding after next
-features-after node s [] f = f
-features-after node s (c ∷ cs) f = features-after node (next s c) cs (features-stay node (s .world) _ (constant-fields (s .world) c) f)
-
 pub features-from-making : FeaturesFromMaking
-features-from-making capacity requested several node boot d e cs = features-after node (begun d) cs (made-features capacity requested several node boot d e)
+unfolding next madeAs
+features-from-making capacity requested several node boot s (from-making {d} fresh) e = made-features capacity requested several node boot d e
+features-from-making capacity requested several node boot s (by-call {s = before} r c) e =
+    features-stay node (before .world) _ (constant-fields (before .world) c) (features-from-making capacity requested several node boot before r e)
+features-from-making capacity requested several node boot s (by-restore {s = before} {requested = size} {plugs} r l) e =
+    features-stay node (before .world) _ (constant-in-restore (before .world) size plugs) (features-from-making capacity requested several node boot before r e)
 
 -- ---- M3, M4, M6, M7
 pub reads-layout : ReadsLayout
@@ -157,25 +161,24 @@ pub writes-nothing : WritesNothing
 unfolding step
 writes-nothing w offset buffer = write-cases (λ o. o .world ≡ w) w buffer (λ _. refl) refl
 
-pub facts-at : (d : Device) → Fresh d → (cs : List Call) → Facts (after (begun d) cs .world .device)
-facts-at d fresh cs = facts-of _ (shaped-when _ (is-shaped d fresh cs))
+pub facts-at : (s : Story) → Reached s → Facts (s .world .device)
+facts-at s r = facts-of _ (shaped-when _ (is-shaped s r))
 
 pub fields-laid-out : InEveryRun FieldsLaidOut
-fields-laid-out d fresh cs c =
-    let w = after (begun d) cs .world in
-    let s = facts-at d fresh cs in
-    let b = s .block-size in
+fields-laid-out s r c =
+    let f = facts-at s r in
+    let b = f .block-size in
     record {
       power-of-two = b;
-      addr-whole = rw b (s .start-blocks);
-      region-whole = rw b (s .region-blocks);
-      usable-whole = rw b (s .usable-blocks);
-      plugged-whole = rw b (s .plugged-blocks);
-      requested-whole = rw b (s .requested-blocks);
-      usable-within = s .usable-in;
-      plugged-within = s .plugged-in;
-      requested-within = s .requested-in;
+      addr-whole = rw b (f .start-blocks);
+      region-whole = rw b (f .region-blocks);
+      usable-whole = rw b (f .usable-blocks);
+      plugged-whole = rw b (f .plugged-blocks);
+      requested-whole = rw b (f .requested-blocks);
+      usable-within = f .usable-in;
+      plugged-within = f .plugged-in;
+      requested-within = f .requested-in;
     }
 
 pub plugged-size-is-of-blocks : InEveryRun PluggedSizeIsOfBlocks
-plugged-size-is-of-blocks d fresh cs c = demand-3 d fresh cs .count
+plugged-size-is-of-blocks s r c = demand-3 s r .count

@@ -19,15 +19,16 @@ use Rattle.wire.specs.declared.VirtioMemReq.{VirtioMemReq}
 use Rattle.wire.specs.declared.VirtioMemResp.{VirtioMemResp}
 use Rattle.record.specs.declared.HostCall.{HostCall}
 use Rattle.record.specs.declared.HostCall.the-variants.{Discard as DiscardCall}
-use Rattle.record.specs.declared.Pending.the-variants.{Discard, DiscardOne}
-use Rattle.record.specs.declared.Device.{Device}
+use Rattle.record.specs.declared.Pending.{Pending}
+use Rattle.record.specs.declared.Pending.the-variants.{Nothing, Create, Discard, DiscardOne}
 use Rattle.record.proofs.Laws.{shaped-is as facts-of, parts as parts-of}
 use Rattle.step.specs.declared.Answer.{Answer}
 use Rattle.step.specs.declared.Answer.the-variants.{Refused, Wants, Sized, Unserved, Served, Done}
 use Rattle.step.specs.World.{World, Guest, Call, Place, SetRequestedSize, Request, HostAnswer, ReadConfig, WriteConfig, Outcome}
 use Rattle.step.specs.Step.{step, hostAnswer, usable, blockSize, plugged, regionBlocks, cleared}
-use Rattle.history.specs.History.{Event, UnplugAllAck, Open, acknowledges, ackToRequest, ackToType, ackToHost, ifAck, eventsOf, Story, next, after, Fresh, begun}
-use Rattle.history.specs.Rules.{InEveryRun, Whole, marks, counts, could, marked, counted, allCould, isPlace}
+use Rattle.history.specs.History.{Event, UnplugAllAck, Open, acknowledges, ackToRequest, ackToType, ackToHost, ifAck, eventsOf, Story, next}
+use Rattle.history.specs.Reached.{marks, counts, could, marked, counted, allCould, Reached, from-making, by-call, by-restore}
+use Rattle.history.specs.Rules.{InEveryRun, Whole, isPlace}
 use Rattle.history.proofs.Shaped.{clash}
 use Rattle.history.proofs.Cases.{plug-cases}
 use Rattle.history.proofs.Observer.{openOf}
@@ -54,45 +55,56 @@ keeps-memory w =
       one-ends = λ j status a g ok host o h l. l .keeps-memory;
     }
 
-always-memory : (s : Story) (cs : List Call) → InMemory (s .world) → InMemory (after s cs .world)
-unfolding after next
-always-memory s [] m = m
-always-memory s (c ∷ cs) m = always-memory (next s c) cs (each-way (s .world) (λ c o. InMemory (s .world) → InMemory (o .world)) (keeps-memory (s .world)) c m)
+-- while nothing is pending no creation is
+nothing-asked : {A : Type 0} (p : Pending) (i last : ℕ) → p ≡ Nothing → p ≡ Create i last → A
+nothing-asked p i last idle e = let z : _≡_ {A = ℕ} 0 1 = cc in absurd (omega arith)
 
-pub in-memory : (d : Device) → Fresh d → (cs : List Call) → InMemory (after (begun d) cs .world)
-in-memory d fresh cs =
-    always-memory (begun d) cs
-    (record {
+pub in-memory : (s : Story) → Reached s → InMemory (s .world)
+unfolding next
+in-memory s (from-making {d} fresh) =
+    record {
       early = λ _. fresh .nothing-usable;
       fits = λ r l mapped. absurd (mapped refl);
       below = λ r l _ _. let none = fresh .nothing-usable in omega arith;
       single = λ _ p _. clash p (fresh .unplaced);
-      asked = λ i last e. let idle = fresh .waits-for-nothing in let z : _≡_ {A = ℕ} 0 1 = cc in absurd (omega arith);
-    })
+      asked = λ i last e. nothing-asked (d .pending) i last (fresh .waits-for-nothing) e;
+    }
+in-memory s (by-call {s = before} r c) =
+    let w = before .world in
+    each-way w (λ c o. InMemory w → InMemory (o .world)) (keeps-memory w) c (in-memory before r)
+in-memory s (by-restore {s = before} r l) =
+    let m = in-memory before r in
+    record {
+      early = m .early;
+      fits = m .fits;
+      below = m .below;
+      single = m .single;
+      asked = λ i last e. nothing-asked (before .world .device .pending) i last (l .waits-for-nothing) e;
+    }
 
 pub usable-is-mapped : InEveryRun UsableIsMapped
-usable-is-mapped d fresh cs c req p =
-    let w = after (begun d) cs .world in
-    let s = facts-at d fresh cs in
+usable-is-mapped s r c req p =
+    let w = s .world in
+    let f = facts-at s r in
     let v = p .valid in
-    let some : 0 < sizeOf w req = mul-pos (v .some-blocks) (omega (arith, s .block-size)) in
-    usable-mapped w (in-memory d fresh cs) s (offsetOf w req) (sizeOf w req) some (omega (arith, v .from-start, v .to-usable)) (p .no-border)
+    let some : 0 < sizeOf w req = mul-pos (v .some-blocks) (omega (arith, f .block-size)) in
+    usable-mapped w (in-memory s r) f (offsetOf w req) (sizeOf w req) some (omega (arith, v .from-start, v .to-usable)) (p .no-border)
 
 pub free-blocks-plug : InEveryRun FreeBlocksPlug
-free-blocks-plug d fresh cs c b p within free =
-    let w = after (begun d) cs .world in
-    let counted = demand-3 d fresh cs .count in
+free-blocks-plug s r c b p within free =
+    let w = s .world in
+    let counted = demand-3 s r .count in
     rw (b .is-request)
     (plug-standard w (b .guest) (b .table) (b .head) (b .req) (b .status) (b .hears) (b .is-type) .granted
-    (record { within-requested = omega arith; valid = p .valid; all-unplugged = free; mapped = usable-is-mapped d fresh cs c (b .req) p }))
+    (record { within-requested = omega arith; valid = p .valid; all-unplugged = free; mapped = usable-is-mapped s r c (b .req) p }))
 
 pub plugged-blocks-unplug : InEveryRun PluggedBlocksUnplug
-plugged-blocks-unplug d fresh cs c b p all =
-    let w = after (begun d) cs .world in
+plugged-blocks-unplug s r c b p all =
+    let w = s .world in
     let u = unplug-standard w (b .guest) (b .table) (b .head) (b .req) (b .status) (b .hears) (b .is-type) in
-    let can : CanUnplug w (b .req) = record { valid = p .valid; all-plugged = all; mapped = usable-is-mapped d fresh cs c (b .req) p } in
+    let can : CanUnplug w (b .req) = record { valid = p .valid; all-plugged = all; mapped = usable-is-mapped s r c (b .req) p } in
     by-test (ltb (plugged w) (sizeOf w (b .req)))
-    (λ t. absurd (never-12 d fresh cs c (rw (b .is-request) (u .spoiled can (ltb-true _ _ t)))))
+    (λ t. absurd (never-12 s r c (rw (b .is-request) (u .spoiled can (ltb-true _ _ t)))))
     (λ t. (can .mapped .host, ap (λ x. step w x .answer) (b .is-request) ∙ u .granted can (ltb-false _ _ t)))
 
 -- ---- M15: an ACK to an unplug-all
@@ -127,19 +139,18 @@ none-plugged w w′ rest k h =
 
 pub unplug-all-acknowledged : InEveryRun UnplugAllAcknowledged
 unfolding eventsOf next
-unplug-all-acknowledged d fresh cs c e responds =
-    let s = after (begun d) cs in
-    let whole = whole-or-not-at-all d fresh cs c (no-place (s .world) (s .«open») c e) in
+unplug-all-acknowledged s r c e responds =
+    let whole = whole-or-not-at-all s r c (no-place (s .world) (s .«open») c e) in
     none-plugged (s .world) _ _ (constant-fields (s .world) c) (rw (e, ack-tells _ (UnplugAllAck ∷ []) responds) at whole)
 
 -- ---- M15: an ERROR to an unplug-all
 pub plugged-can-be-discarded : InEveryRun PluggedCanBeDiscarded
-plugged-can-be-discarded d fresh cs c i l p =
-    let w = after (begun d) cs .world in
-    let s = facts-at d fresh cs in
-    let inside = plugged-inside d cs i l p in
-    let end = whole-block (blockSize w) (usable w) i (s .block-size) (s .usable-blocks) inside in
-    record { in-usable = inside; mapped = usable-mapped w (in-memory d fresh cs) s (i * blockSize w) (blockSize w) (omega (arith, s .block-size)) end (λ _. in-one (blockSize w) (s .block-size)) }
+plugged-can-be-discarded s r c i l p =
+    let w = s .world in
+    let f = facts-at s r in
+    let inside = plugged-inside s r i l p in
+    let end = whole-block (blockSize w) (usable w) i (f .block-size) (f .usable-blocks) inside in
+    record { in-usable = inside; mapped = usable-mapped w (in-memory s r) f (i * blockSize w) (blockSize w) (omega (arith, f .block-size)) end (λ _. in-one (blockSize w) (f .block-size)) }
   where
     in-one : (b : ℕ) → b ≡ 4194304 → i * b % mapRegion + b ≤ mapRegion
     in-one b e = rw e (omega arith)
@@ -181,9 +192,9 @@ fails w =
     }
 
 pub unplug-all-fails-by-host : InEveryRun UnplugAllFailsByHost
-unplug-all-fails-by-host d fresh cs c e r =
-    let w = after (begun d) cs .world in
-    each-way w (FailsByHost w) (fails w) c (plugged-can-be-discarded d fresh cs c) (rw (open-is d fresh cs) e) r
+unplug-all-fails-by-host s r c e responds =
+    let w = s .world in
+    each-way w (FailsByHost w) (fails w) c (plugged-can-be-discarded s r c) (rw (open-is s r) e) responds
 
 -- ---- M18: a block is unplugged by what the driver asks for
 unplugged-by : (s : Story) (c : Call) (i : ℕ) → openOf (s .world .device .pending) ≡ s .«open» → IsUnplugged (step (s .world) c .world) i → Changed (s .world) c (step (s .world) c) i
@@ -195,8 +206,8 @@ unplugged-by s c i seen is (ByHeldAll status q agrees p) = (ByOpenUnplugAll i (s
 
 pub unplugged-by-request : InEveryRun UnpluggedByRequest
 unfolding next
-unplugged-by-request d fresh cs c there i was is =
-    unplugged-by (after (begun d) cs) c i (open-is d fresh cs) is (changed (after (begun d) cs .world) c (λ _. there) i (λ same. clash was (sym same ∙ is)))
+unplugged-by-request s r c there i was is =
+    unplugged-by s c i (open-is s r) is (changed (s .world) c (λ _. there) i (λ same. clash was (sym same ∙ is)))
 
 -- ---- M18: what is asked of the host
 -- in a world where this is open
@@ -285,9 +296,9 @@ discards w =
 
 pub discards-by-request : InEveryRun DiscardsByRequest
 unfolding next
-discards-by-request d fresh cs c offset size host e i low high =
-    let w = after (begun d) cs .world in
-    rw (open-is d fresh cs) at (each-way w (Discards w) (discards w) c offset size host e i (omega arith) (omega arith))
+discards-by-request s r c offset size host e i low high =
+    let w = s .world in
+    rw (open-is s r) at (each-way w (Discards w) (discards w) c offset size host e i (omega arith) (omega arith))
 
 -- ---- M18: a creation lies outside of the usable region
 abbrev Creates : World → Call → Outcome → Type 0
@@ -304,4 +315,4 @@ outside w =
 
 pub creates-outside : InEveryRun CreatesOutside
 unfolding next
-creates-outside d fresh cs c guest size slot e = let w = after (begun d) cs .world in each-way w (Creates w) (outside w) c (in-memory d fresh cs) guest size slot e
+creates-outside s r c guest size slot e = let w = s .world in each-way w (Creates w) (outside w) c (in-memory s r) guest size slot e

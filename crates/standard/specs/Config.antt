@@ -20,7 +20,8 @@ use Rattle.step.specs.declared.Answer.{Answer}
 use Rattle.step.specs.declared.Answer.the-variants.{Refused, Wants, Sized, Unserved, Served, Done}
 use Rattle.step.specs.World.{World, Call, ReadConfig, WriteConfig, Outcome}
 use Rattle.step.specs.Step.{step, blockSize, region, usable, plugged, requested, start, regionBlocks}
-use Rattle.history.specs.History.{used, Story, after, Fresh, begun}
+use Rattle.history.specs.History.{Event, used, Story, after}
+use Rattle.history.specs.Reached.{laidOn, Reached, madeAs}
 
 abbrev pub configOf : World → VirtioMemConfig
 configOf w = w .device .config
@@ -41,10 +42,10 @@ pub record Features (node : Node) (d : Device) : Type 0 where
   pub node-is : d .config .«node_id» ≡ nodeNumber node
   pub accessible : offers d «VIRTIO_MEM_F_UNPLUGGED_INACCESSIBLE» ≡ false
 
--- from making on, after any calls: what is offered stays offered
+-- from making on, in every run: what is offered stays offered
 abbrev pub FeaturesFromMaking : Type 0
-FeaturesFromMaking = (capacity requested : ℕ) (several : Bool) (node : Node) (boot : ℕ) (d : Device) → made capacity requested several node boot ≡ MadeDevice d
-    → (cs : List Call) → Features node (after (begun d) cs .world .device)
+FeaturesFromMaking = (capacity requested : ℕ) (several : Bool) (node : Node) (boot : ℕ) (s : Story) (r : Reached s) → made capacity requested several node boot ≡ MadeDevice (madeAs r)
+    → Features node (s .world .device)
 
 -- ---- M3, the layout: what a config read gives from its offset on, as far as the buffer goes
 abbrev pub layoutOf : VirtioMemConfig → List ℕ
@@ -67,6 +68,9 @@ pub record Constant (w w′ : World) : Type 0 where
 abbrev pub ConstantFields : World → Call → Outcome → Type 0
 ConstantFields w c o = Constant w (o .world)
 
+abbrev pub ConstantInRestore : Type 0
+ConstantInRestore = (w : World) (size : ℕ) (plugs : List Event) → Constant w (laidOn w size plugs)
+
 -- M4: block_size is a power of two, and the start and every other size are multiples of it; M5: no size is above region_size
 pub record Layout (w : World) : Type 0 where
   pub power-of-two : blockSize w ≡ 2 ^ 22
@@ -83,7 +87,7 @@ abbrev pub FieldsLaidOut : Story → Call → Type 0
 FieldsLaidOut s c = Layout (s .world)
 
 -- ---- M5: usable_region_size shrinks at most by an acknowledged unplug-all; here it never does (`UsableNeverShrinks` of the crate history)
--- M5: requested_size is at most usable_region_size. Narrower: once a size is worked out (`Sized`), and until a creation is asked for; one that is pending or has failed leaves the usable size behind until the next `Sized`
+-- M5: requested_size is at most usable_region_size. Narrower: once a size is worked out (`Sized`), and until a creation is asked for; one that is pending or has failed leaves the usable size behind until the next `Sized`. Of any calls from anywhere: neither making nor a restore settles it
 unfoldable pub settledByCall : Bool → HostCall → Bool
 settledByCall before (Create guest size slot) = false
 settledByCall before (Discard offset size host) = before
@@ -102,8 +106,7 @@ settledAfter before w [] = before
 settledAfter before w (c ∷ cs) = settledAfter (settledBy before (step w c .answer)) (step w c .world) cs
 
 abbrev pub RequestedIsUsable : Type 0
-RequestedIsUsable = (d : Device) → Fresh d → (cs : List Call) → settledAfter false (begun d .world) cs ≡ true
-    → requested (after (begun d) cs .world) ≤ usable (after (begun d) cs .world)
+RequestedIsUsable = (s : Story) (cs : List Call) → settledAfter false (s .world) cs ≡ true → requested (after s cs .world) ≤ usable (after s cs .world)
 
 -- ---- M6: plugged_size is the size of the plugged blocks
 abbrev pub PluggedSizeIsOfBlocks : Story → Call → Type 0

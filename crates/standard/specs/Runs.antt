@@ -1,4 +1,4 @@
--- What Virtio 1.2 asks over every run of calls from a newly made device: M11, M14, M15 and M18, where a run says more than a world alone. The names M11, Q9, .. are clauses of sections 5.15 and 2.7, retold and numbered in docs/STANDARD.md. M5 and M6 are in Config.antt.
+-- What Virtio 1.2 asks in every run, which starts at a newly made device and goes on by calls and restores: M11, M14, M15 and M18, where a run says more than a world alone. The names M11, Q9, .. are clauses of sections 5.15 and 2.7, retold and numbered in docs/STANDARD.md. M5 and M6 are in Config.antt.
 use Prim.Native.Nat.{ℕ, _+_, _*_, _%_, _≤_, _<_}
 use mathlib.Core.Path.{_≡_}
 use mathlib.Core.Bool.{Bool, true, false}
