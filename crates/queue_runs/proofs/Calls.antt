@@ -5,7 +5,6 @@ use mathlib.Core.List.{List, [], _∷_, _++_}
 use lib.Dec.{eqb}
 use lib.ListN.{length}
 use Rattle.units.proofs.Tests.{by-test}
-use Rattle.record.specs.declared.Device.{Device}
 use Rattle.rings.specs.declared.Queue.{Queue}
 use Rattle.rings.specs.declared.Taken.{Taken}
 use Rattle.rings.specs.declared.Taken.the-variants.{Nothing, Head}
@@ -14,10 +13,11 @@ use Rattle.rings.specs.declared.Next.the-variants.{Head as HasHead, Empty as Ha
 use Rattle.step.specs.World.{World, Guest, Call, Request, HostAnswer}
 use Rattle.step.specs.Step.{step}
 use Rattle.queue.specs.Queue.{QueueOutcome, takes, nextOf, answerRefusal, answers, unlessRefused}
-use Rattle.history.specs.History.{Story, next, after, Fresh, begun}
-use Rattle.history.specs.Rules.{InEveryRun}
-use Rattle.queue_runs.specs.Runs.{QueueCall, TakeNext, Host, PastIt, callOf, queueStep, requestsOf, callsOf, QueueStory, nextStory, afterAll, opened, InEveryQueueRun, FromEveryQueue}
-use Rattle.queue_runs.specs.Rules.{AsCalls, NoneOrOne, allCalls, IsRun, RunsTheDevice, OfAnyCall, LiftsRules}
+use Rattle.history.specs.History.{Story, next, after}
+use Rattle.history.specs.Reached.{by-restore}
+use Rattle.history.proofs.Demand3.{reached-after}
+use Rattle.queue_runs.specs.Runs.{QueueCall, TakeNext, Host, PastIt, queueStep, requestsOf, callsOf, QueueStory, nextStory, afterAll, QueueReached, on-new-queue, on-call, on-restore, FromEveryQueue}
+use Rattle.queue_runs.specs.Rules.{AsCalls, NoneOrOne, allCalls, RunsTheDevice, LiftsRules}
 
 module _ (w : World) where
   taken : (x : Next) (q : Queue) (g : Guest) → AsCalls w (requestsOf x q g) (takes x w q g)
@@ -46,7 +46,7 @@ unfolding after
 after-both s [] ds = refl
 after-both s (c ∷ cs) ds = after-both (next s c) cs ds
 
-same-after : (s : QueueStory) (cs : List QueueCall) → afterAll s cs .story ≡ after (s .story) (allCalls s cs)
+pub same-after : (s : QueueStory) (cs : List QueueCall) → afterAll s cs .story ≡ after (s .story) (allCalls s cs)
 unfolding afterAll allCalls after nextStory
 same-after s [] = refl
 same-after s (c ∷ cs) =
@@ -59,19 +59,35 @@ leaves-world s [] o e = sym e
 leaves-world s (call ∷ []) o a = sym (a .same-world)
 leaves-world s (call ∷ more ∷ calls) o a = absurd a
 
-pub next-world : (s : QueueStory) (c : QueueCall) → s .story .world ≡ s .world → nextStory s c .story .world ≡ nextStory s c .world
+next-world : (s : QueueStory) (c : QueueCall) → s .story .world ≡ s .world → nextStory s c .story .world ≡ nextStory s c .world
 unfolding nextStory
 next-world s c e =
     leaves-world (s .story) (callsOf (s .world) (s .queue) c) (queueStep (s .world) (s .queue) c)
     (rw e (none-or-one (s .world) (s .queue) c))
 
-same-worlds : (s : QueueStory) (cs : List QueueCall) → s .story .world ≡ s .world → afterAll s cs .story .world ≡ afterAll s cs .world
+pub same-worlds : (s : QueueStory) (cs : List QueueCall) → s .story .world ≡ s .world → afterAll s cs .story .world ≡ afterAll s cs .world
 unfolding afterAll
 same-worlds s [] e = e
 same-worlds s (c ∷ cs) e = same-worlds (nextStory s c) cs (next-world s c e)
 
 pub runs-the-device : RunsTheDevice
-runs-the-device d q cs = record { same-story = same-after (opened d q) cs; same-world = same-worlds (opened d q) cs refl }
+unfolding nextStory
+runs-the-device s (on-new-queue r idle new) = record { reached = r; same-world = refl }
+runs-the-device s (on-call {s = before} r c) =
+    let h = runs-the-device before r in
+    record {
+      reached = reached-after (before .story) (h .reached) (callsOf (before .world) (before .queue) c);
+      same-world = next-world before c (h .same-world);
+    }
+runs-the-device s (on-restore {s = before} {requested} {plugs} r l) =
+    let h = runs-the-device before r in
+    record { reached = rw (h .same-world) at (by-restore {requested = requested} {plugs = plugs} (h .reached) (rw (h .same-world) l)); same-world = refl }
 
 pub lifts-rules : LiftsRules
-lifts-rules P rule d fresh q new cs c call = rw (runs-the-device d q cs .same-story) (rule d fresh (allCalls (opened d q) cs) call)
+lifts-rules P rule s r c call = rule (s .story) (runs-the-device s r .reached) call
+
+-- calls go on from what is reached
+pub reached-after-all : (s : QueueStory) → QueueReached s → (cs : List QueueCall) → QueueReached (afterAll s cs)
+unfolding afterAll
+reached-after-all s r [] = r
+reached-after-all s r (c ∷ cs) = reached-after-all (nextStory s c) (on-call r c) cs

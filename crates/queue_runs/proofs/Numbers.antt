@@ -23,22 +23,18 @@ use Rattle.step.specs.World.{World, Guest, Call, Request, HostAnswer}
 use Rattle.step.specs.Step.{step, readyRefusal, pendingRefusal, tablesFit}
 use Rattle.queue.specs.declared.QueueAnswer.the-variants.{Of}
 use Rattle.queue.specs.Queue.{QueueOutcome, discarding, queueOk, takingRefusal, nextUnless, nextOf, takes, firstOf, outRefusal, answerRefusal, answers, unlessRefused}
-use Rattle.history.specs.History.{Fresh, after, begun}
 use Rattle.history.specs.Rules.{Never12 as DeviceNever12}
 use Rattle.history.proofs.KeepsShape.{is-shaped}
 use Rattle.history.proofs.Sizes.{never-12 as device-never-12}
 use Rattle.history.proofs.Cases.{by-cond}
-use Rattle.queue_runs.specs.Runs.{callOf, QueueCall, TakeNext, Host, PastIt, queueStep, QueueStory, afterAll, New, opened, InEveryQueueRun}
+use Rattle.queue_runs.specs.Runs.{callOf, QueueCall, TakeNext, Host, PastIt, queueStep, QueueStory, QueueReached, InEveryQueueRun}
 use Rattle.queue_runs.specs.Heads.{isOut, NoneWhilePending, Never12}
-use Rattle.queue_runs.specs.Rules.{allCalls}
 use Rattle.queue_runs.proofs.Calls.{runs-the-device, lifts-rules}
 use Rattle.queue_runs.proofs.Open.{out-while-open}
 
 -- in a run the record has its shape
-shaped-in-run : (d : Device) → Fresh d → (q : Queue) (cs : List QueueCall) → shapedOf (afterAll (opened d q) cs .world .device) ≡ true
-shaped-in-run d fresh q cs =
-    let r = runs-the-device d q cs in
-    rw (← r .same-world, r .same-story) (shaped-when _ (is-shaped d fresh (allCalls (opened d q) cs)))
+shaped-in-run : (s : QueueStory) → QueueReached s → shapedOf (s .world .device) ≡ true
+shaped-in-run s r = let h = runs-the-device s r in rw (h .same-world) at (shaped-when _ (is-shaped (s .story) (h .reached)))
 
 -- and a head is out only while a discard is pending
 ok-when : (t : Taken) (p : Pending) → isOut t ≡ discarding p → queueOk t p ≡ true
@@ -118,21 +114,16 @@ module _ (w : World) (q : Queue) (shaped : shapedOf (w .device) ≡ true) (fine 
   unfolding queueStep takes nextUnless takingRefusal readyRefusal
   seven g busy = let is : nextOf w q g ≡ HasRefused 7 = rw (fine, shaped, busy) in rw (ap (λ (x : Next). takes x w q g .answer) is)
 
--- ---- over any calls
-module _ (d : Device) (fresh : Fresh d) (q : Queue) (new : New q) (cs : List QueueCall) (c : QueueCall) where
-  fine-in-run : let s = afterAll (opened d q) cs in queueOk (s .queue .taken) (s .world .device .pending) ≡ true
-  fine-in-run = ok-when _ _ (out-while-open d fresh q new cs c)
+-- ---- in every run
+module _ (s : QueueStory) (r : QueueReached s) (c : QueueCall) where
+  fine-in-run : queueOk (s .queue .taken) (s .world .device .pending) ≡ true
+  fine-in-run = ok-when _ _ (out-while-open s r c)
 
-  device-in-run : (call : Call) → step (afterAll (opened d q) cs .world) call .answer ≡ Refused 12 → ⊥
-  device-in-run call =
-      rw (runs-the-device d q cs .same-world) at (lifts-rules DeviceNever12 device-never-12 d fresh q new cs c call)
+  device-in-run : (call : Call) → step (s .world) call .answer ≡ Refused 12 → ⊥
+  device-in-run call = rw (runs-the-device s r .same-world) at (lifts-rules DeviceNever12 device-never-12 s r c call)
 
 pub never-12 : InEveryQueueRun Never12
-never-12 d fresh q new cs c =
-    let s = afterAll (opened d q) cs in
-    not-12 (s .world) (s .queue) (shaped-in-run d fresh q cs) (fine-in-run d fresh q new cs c) (device-in-run d fresh q new cs c) c
+never-12 s r c = not-12 (s .world) (s .queue) (shaped-in-run s r) (fine-in-run s r c) (device-in-run s r c) c
 
 pub none-while-pending : InEveryQueueRun NoneWhilePending
-none-while-pending d fresh q new cs c =
-    let s = afterAll (opened d q) cs in
-    seven (s .world) (s .queue) (shaped-in-run d fresh q cs) (fine-in-run d fresh q new cs c) (device-in-run d fresh q new cs c)
+none-while-pending s r c = seven (s .world) (s .queue) (shaped-in-run s r) (fine-in-run s r c) (device-in-run s r c)

@@ -2,7 +2,7 @@
 use Prim.Native.Nat.{ℕ}
 use mathlib.Core.Path.{_≡_, refl, sym, _∙_}
 use mathlib.Core.Bool.{Bool, true, false, cond}
-use mathlib.Core.List.{List, [], _∷_}
+use mathlib.Core.List.{List, []}
 use native.Mathlib.Omega.{arith}
 use lib.Dec.{eqb}
 use lib.ListN.{length}
@@ -24,7 +24,7 @@ use Rattle.queue.specs.declared.Ending.the-variants.{Stays, Out, Used}
 use Rattle.queue.specs.Queue.{QueueOutcome, tookHead, discarding, endingOf, queueBy, takes, answerRefusal, answers, unlessRefused}
 use Rattle.history.proofs.Shaped.{clash}
 use Rattle.history.proofs.Cases.{by-cond}
-use Rattle.queue_runs.specs.Runs.{Beside, Placing, Sizing, Reading, Writing, callOf, QueueCall, TakeNext, Host, PastIt, queueStep, QueueStory, nextStory, afterAll, InEveryQueueRun}
+use Rattle.queue_runs.specs.Runs.{Beside, Placing, Sizing, Reading, Writing, callOf, QueueCall, TakeNext, Host, PastIt, queueStep, nextStory, on-new-queue, on-call, on-restore, InEveryQueueRun}
 use Rattle.queue_runs.proofs.Cases.{next-cases}
 use Rattle.history.specs.History.{Event}
 use Rattle.history.proofs.Calls.{Endings, each-call}
@@ -152,12 +152,9 @@ module _ (w : World) where
           (λ t. h)
       kept (PastIt b) = h ∙ sym (beside-kept b)
 
--- ---- over any calls
-always-out : (s : QueueStory) (cs : List QueueCall) → OutThen (s .world) (s .queue) → OutThen (afterAll s cs .world) (afterAll s cs .queue)
-unfolding afterAll nextStory
-always-out s [] h = h
-always-out s (c ∷ cs) h = always-out (nextStory s c) cs (kept (s .world) (s .queue) h c)
-
+-- ---- in every run
 pub out-while-open : InEveryQueueRun OutWhileOpen
-unfolding isOut
-out-while-open d fresh q new cs c = always-out _ cs (rw (new .none-out, fresh .waits-for-nothing))
+unfolding isOut nextStory
+out-while-open s (on-new-queue {s = device} r idle new) c = rw (new .none-out) (sym (quiet (device .world .device .pending) idle))
+out-while-open s (on-call {s = before} r last) c = kept (before .world) (before .queue) (out-while-open before r last) last
+out-while-open s (on-restore r l) c = out-while-open _ r c

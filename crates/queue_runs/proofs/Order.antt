@@ -17,7 +17,7 @@ use Rattle.queue.specs.declared.Ending.{Ending}
 use Rattle.queue.specs.declared.Ending.the-variants.{Stays, Out, Used}
 use Rattle.queue.specs.Queue.{QueueOutcome, tookHead, queueBy, endingOf, takes, answerRefusal, answers, unlessRefused}
 use Rattle.history.proofs.Cases.{by-cond}
-use Rattle.queue_runs.specs.Runs.{QueueCall, TakeNext, Host, PastIt, queueStep, endingTold, takenBy, usedBy, headOf, outOf, newlyTaken, newlyReported, QueueStory, nextStory, afterAll, opened, InEveryQueueRun}
+use Rattle.queue_runs.specs.Runs.{QueueCall, TakeNext, Host, PastIt, queueStep, endingTold, takenBy, usedBy, headOf, outOf, newlyTaken, newlyReported, QueueStory, nextStory, on-new-queue, on-call, on-restore, InEveryQueueRun}
 use Rattle.queue_runs.specs.Heads.{InOrder}
 use Rattle.queue_runs.proofs.Cases.{next-cases}
 
@@ -125,13 +125,8 @@ kept s c next h =
       used-index = rw (length-append (s .reports) gave) (m .used (length (s .reports)) (h .used-index));
     }
 
-always-in-order : (s : QueueStory) (cs : List QueueCall) → ((c : QueueCall) → InOrder s c) → (c : QueueCall) → InOrder (afterAll s cs) c
-unfolding afterAll
-always-in-order s [] h = h
-always-in-order s (c ∷ cs) h = always-in-order (nextStory s c) cs (λ next. kept s c next (h c))
-
 pub in-order : InEveryQueueRun InOrder
 unfolding outOf
-in-order d fresh q new cs =
-    always-in-order (opened d q) cs
-    (λ c. record { in-order = rw (new .none-out); available-index = rw (new .available-first); used-index = rw (new .used-first) })
+in-order s (on-new-queue r idle new) c = record { in-order = rw (new .none-out); available-index = rw (new .available-first); used-index = rw (new .used-first) }
+in-order s (on-call {s = before} r last) c = kept before last c (in-order before r last)
+in-order s (on-restore {s = before} r l) c = let h = in-order before r c in record { in-order = h .in-order; available-index = h .available-index; used-index = h .used-index }

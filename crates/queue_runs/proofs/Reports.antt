@@ -27,9 +27,8 @@ use Rattle.queue.specs.declared.QueueAnswer.the-variants.{Empty, Of}
 use Rattle.queue.specs.declared.Ending.{Ending}
 use Rattle.queue.specs.declared.Ending.the-variants.{Stays, Out, Used}
 use Rattle.queue.specs.Queue.{QueueOutcome, queueOk, tookHead, endingOf, queueBy, bytesBy, about, nextOf, takes, outRefusal, answerRefusal, answers, unlessRefused}
-use Rattle.history.specs.History.{Fresh}
 use Rattle.history.proofs.Cases.{by-cond}
-use Rattle.queue_runs.specs.Runs.{QueueCall, TakeNext, Host, PastIt, queueStep, lentTo, endingTold, takenBy, usedBy, headOf, outOf, newlyTaken, newlyReported, QueueStory, nextStory, afterAll, New, opened, LendsBytes, AllLendBytes}
+use Rattle.queue_runs.specs.Runs.{QueueCall, TakeNext, Host, PastIt, queueStep, lentTo, endingTold, takenBy, usedBy, headOf, outOf, newlyTaken, newlyReported, QueueStory, nextStory, QueueReached, on-new-queue, on-call, on-restore, LendsBytes, AllLendBytes}
 use Rattle.queue_runs.specs.Heads.{InOrder, Stands, Reports, NthReport}
 use Rattle.queue_runs.proofs.Cases.{next-cases}
 use Rattle.queue_runs.proofs.Order.{in-order}
@@ -125,10 +124,11 @@ fits-then w q (Host g ok host) bytes f =
     (λ _. heard-fits (q .taken) q (g .base) (step w (HostAnswer g ok host)) f) (λ _. f)
 fits-then w q (PastIt b) bytes f = f
 
-always-fits : (s : QueueStory) (cs : List QueueCall) → AllLendBytes cs → Fits (s .queue .taken) → Fits (afterAll s cs .queue .taken)
-unfolding afterAll nextStory AllLendBytes
-always-fits s [] bytes f = f
-always-fits s (c ∷ cs) bytes f = always-fits (nextStory s c) cs (bytes .1) (fits-then (s .world) (s .queue) c (bytes .0) f)
+always-fits : (s : QueueStory) (r : QueueReached s) → AllLendBytes r → Fits (s .queue .taken)
+unfolding nextStory AllLendBytes
+always-fits s (on-new-queue r idle new) bytes = record { fits = λ head e. let y = new .none-out in let z : _≡_ {A = ℕ} 0 1 = cc in absurd (omega arith) }
+always-fits s (on-call {s = before} r c) bytes = fits-then (before .world) (before .queue) c (bytes .1) (always-fits before r (bytes .0))
+always-fits s (on-restore {s = before} r l) bytes = always-fits before r bytes
 
 -- ---- over a run
 the-head : (x : Next) (head : ℕ) → headOf x ≡ head ∷ [] → x ≡ HasHead head
@@ -155,12 +155,10 @@ reads w q (Host g ok host) bytes f head len r =
 reads w q (PastIt b) bytes f head len r = let e = r .reported in let z : _≡_ {A = ℕ} 0 1 = cc in absurd (omega arith)
 
 pub nth-report : NthReport
-nth-report d fresh q new cs all c bytes head len r =
-    let s = afterAll (opened d q) cs in
+nth-report s reached all c bytes head len r =
     let n = length (s .reports) in
-    let none : Fits (q .taken) = record { fits = λ head e. let y = new .none-out in let z : _≡_ {A = ℕ} 0 1 = cc in absurd (omega arith) } in
-    let f = reads (s .world) (s .queue) c bytes (always-fits (opened d q) cs all none) head len r in
-    let u = in-order d fresh q new cs c .used-index in
+    let f = reads (s .world) (s .queue) c bytes (always-fits s reached all) head len r in
+    let u = in-order s reached c .used-index in
     record {
       counted = f .counted ∙ rw u (index-counts n);
       named = rw (← entry-of n, ← u) (f .named);

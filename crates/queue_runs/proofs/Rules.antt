@@ -7,15 +7,15 @@ use native.Mathlib.Omega.{arith}
 use lib.Dec.{eqb}
 use lib.ListN.{length}
 use Rattle.units.proofs.Tests.{by-test}
-use Rattle.record.specs.declared.Device.{Device}
 use Rattle.rings.specs.declared.Queue.{Queue}
 use Rattle.rings.specs.declared.Next.{Next}
 use Rattle.rings.specs.declared.Next.the-variants.{Head as HasHead, Empty as HasNone, Refused as HasRefused}
 use Rattle.step.specs.World.{World, Guest, Call, Place, SetRequestedSize, Request, HostAnswer, ReadConfig, WriteConfig}
 use Rattle.step.specs.Step.{step, usable, plugged, requested, Untouched}
 use Rattle.queue.specs.Queue.{QueueOutcome, nextOf, answerRefusal}
-use Rattle.history.specs.History.{eventsOf, Story, next, after, Fresh, begun}
-use Rattle.history.specs.Rules.{isSizeChange, isPlace, waits, takenIn, Whole, marked, counted, allCould, KeepsShape, DiscardIsCounted, AsksWhatIsDue, WholeOrNotAtAll as DeviceWhole}
+use Rattle.history.specs.History.{eventsOf, Story, next, after}
+use Rattle.history.specs.Reached.{marked, counted, allCould}
+use Rattle.history.specs.Rules.{isSizeChange, isPlace, waits, askedIn, takenIn, Whole, KeepsShape, DiscardIsCounted, AsksWhatIsDue, WholeOrNotAtAll as DeviceWhole}
 use Rattle.history.specs.Questions.{OnlyOpenUnplugsDiscard}
 use Rattle.history.proofs.Demand3.{demand-3}
 use Rattle.history.proofs.KeepsShape.{keeps-shape}
@@ -24,9 +24,9 @@ use Rattle.history.proofs.SizeChange.{size-change-touches-nothing}
 use Rattle.history.proofs.Whole.{whole-or-not-at-all}
 use Rattle.history.proofs.HostCalls.{each-asked-answered, asks-what-is-due}
 use Rattle.history.proofs.Questions.{only-open-unplugs-discard}
-use Rattle.queue_runs.specs.Runs.{Beside, Placing, Sizing, Reading, Writing, callOf, QueueCall, TakeNext, Host, PastIt, queueStep, requestsOf, callsOf, QueueStory, nextStory, afterAll, opened, InEveryQueueRun, FromEveryQueue}
+use Rattle.queue_runs.specs.Runs.{Beside, Placing, Sizing, Reading, Writing, callOf, QueueCall, TakeNext, Host, PastIt, queueStep, requestsOf, callsOf, nextStory, InEveryQueueRun, FromEveryQueue}
 use Rattle.queue_runs.specs.Rules.{AsCalls, allCalls, Demand3, isSizing, isPlacing, OnlySizingMovesRequested, PlugWithinRequested, SizingTouchesNothing, UsableNeverShrinks, newEvents, WholeOrNotAtAll, EachAskedAnswered, RulesOnQueue}
-use Rattle.queue_runs.proofs.Calls.{none-or-one, runs-the-device, lifts-rules, next-world}
+use Rattle.queue_runs.proofs.Calls.{none-or-one, same-after, same-worlds, runs-the-device, lifts-rules}
 
 -- ---- what a call of the device moves, and nothing else does
 module _ (R : World → World → Type 0) (same : (w : World) → R w w) (w : World) (o : QueueOutcome) where
@@ -78,12 +78,9 @@ touches-nothing : FromEveryQueue SizingTouchesNothing
 touches-nothing w q c sizes =
     moves w q c Untouched (λ v. record { same-blocks = refl; same-rows = refl; same-plugged = refl }) (λ call e. size-change-touches-nothing w call (kinds w q c call e .0 ∙ sizes))
 
--- ---- over any calls
+-- ---- in every run
 pub demand-3-on-queue : InEveryQueueRun Demand3
-demand-3-on-queue d fresh q new cs c =
-    let r = runs-the-device d q cs in
-    let t = demand-3 d fresh (allCalls (opened d q) cs) in
-    rw (← r .same-world, r .same-story) t
+demand-3-on-queue s r c = let h = runs-the-device s r in rw (h .same-world) at (demand-3 (s .story) (h .reached))
 
 -- no call, and nothing has changed; or one, by its events
 by-events : (st : Story) (w : World) → st .world ≡ w → (o : QueueOutcome) (calls : List Call)
@@ -96,19 +93,21 @@ by-events st w e o (call ∷ more ∷ calls) one a = absurd a
 
 whole-on-queue : InEveryQueueRun WholeOrNotAtAll
 unfolding nextStory
-whole-on-queue d fresh q new cs c other =
-    let s = afterAll (opened d q) cs in
-    let r = runs-the-device d q cs in
-    by-events (s .story) (s .world) (r .same-world) (queueStep (s .world) (s .queue) c) (callsOf (s .world) (s .queue) c)
-    (λ call e. lifts-rules DeviceWhole whole-or-not-at-all d fresh q new cs c call (kinds (s .world) (s .queue) c call e .1 ∙ other))
+whole-on-queue s r c other =
+    by-events (s .story) (s .world) (runs-the-device s r .same-world) (queueStep (s .world) (s .queue) c) (callsOf (s .world) (s .queue) c)
+    (λ call e. lifts-rules DeviceWhole whole-or-not-at-all s r c call (kinds (s .world) (s .queue) c call e .1 ∙ other))
     (none-or-one (s .world) (s .queue) c)
 
+-- the calls of the device from the world w to the world w′
+between : (t : Story) (w w′ : World) (calls : List Call) → t .world ≡ w → after t calls .world ≡ w′
+    → waits (w .device .pending) + askedIn w calls ≡ takenIn w calls + waits (w′ .device .pending)
+between t w w′ calls at-first at-last = rw (← at-last, ← at-first) (each-asked-answered t calls)
+
 asked-answered : EachAskedAnswered
-asked-answered d fresh q cs =
-    let calls = allCalls (opened d q) cs in
-    let r = runs-the-device d q cs in
-    let same : after (begun d) calls .world ≡ afterAll (opened d q) cs .world = sym (ap (λ (s : Story). s .world) (r .same-story)) ∙ r .same-world in
-    each-asked-answered d fresh calls ∙ ap (λ (w : World). takenIn (begun d .world) calls + waits (w .device .pending)) same
+asked-answered s r cs =
+    let calls = allCalls s cs in
+    let at-first = runs-the-device s r .same-world in
+    between (s .story) (s .world) _ calls at-first (sym (ap (λ (t : Story). t .world) (same-after s cs)) ∙ same-worlds s cs at-first)
 
 pub rules-on-queue : RulesOnQueue
 rules-on-queue =

@@ -31,7 +31,7 @@ use Rattle.standard.specs.Requests.{responseOf, lentBy, statusOfPending, status
 use Rattle.standard.proofs.Responses.{response-is-delivered}
 use Rattle.history.proofs.Shaped.{clash}
 use Rattle.history.proofs.Cases.{by-cond}
-use Rattle.queue_runs.specs.Runs.{QueueCall, TakeNext, Host, PastIt, queueStep, lentTo, requestsOf, callsOf, endingTold, usedBy, headOf, outOf, newlyReported, QueueStory, FromEveryQueue, InEveryQueueRun, opened, afterAll}
+use Rattle.queue_runs.specs.Runs.{QueueCall, TakeNext, Host, PastIt, queueStep, lentTo, requestsOf, callsOf, endingTold, usedBy, headOf, outOf, newlyReported, FromEveryQueue, InEveryQueueRun}
 use Rattle.queue_runs.specs.Heads.{isOut, Reports}
 use Rattle.queue_runs.specs.Standard.{onGuest, WritesOnly, UnreportedWritesNothing, Written, ReportIsWritten}
 use Rattle.queue_runs.proofs.Cases.{next-cases}
@@ -219,6 +219,4 @@ unreported w q k (Host g ok host) guest =
 unreported w q k (PastIt b) guest = clash guest refl
 
 pub unreported-writes-nothing : InEveryQueueRun UnreportedWritesNothing
-unreported-writes-nothing d fresh q new cs c guest =
-    let s = afterAll (opened d q) cs in
-    unreported (s .world) (s .queue) (out-while-open d fresh q new cs c) c guest
+unreported-writes-nothing s r c guest = unreported (s .world) (s .queue) (out-while-open s r c) c guest

@@ -4,7 +4,6 @@ use mathlib.Core.Path.{_≡_}
 use mathlib.Core.Bool.{Bool, true, false}
 use mathlib.Core.List.{List, [], _∷_, _++_}
 use lib.ListN.{length}
-use Rattle.record.specs.declared.Device.{Device}
 use Rattle.record.specs.Shape.{isIdle}
 use Rattle.rings.specs.declared.Queue.{Queue}
 use Rattle.rings.specs.declared.Taken.{Taken}
@@ -15,8 +14,7 @@ use Rattle.step.specs.World.{World, Guest}
 use Rattle.queue.specs.declared.QueueAnswer.the-variants.{Empty, Of}
 use Rattle.queue.specs.declared.Ending.the-variants.{Used}
 use Rattle.queue.specs.Queue.{QueueOutcome, discarding}
-use Rattle.history.specs.History.{Fresh}
-use Rattle.queue_runs.specs.Runs.{Beside, Placing, Sizing, Reading, Writing, QueueCall, TakeNext, Host, PastIt, queueStep, lentTo, endingTold, newlyTaken, newlyReported, outOf, QueueStory, afterAll, New, opened, LendsBytes, AllLendBytes}
+use Rattle.queue_runs.specs.Runs.{Beside, Placing, Sizing, Reading, Writing, QueueCall, TakeNext, Host, PastIt, queueStep, lentTo, endingTold, newlyTaken, newlyReported, outOf, QueueStory, QueueReached, LendsBytes, AllLendBytes}
 
 -- ---- "Every taken head is reported used exactly once, in the order taken, when its request has ended"
 pub record InOrder (s : QueueStory) (c : QueueCall) : Type 0 where
@@ -48,7 +46,7 @@ pub record Reports (q : Queue) (c : QueueCall) (o : QueueOutcome) (head len : �
 
 -- then it stands there, whatever else of the guest's lies in the same bytes
 abbrev pub NthReport : Type 0
-NthReport = (d : Device) → Fresh d → (q : Queue) → New q → (cs : List QueueCall) → AllLendBytes cs → (c : QueueCall) → LendsBytes c → let s = afterAll (opened d q) cs in let o = queueStep (s .world) (s .queue) c in
+NthReport = (s : QueueStory) (r : QueueReached s) → AllLendBytes r → (c : QueueCall) → LendsBytes c → let o = queueStep (s .world) (s .queue) c in
     (head len : ℕ) → Reports (s .queue) c o head len → Stands (o .bytes) (s .queue .used .0 - lentTo c .base) (length (s .reports)) head len
 
 -- ---- "a refused call takes none", and neither does one that finds the ring empty

@@ -3,16 +3,16 @@ use Prim.Native.Nat.{ℕ, _+_, _≤_, _<_}
 use mathlib.Core.Path.{_≡_}
 use mathlib.Core.Bool.{Bool, true, false}
 use mathlib.Core.List.{List, [], _∷_, _++_}
-use Rattle.record.specs.declared.Device.{Device}
 use Rattle.rings.specs.declared.Queue.{Queue}
 use Rattle.step.specs.World.{World, Call, Outcome}
 use Rattle.step.specs.Step.{step, usable, plugged, requested, Untouched}
 use Rattle.queue.specs.declared.QueueAnswer.the-variants.{Empty, Of}
 use Rattle.queue.specs.Queue.{QueueOutcome}
-use Rattle.history.specs.History.{Event, eventsOf, Story, after, Fresh, begun, Told}
-use Rattle.history.specs.Rules.{askedIn, takenIn, waits, Whole, KeepsShape, DiscardIsCounted, AsksWhatIsDue}
+use Rattle.history.specs.History.{Event, eventsOf, Story, Told}
+use Rattle.history.specs.Reached.{Reached}
+use Rattle.history.specs.Rules.{InEveryRun, askedIn, takenIn, waits, Whole, KeepsShape, DiscardIsCounted, AsksWhatIsDue}
 use Rattle.history.specs.Questions.{OnlyOpenUnplugsDiscard}
-use Rattle.queue_runs.specs.Runs.{Beside, Placing, Sizing, Reading, Writing, QueueCall, TakeNext, Host, PastIt, callsOf, queueStep, QueueStory, nextStory, afterAll, New, opened, InEveryQueueRun, FromEveryQueue}
+use Rattle.queue_runs.specs.Runs.{Beside, Placing, Sizing, Reading, Writing, QueueCall, TakeNext, Host, PastIt, callsOf, queueStep, QueueStory, nextStory, afterAll, QueueReached, InEveryQueueRun, FromEveryQueue}
 
 -- ---- demand 2: a call makes none or one call of the device, leaves its world and tells its answer
 pub record IsCall (w : World) (o : QueueOutcome) (call : Call) : Type 0 where
@@ -27,25 +27,20 @@ AsCalls w (call ∷ more ∷ calls) o = ⊥
 abbrev pub NoneOrOne : World → Queue → QueueCall → QueueOutcome → Type 0
 NoneOrOne w q c o = AsCalls w (callsOf w q c) o
 
--- ---- a run on the queue is a run of the device
--- the calls of the device that a run makes
-unfoldable pub allCalls : QueueStory → List QueueCall → List Call
-allCalls s [] = []
-allCalls s (c ∷ cs) = callsOf (s .world) (s .queue) c ++ allCalls (nextStory s c) cs
-
-pub record IsRun (d : Device) (q : Queue) (cs : List QueueCall) : Type 0 where
-  pub same-story : afterAll (opened d q) cs .story ≡ after (begun d) (allCalls (opened d q) cs)
-  pub same-world : afterAll (opened d q) cs .story .world ≡ afterAll (opened d q) cs .world
+-- ---- a run on the queue is a run of the device, by the calls that `nextStory` makes of it
+pub record IsRun (s : QueueStory) : Type 0 where
+  pub reached : Reached (s .story)
+  pub same-world : s .story .world ≡ s .world
 
 abbrev pub RunsTheDevice : Type 0
-RunsTheDevice = (d : Device) (q : Queue) (cs : List QueueCall) → IsRun d q cs
+RunsTheDevice = (s : QueueStory) → QueueReached s → IsRun s
 
 -- so what holds at every point of every run of the device, of any call then, holds at every point of every run on the queue
 abbrev pub OfAnyCall : (Story → Call → Type 0) → QueueStory → QueueCall → Type 0
 OfAnyCall P s c = (call : Call) → P (s .story) call
 
 abbrev pub LiftsRules : Type 1
-LiftsRules = (P : Story → Call → Type 0) → ((d : Device) → Fresh d → (cs : List Call) (call : Call) → P (after (begun d) cs) call) → InEveryQueueRun (OfAnyCall P)
+LiftsRules = (P : Story → Call → Type 0) → InEveryRun P → InEveryQueueRun (OfAnyCall P)
 
 -- ---- demand 3: a block is plugged exactly if the last event on it was an acknowledged plug, and the plugged size counts the blocks
 abbrev pub Demand3 : QueueStory → QueueCall → Type 0
@@ -91,10 +86,15 @@ newEvents s (call ∷ calls) = eventsOf (s .world) (s .«open») call (step (s .
 abbrev pub WholeOrNotAtAll : QueueStory → QueueCall → Type 0
 WholeOrNotAtAll s c = isPlacing c ≡ false → Whole (s .world) (newEvents (s .story) (callsOf (s .world) (s .queue) c)) (nextStory s c .world)
 
--- each question to the host has one answer before the next is asked
+-- the calls of the device that calls on the queue make
+unfoldable pub allCalls : QueueStory → List QueueCall → List Call
+allCalls s [] = []
+allCalls s (c ∷ cs) = callsOf (s .world) (s .queue) c ++ allCalls (nextStory s c) cs
+
+-- each question to the host has one answer before the next is asked, from any point of a run on
 abbrev pub EachAskedAnswered : Type 0
-EachAskedAnswered = (d : Device) → Fresh d → (q : Queue) (cs : List QueueCall) → let calls = allCalls (opened d q) cs in
-    askedIn (begun d .world) calls ≡ takenIn (begun d .world) calls + waits (afterAll (opened d q) cs .world .device .pending)
+EachAskedAnswered = (s : QueueStory) → QueueReached s → (cs : List QueueCall) → let calls = allCalls s cs in
+    waits (s .world .device .pending) + askedIn (s .world) calls ≡ takenIn (s .world) calls + waits (afterAll s cs .world .device .pending)
 
 pub record RulesOnQueue : Type 1 where
   pub none-or-one : FromEveryQueue NoneOrOne

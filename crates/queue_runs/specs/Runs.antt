@@ -2,7 +2,7 @@
 use Prim.{Unit}
 use Prim.Native.Nat.{ℕ, _<_}
 use mathlib.Core.Path.{_≡_}
-use mathlib.Core.Bool.{Bool, cond}
+use mathlib.Core.Bool.{Bool, true, cond}
 use mathlib.Core.List.{List, [], _∷_, _++_}
 use lib.Dec.{eqb}
 use lib.ListN.{length, getD}
@@ -13,7 +13,7 @@ use Rattle.rings.specs.declared.Taken.the-variants.{Nothing, Head}
 use Rattle.rings.specs.declared.Next.{Next}
 use Rattle.rings.specs.declared.Next.the-variants.{Head as HasHead, Empty as HasNone, Refused as HasRefused}
 use Rattle.rings.specs.Rings.{nextHead}
-use Rattle.record.specs.declared.Device.{Device}
+use Rattle.record.specs.Shape.{isIdle}
 use Rattle.step.specs.World.{World, Guest, noGuest, Call, Place, SetRequestedSize, Request, HostAnswer, ReadConfig, WriteConfig}
 use Rattle.step.specs.Step.{step}
 use Rattle.queue.specs.declared.QueueAnswer.{QueueAnswer}
@@ -21,7 +21,8 @@ use Rattle.queue.specs.declared.QueueAnswer.the-variants.{Empty, Of}
 use Rattle.queue.specs.declared.Ending.{Ending}
 use Rattle.queue.specs.declared.Ending.the-variants.{Stays, Out, Used}
 use Rattle.queue.specs.Queue.{QueueOutcome, endingOf, aside, nextOf, serveNext, answerRefusal, hostAnswers}
-use Rattle.history.specs.History.{Story, after, Fresh, begun}
+use Rattle.history.specs.History.{Event, Story, after}
+use Rattle.history.specs.Reached.{Restores, laidOn, restored, Reached}
 
 -- ---- the calls
 -- a call of the device that goes past the queue: no request, and no answer of the host
@@ -134,14 +135,30 @@ pub record New (q : Queue) : Type 0 where
   pub available-first : q .«next_available» ≡ 0
   pub used-first : q .«next_used» ≡ 0
 
--- the device has no tables yet
-abbrev pub opened : Device → Queue → QueueStory
-opened d q = record { world = begun d .world; queue = q; story = begun d; taken = []; reports = [] }
+abbrev pub opened : Story → Queue → QueueStory
+opened s q = record { world = s .world; queue = q; story = s; taken = []; reports = [] }
+
+-- a restore of the device leaves the queue as it is
+abbrev pub restoredOn : QueueStory → (requested : ℕ) → (plugs : List Event) → QueueStory
+restoredOn s requested plugs =
+    record {
+      world = laidOn (s .world) requested plugs;
+      queue = s .queue;
+      story = restored (s .world) requested plugs;
+      taken = s .taken;
+      reports = s .reports;
+    }
+
+-- ---- every point of every run: a new queue on a device that waits for nothing, newly made or after any run of its own; any calls; and a restore wherever it is allowed
+pub data QueueReached : QueueStory → Type 0 where
+  on-new-queue : {s : Story} {q : Queue} → Reached s → isIdle (s .world .device .pending) ≡ true → New q → QueueReached (opened s q)
+  on-call : {s : QueueStory} → QueueReached s → (c : QueueCall) → QueueReached (nextStory s c)
+  on-restore : {s : QueueStory} {requested : ℕ} {plugs : List Event} → QueueReached s → Restores (s .world) requested plugs → QueueReached (restoredOn s requested plugs)
 
 -- ---- what is said of runs
--- of any calls from a newly made device and queue, and of any call after them
+-- of every point that a run reaches, and of any call there
 abbrev pub InEveryQueueRun : (QueueStory → QueueCall → Type 0) → Type 0
-InEveryQueueRun P = (d : Device) → Fresh d → (q : Queue) → New q → (cs : List QueueCall) (c : QueueCall) → P (afterAll (opened d q) cs) c
+InEveryQueueRun P = (s : QueueStory) → QueueReached s → (c : QueueCall) → P s c
 
 -- of any call from any world and any queue, whatever led to them
 abbrev pub FromEveryQueue : (World → Queue → QueueCall → QueueOutcome → Type 0) → Type 0
@@ -151,6 +168,7 @@ FromEveryQueue P = (w : World) (q : Queue) (c : QueueCall) → P w q c (queueSte
 abbrev pub LendsBytes : QueueCall → Type 0
 LendsBytes c = (i : ℕ) → getD (lentTo c .mem) i 0 < 256
 
-unfoldable pub AllLendBytes : List QueueCall → Type 0
-AllLendBytes [] = Unit {0}
-AllLendBytes (c ∷ cs) = LendsBytes c × AllLendBytes cs
+unfoldable pub AllLendBytes : {s : QueueStory} → QueueReached s → Type 0
+AllLendBytes (on-new-queue r idle new) = Unit {0}
+AllLendBytes (on-call r c) = AllLendBytes r × LendsBytes c
+AllLendBytes (on-restore r l) = AllLendBytes r
