@@ -9,12 +9,12 @@ use Rattle.units.specs.Numbers.{bytesOf, mapRegion, mapRegions}
 use Rattle.bitmap.specs.Blocks.{blockAt, range, ones}
 use Rattle.bitmap.proofs.Laws.{ones-split, ones-none}
 use Rattle.rows.specs.Rows.{rowAt}
-use Rattle.record.specs.declared.Device.{Device}
 use Rattle.record.proofs.Laws.{Shaped as Facts, whole as shaped-when}
-use Rattle.step.specs.World.{World, Call}
+use Rattle.step.specs.World.{World}
 use Rattle.step.specs.Step.{blockSize, region, usable, plugged, several, regionBlocks}
 use Rattle.driving.specs.Sound.{SoundRows, Ready, usableBlocks, pluggedBlocks}
-use Rattle.history.specs.History.{after, Fresh, begun}
+use Rattle.history.specs.History.{Story}
+use Rattle.history.specs.Reached.{Reached}
 use Rattle.history.specs.Rules.{InEveryRun}
 use Rattle.history.proofs.Demand3.{demand-3}
 use Rattle.history.proofs.KeepsShape.{is-shaped}
@@ -47,17 +47,17 @@ sound w m s = go (several w) refl
           fits = λ offset l. let room = rw e at (m .fits 0 there (mapped offset l)) in rw e (omega (arith, s .usable-in));
         }
 
-pub ready-in-run : (d : Device) → Fresh d → (cs : List Call) → TakesRequests (after (begun d) cs .world) → Ready (after (begun d) cs .world)
-ready-in-run d fresh cs t =
-    let w = after (begun d) cs .world in
-    let long = tables-fit d fresh cs (t .is-placed) in
+pub ready-in-run : (s : Story) → Reached s → TakesRequests (s .world) → Ready (s .world)
+ready-in-run s r t =
+    let w = s .world in
+    let long = tables-fit s r (t .is-placed) in
     record {
-      shaped = shaped-when (w .device) (is-shaped d fresh cs);
+      shaped = shaped-when (w .device) (is-shaped s r);
       idle = t .is-idle;
       placed = t .is-placed;
       blocks-fit = long .0;
       rows-fit = long .1;
-      sound = sound w (in-memory d fresh cs) (facts-at d fresh cs);
+      sound = sound w (in-memory s r) (facts-at s r);
     }
 
 -- ---- the blocks behind the usable part are unplugged, so those of the region are those of the usable part
@@ -69,13 +69,13 @@ same-ones bs n m h l clear =
     ap (λ (k : ℕ). ones (take k bs)) e ∙ rw (ones-split bs 0 n (m - n), z, none) (omega arith)
 
 pub ready-and-counted : InEveryRun ReadyAndCounted
-ready-and-counted d fresh cs c t =
-    let w = after (begun d) cs .world in
-    let r = ready-in-run d fresh cs t in
-    let s = facts-at d fresh cs in
-    let bsz = s .block-size in
-    let fewer : usableBlocks w ≤ regionBlocks w = rw bsz (omega (arith, s .usable-in)) in
+ready-and-counted s r c t =
+    let w = s .world in
+    let ready = ready-in-run s r t in
+    let f = facts-at s r in
+    let bsz = f .block-size in
+    let fewer : usableBlocks w ≤ regionBlocks w = rw bsz (omega (arith, f .usable-in)) in
     let past : (i : ℕ) → usableBlocks w ≤ i → usable w < (i + 1) * blockSize w = λ i p. let q = rw bsz at p in rw bsz (omega arith) in
     let same : ones (take (regionBlocks w) (w .blocks)) ≡ pluggedBlocks w =
-    same-ones (w .blocks) (usableBlocks w) (regionBlocks w) fewer (r .blocks-fit) (λ i p q. outside-is-unplugged d fresh cs c i q (past i p)) in
-    (r, demand-3 d fresh cs .count ∙ ap (bytesOf (blockSize w)) same)
+    same-ones (w .blocks) (usableBlocks w) (regionBlocks w) fewer (ready .blocks-fit) (λ i p q. outside-is-unplugged s r c i q (past i p)) in
+    (ready, demand-3 s r .count ∙ ap (bytesOf (blockSize w)) same)

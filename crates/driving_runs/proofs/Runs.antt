@@ -21,7 +21,7 @@ use Rattle.driving.specs.Sound.{Ready, planned, driveAt, drives, Counted, freeR
 use Rattle.driving.proofs.Acks.{plan-is, acknowledged, one-acknowledged}
 use Rattle.driving.proofs.Exact.{none-acknowledged}
 use Rattle.driving.proofs.Settles.{only-17, stays, gets-there, drive-keeps, step-drives}
-use Rattle.history.specs.History.{Story, next, after, begun}
+use Rattle.history.specs.History.{Story, next, after}
 use Rattle.history.specs.Rules.{InEveryRun}
 use Rattle.history.proofs.Cases.{plug-cases}
 use Rattle.standard.specs.Requests.{Responds, responseOf, Hears, «VIRTIO_MEM_RESP_ACK»}
@@ -33,9 +33,9 @@ use Rattle.driving_runs.proofs.Ready.{ready-in-run, ready-and-counted}
 
 -- ---- what is proposed is acknowledged
 pub run-acknowledges : InEveryRun ProposalAcknowledged
-run-acknowledges d fresh cs c t addr count e =
-    let w = after (begun d) cs .world in
-    let r = ready-in-run d fresh cs t in (
+run-acknowledges s reached c t addr count e =
+    let w = s .world in
+    let r = ready-in-run s reached t in (
       (λ a. let q = ap (step w) (a .is-request) in rw q (acknowledged w r addr count e (a .guest) (a .table) (a .head) (a .status) (a .reads))),
       λ a. let q = ap (step w) (a .is-request) in rw q (one-acknowledged w r addr count e (a .guest) (a .table) (a .head) (a .status) (a .reads)),
     )
@@ -72,9 +72,9 @@ few-enough w r addr n e =
 
 pub run-17-exactly : InEveryRun SeventeenExactly
 unfolding responseOf
-run-17-exactly d fresh cs c t =
-    let w = after (begun d) cs .world in
-    let r = ready-in-run d fresh cs t in
+run-17-exactly s reached c t =
+    let w = s .world in
+    let r = ready-in-run s reached t in
     record {
       says = λ e call addr a k.
           let q = ap (step w) (a .is-request) in
@@ -154,17 +154,15 @@ plugs-of zero s r c = record { plugs = []; follow = tt; at-most = omega arith; l
 plugs-of (suc k) s r c = one-more k s r c (plugs-of k) (planned (s .world)) refl
 
 pub run-gets-there : InEveryRun PlannerGetsThere
-run-gets-there d fresh cs c t =
-    let s = after (begun d) cs in
-    let h = ready-and-counted d fresh cs c t in
+run-gets-there s reached c t =
+    let h = ready-and-counted s reached c t in
     let p = plugs-of (freeRuns (s .world)) s (h .0) (h .1) in
     record { plugs = p .plugs; follow = p .follow; at-most = p .at-most; there = rw (p .lead) (gets-there (freeRuns (s .world)) (s .world) (h .0) (h .1) (omega arith)) }
 
 pub run-gets-nowhere-else : InEveryRun FollowingGetsThere
-run-gets-nowhere-else d fresh cs c t plugs f =
-    let s = after (begun d) cs in
+run-gets-nowhere-else s reached c t plugs f =
     let w = s .world in
-    let h = ready-and-counted d fresh cs c t in
+    let h = ready-and-counted s reached c t in
     let k : ℕ = freeRuns w in
     let n : ℕ = length plugs in
     let there = gets-there k w (h .0) (h .1) (omega arith) in

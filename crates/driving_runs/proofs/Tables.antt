@@ -2,16 +2,17 @@
 use Prim.Native.Nat.{ℕ, _+_, _-_, _≤_}
 use mathlib.Core.Path.{_≡_}
 use mathlib.Core.Bool.{Bool, true, false}
-use mathlib.Core.List.{List, [], _∷_}
+use mathlib.Core.List.{List}
 use lib.ListN.{length}
 use Rattle.bitmap.specs.Blocks.{fill}
 use Rattle.bitmap.proofs.Laws.{fill-length}
 use Rattle.rows.proofs.Laws.{laid-length, fill-length as rows-length}
-use Rattle.record.specs.declared.Device.{Device}
 use Rattle.step.specs.World.{World, Call, Outcome}
 use Rattle.step.specs.Step.{regionBlocks, regionRows}
-use Rattle.history.specs.History.{Event, Story, next, after, Fresh, begun}
+use Rattle.history.specs.History.{Event, Story, next}
+use Rattle.history.specs.Reached.{Reached, from-making, by-call, by-restore}
 use Rattle.history.proofs.Shaped.{clash}
+use Rattle.history.proofs.Restored.{marked-length}
 use Rattle.history.proofs.Calls.{Endings, each-call}
 
 -- where the device is placed
@@ -54,10 +55,8 @@ keeps-fitting w =
       place-asks-whole = λ a _ _ p. clash p (a .not-placed);
     }
 
-always-fitting : (s : Story) (cs : List Call) → Fitting (s .world) → Fitting (after s cs .world)
-unfolding after next
-always-fitting s [] h = h
-always-fitting s (c ∷ cs) h = always-fitting (next s c) cs (each-call (s .world) (KeepsFitting (s .world)) (keeps-fitting (s .world)) c h)
-
-pub tables-fit : (d : Device) → Fresh d → (cs : List Call) → Fitting (after (begun d) cs .world)
-tables-fit d fresh cs = always-fitting (begun d) cs (λ p. clash p (fresh .unplaced))
+pub tables-fit : (s : Story) → Reached s → Fitting (s .world)
+unfolding next
+tables-fit s (from-making fresh) p = clash p (fresh .unplaced)
+tables-fit s (by-call {s = before} r c) p = each-call (before .world) (KeepsFitting (before .world)) (keeps-fitting (before .world)) c (λ q. tables-fit before r q) p
+tables-fit s (by-restore {s = before} {plugs} r l) p = rw (marked-length plugs (before .world .blocks)) (tables-fit before r p)
