@@ -24,8 +24,9 @@ use Rattle.words.specs.Record.{wordsOf, decodedOf}
 use Rattle.words.proofs.Laws.{encoded-decodes}
 use Rattle.capi.specs.Exports.{nodeOf, madeWords}
 use Rattle.history.specs.History.{Story, next, after, Fresh, begun, Told}
+use Rattle.history.specs.Reached.{from-making}
 use Rattle.history.proofs.Cases.{by-cond}
-use Rattle.history.proofs.Demand3.{demand-3}
+use Rattle.history.proofs.Demand3.{demand-3, reached-after}
 use Rattle.history.proofs.Newly.{made-fresh}
 use Rattle.linked.specs.Runs.{Use, callOf, Held, leaves, One, Run, heldAfter, callsOf, Making, madeBy, Makes, first, Means, inHand, Steps, Linked}
 use Rattle.linked.proofs.Steps.{Tells, in-hand, one-goes}
@@ -82,7 +83,7 @@ module _ (words : List ℕ) (d : Device) (fresh : Fresh d) (is : decodedOf words
   run-steps u one = steps-on (heldAfter (first words) us) (after (begun d) (callsOf us) .world) run-means u one
 
   pub demand-3-in-hand : Told (inHand (heldAfter (first words) us)) (after (begun d) (callsOf us) .events)
-  demand-3-in-hand = rw (in-hand (heldAfter (first words) us) (after (begun d) (callsOf us) .world) run-means) (demand-3 d fresh (callsOf us))
+  demand-3-in-hand = rw (in-hand (heldAfter (first words) us) (after (begun d) (callsOf us) .world) run-means) (demand-3 (after (begun d) (callsOf us)) (reached-after (begun d) (from-making fresh) (callsOf us)))
 
 -- ---- from making on
 module _ (m : Making) (words′ : List ℕ) (makes : Makes m words′) where

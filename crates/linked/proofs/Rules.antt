@@ -2,12 +2,16 @@
 use Prim.Native.Nat.{ℕ, _+_}
 use mathlib.Core.Path.{_≡_, ap, sym, _∙_}
 use mathlib.Core.List.{List}
+use native.Mathlib.Omega.{arith}
+use Rattle.record.specs.declared.Device.{Device}
 use Rattle.step.specs.World.{World, Call, Outcome}
 use Rattle.step.specs.Step.{step}
-use Rattle.history.specs.History.{Story, after, begun}
-use Rattle.history.specs.Rules.{InEveryRun, FromEveryWorld, takenIn, waits, KeepsShape, Never12, UsableNeverShrinks, DiscardIsCounted, OnlySizeChangeMovesRequested, PlugWithinRequested, SizeChangeTouchesNothing, LoweringAsksNothing, WholeOrNotAtAll, PendingStays, AsksWhatIsDue}
+use Rattle.history.specs.History.{Story, after, Fresh, begun}
+use Rattle.history.specs.Reached.{from-making}
+use Rattle.history.specs.Rules.{InEveryRun, FromEveryWorld, askedIn, takenIn, waits, KeepsShape, Never12, UsableNeverShrinks, DiscardIsCounted, OnlySizeChangeMovesRequested, PlugWithinRequested, SizeChangeTouchesNothing, LoweringAsksNothing, WholeOrNotAtAll, PendingStays, AsksWhatIsDue}
 use Rattle.history.specs.Questions.{AsksForPending, OnlyUnplugsDiscard, OnlyOpenUnplugsDiscard}
 use Rattle.history.specs.Refusals.{RefusedChangesNothing, TenIsCreationFailed}
+use Rattle.history.proofs.Demand3.{reached-after}
 use Rattle.history.proofs.KeepsShape.{keeps-shape}
 use Rattle.history.proofs.Sizes.{never-12, usable-never-shrinks, discard-is-counted, only-size-change-moves-requested, plug-within-requested}
 use Rattle.history.proofs.SizeChange.{size-change-touches-nothing, lowering-asks-nothing}
@@ -40,7 +44,14 @@ after-every-run P rule m words′ makes d e us run u =
     let fresh = is-fresh m words′ makes d e in
     let same : storyInHand h s ≡ s =
     ap (λ (w : World). record { world = w; «open» = s .«open»; events = s .events }) (in-hand h (s .world) (run-means words′ d fresh (made-decodes m words′ makes d e) us run)) in
-    rw same (rule d fresh (callsOf us) (callOf u))
+    rw same (rule s (reached-after (begun d) (from-making fresh) (callsOf us)) (callOf u))
+
+-- a newly made device waits for nothing
+asked-from-making : (d : Device) → Fresh d → (cs : List Call) → askedIn (begun d .world) cs ≡ takenIn (begun d .world) cs + waits (after (begun d) cs .world .device .pending)
+unfolding waits
+asked-from-making d fresh cs =
+    let none : waits (d .pending) ≡ 0 = rw (fresh .waits-for-nothing) in
+    omega (arith, each-asked-answered (begun d) cs)
 
 pub rules-in-hand : RulesInHand
 rules-in-hand =
@@ -65,5 +76,5 @@ rules-in-hand =
           let fresh = is-fresh m words′ makes d e in
           let means = run-means words′ d fresh (made-decodes m words′ makes d e) us run in
           let same = in-hand (heldAfter (first words′) us) (after (begun d) (callsOf us) .world) means in
-          each-asked-answered d fresh (callsOf us) ∙ ap (λ (w : World). takenIn (begun d .world) (callsOf us) + waits (w .device .pending)) (sym same);
+          asked-from-making d fresh (callsOf us) ∙ ap (λ (w : World). takenIn (begun d .world) (callsOf us) + waits (w .device .pending)) (sym same);
     }
