@@ -9,6 +9,7 @@ use lib.ListN.{length}
 use borrow.Author.Tests.{leb-true}
 use Rattle.units.proofs.Tests.{by-test}
 use Rattle.little_endian.specs.Bytes.{put}
+use Rattle.record.specs.Shape.{isIdle}
 use Rattle.rings.specs.declared.Queue.{Queue}
 use Rattle.step.specs.declared.Answer.{Answer}
 use Rattle.step.specs.World.{World, Call}
@@ -19,11 +20,13 @@ use Rattle.queue_words.specs.Words.{queueWords, isQueue, decodedQueueOf}
 use Rattle.queue_words.proofs.Laws.{encoded-decodes}
 use Rattle.capi.specs.Exports.{Lent}
 use Rattle.capi.specs.Queue.{QueueLent}
-use Rattle.history.specs.History.{Told}
+use Rattle.history.specs.History.{begun}
+use Rattle.history.specs.Reached.{from-making}
 use Rattle.linked.specs.Runs.{callBy as deviceCallBy, leaves, Making, Makes, Means, inHand}
 use Rattle.linked.proofs.Steps.{in-hand, one-goes}
 use Rattle.linked.proofs.Linked.{is-fresh, made-decodes, at-first, linked}
-use Rattle.queue_runs.specs.Runs.{callOf as callOfBeside, QueueCall, PastIt, Writing, queueStep, QueueStory, nextStory, afterAll, New, opened}
+use Rattle.queue_runs.specs.Runs.{callOf as callOfBeside, QueueCall, PastIt, Writing, queueStep, QueueStory, nextStory, afterAll, New, opened, QueueReached, on-new-queue}
+use Rattle.queue_runs.proofs.Calls.{reached-after-all}
 use Rattle.queue_runs.proofs.Rules.{demand-3-on-queue}
 use Rattle.queue_linked.specs.Runs.{Side, «jambcopper_place», «jambcopper_set_requested_size», «jambcopper_read_config», «jambcopper_write_config», QueueFunction, «jambcopper_serve», «jambcopper_serve_answer», Past}
 use Rattle.queue_linked.specs.Runs.{QueueUse, functionOf, useOf, besideBy, callBy, callOf, QueueHeld, OneBy, One, leavesBy, leavesQueue, Run, heldAfter, callsOf, QueueMaking, queueBy, QueueMakes, begins, QueueMeans, Tells, QueueLinked}
@@ -93,16 +96,18 @@ module _ (m : Making) (words : List ℕ) (makes : Makes m words) (k : QueueMakin
       let fresh = is-fresh m words makes d e in
       let q = queueBy k in
       let new : New q = record { none-out = refl; available-first = refl; used-first = refl } in
-      let start : QueueMeans (begins words queue) (opened d q .world) q = record { device = at-first words d (made-decodes m words makes d e); queue = queue-decodes } in
+      let s₀ = opened (begun d) q in
+      let reached : QueueReached s₀ = on-new-queue (from-making fresh) (ap isIdle (fresh .waits-for-nothing)) new in
+      let start : QueueMeans (begins words queue) (s₀ .world) q = record { device = at-first words d (made-decodes m words makes d e); queue = queue-decodes } in
       record {
         device = d;
         is-made = e;
-        means = λ us run. always-means (begins words queue) (opened d q) us start run;
+        means = λ us run. always-means (begins words queue) s₀ us start run;
         tells = λ us run u one.
-            let s = afterAll (opened d q) (callsOf us) in
-            one-on (heldAfter (begins words queue) us) (s .world) (s .queue) (always-means (begins words queue) (opened d q) us start run) u one .0;
+            let s = afterAll s₀ (callsOf us) in
+            one-on (heldAfter (begins words queue) us) (s .world) (s .queue) (always-means (begins words queue) s₀ us start run) u one .0;
         demand-3 = λ us run.
-            let s = afterAll (opened d q) (callsOf us) in
-            let held = always-means (begins words queue) (opened d q) us start run in
-            rw (in-hand (heldAfter (begins words queue) us .device) (s .world) (held .device)) (demand-3-on-queue d fresh q new (callsOf us) (PastIt (Writing 0 [])));
+            let s = afterAll s₀ (callsOf us) in
+            let held = always-means (begins words queue) s₀ us start run in
+            rw (in-hand (heldAfter (begins words queue) us .device) (s .world) (held .device)) (demand-3-on-queue s (reached-after-all s₀ reached (callsOf us)) (PastIt (Writing 0 [])));
       }

@@ -16,7 +16,7 @@ use Rattle.queue_words.specs.declared.DecodedQueue.the-variants.{Is as IsQueue}
 use Rattle.queue_words.specs.Words.{decodedQueueOf}
 use Rattle.capi.specs.Exports.{Lent}
 use Rattle.capi.specs.Queue.{newQueue, QueueMadeIn, QueueLent, QueueExported}
-use Rattle.history.specs.History.{Told}
+use Rattle.history.specs.History.{begun, Told}
 use Rattle.linked.specs.Runs.{Function, «jambcopper_place» as place, «jambcopper_set_requested_size» as resize, «jambcopper_read_config» as read, «jambcopper_write_config» as write, Use, Promised, Held, inUse, Lends, holding, leaves, Making, madeBy, Makes, first, Means, inHand}
 use Rattle.queue_runs.specs.Runs.{Beside, Placing, Sizing, Reading, Writing, QueueCall, TakeNext, Host, PastIt, queueStep, QueueStory, afterAll, opened}
 
@@ -145,8 +145,8 @@ pub record QueueLinked (m : Making) (words : List ℕ) (k : QueueMaking) (queue 
   pub device : Device
   pub is-made : madeBy m ≡ MadeDevice device
   -- what is held means where the definition's run of the same calls stands
-  pub means : (us : List QueueUse) → Run (begins words queue) us → let s = afterAll (opened device (queueBy k)) (callsOf us) in QueueMeans (heldAfter (begins words queue) us) (s .world) (s .queue)
+  pub means : (us : List QueueUse) → Run (begins words queue) us → let s = afterAll (opened (begun device) (queueBy k)) (callsOf us) in QueueMeans (heldAfter (begins words queue) us) (s .world) (s .queue)
   -- any further call tells what its next step tells
-  pub tells : (us : List QueueUse) → Run (begins words queue) us → (u : QueueUse) → One (heldAfter (begins words queue) us) u → let s = afterAll (opened device (queueBy k)) (callsOf us) in Tells (s .world) (s .queue) u
+  pub tells : (us : List QueueUse) → Run (begins words queue) us → (u : QueueUse) → One (heldAfter (begins words queue) us) u → let s = afterAll (opened (begun device) (queueBy k)) (callsOf us) in Tells (s .world) (s .queue) u
   -- demand 3 holds of the world that is held, and of the events of the definition's run
-  pub demand-3 : (us : List QueueUse) → Run (begins words queue) us → let s = afterAll (opened device (queueBy k)) (callsOf us) in Told (inHand (heldAfter (begins words queue) us .device)) (s .story .events)
+  pub demand-3 : (us : List QueueUse) → Run (begins words queue) us → let s = afterAll (opened (begun device) (queueBy k)) (callsOf us) in Told (inHand (heldAfter (begins words queue) us .device)) (s .story .events)
