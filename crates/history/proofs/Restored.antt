@@ -4,7 +4,7 @@ use mathlib.Core.Path.{_≡_, refl, _∙_, sym}
 use mathlib.Core.Bool.{Bool, true, false, _&&_}
 use mathlib.Core.List.{List, [], _∷_}
 use native.Mathlib.Omega.{arith}
-use native.Mathlib.Nat.{mul-mod-left, div-mul-le-self, mul-le-mul-right}
+use native.Mathlib.Nat.{le-trans, mul-mod-left, div-mul-le-self, mul-le-mul-right}
 use lib.Dec.{leb, ltb}
 use lib.ListN.{length, length-take}
 use borrow.Author.Tests.{leb-true, ltb-true}
@@ -15,7 +15,7 @@ use Rattle.bitmap.proofs.Laws.{all-clear-at, fill-length, ones-none, ones-lengt
 use Rattle.step.specs.World.{World}
 use Rattle.step.specs.Step.{blockSize, region, usable, plugged, start, regionBlocks}
 use Rattle.history.specs.History.{Event, PlugAck, UnplugAck, Discarded, UnplugAllAck, within, on, lastOn, wasPlug, used}
-use Rattle.history.specs.Reached.{marks, counts, could, marked, counted, allCould, allPlugs, Restores, laidOn}
+use Rattle.history.specs.Reached.{marks, counts, could, marked, counted, allCould, allPlugs, Restores, afterRestore}
 use Rattle.record.proofs.Laws.{Parts}
 use Rattle.history.proofs.Shaped.{clash, block-is, size-ok, size-within, reshaped, idle-ok}
 use Rattle.history.proofs.Invariant.{Inv, discarding, quiet-asks, inv-plugs}
@@ -24,9 +24,9 @@ use Rattle.history.proofs.Invariant.{Inv, discarding, quiet-asks, inv-p
 pub marked-length : (es : List Event) (bs : List Bool) → length (marked es bs) ≡ length bs
 unfolding marked marks
 marked-length [] bs = refl
-marked-length (PlugAck first count ∷ es) bs = fill-length (marked es bs) first count true ∙ marked-length es bs
-marked-length (UnplugAck first count ∷ es) bs = fill-length (marked es bs) first count false ∙ marked-length es bs
-marked-length (Discarded block ∷ es) bs = fill-length (marked es bs) block 1 false ∙ marked-length es bs
+marked-length (PlugAck first count ∷ es) bs = fill-length (marked es bs) _ _ _ ∙ marked-length es bs
+marked-length (UnplugAck first count ∷ es) bs = fill-length (marked es bs) _ _ _ ∙ marked-length es bs
+marked-length (Discarded block ∷ es) bs = fill-length (marked es bs) _ _ _ ∙ marked-length es bs
 marked-length (UnplugAllAck ∷ es) bs = marked-length es bs
 
 -- what a plug finds: its blocks lie in the region, and are unplugged
@@ -51,9 +51,6 @@ last-inside (UnplugAck first count ∷ es) bs n i p q last = clash p refl
 last-inside (Discarded block ∷ es) bs n i p q last = clash p refl
 last-inside (UnplugAllAck ∷ es) bs n i p q last = clash p refl
 
-within-all : (a b c : ℕ) → a ≤ b → b ≤ c → a ≤ c
-within-all a b c p q = omega arith
-
 module _ (w : World) (requested : ℕ) (s : Parts (w .device)) where
   -- all plugs but the newest can be laid too
   fewer : (e : Event) (es : List Event) → Restores w requested (e ∷ es) → Restores w requested es
@@ -73,7 +70,7 @@ module _ (w : World) (requested : ℕ) (s : Parts (w .device)) where
   usable-blocks : blocksIn (blockSize w) (usable w) ≤ regionBlocks w
   usable-blocks = let within = size-within (blockSize w) (usable w) (region w) (s .usable) in rw (block-is (w .device) s) (omega arith)
 
-  pub inv-restored : (plugs : List Event) → Restores w requested plugs → Inv (laidOn w requested plugs) plugs
+  pub inv-restored : (plugs : List Event) → Restores w requested plugs → Inv (afterRestore w requested plugs) plugs
   unfolding marked marks counted counts allPlugs allCould lastOn wasPlug discarding
   inv-restored [] r =
       record {
@@ -87,8 +84,8 @@ module _ (w : World) (requested : ℕ) (s : Parts (w .device)) where
   inv-restored (PlugAck first count ∷ es) r =
       let n = blocksIn (blockSize w) (usable w) in
       let found = and-right (allCould es (w .blocks) n) _ (r .all-could) in
-      inv-plugs (laidOn w requested es) es (inv-restored es (fewer _ es r)) (r .is-placed) 0 (record { mem = []; base = 0 }) (rw (marked-length es (w .blocks)) (r .is-long)) first count
-      (rw (r .waits-for-nothing)) (within-all _ n _ (plug-ends first count n _ found) usable-blocks) (plug-finds first count n _ found)
+      inv-plugs (afterRestore w requested es) es (inv-restored es (fewer _ es r)) (r .is-placed) 0 (record { mem = []; base = 0 }) (rw (marked-length es (w .blocks)) (r .is-long)) first count
+      (rw (r .waits-for-nothing)) (le-trans (plug-ends first count n _ found) usable-blocks) (plug-finds first count n _ found)
   inv-restored (UnplugAck first count ∷ es) r = clash (r .only-plugs) refl
   inv-restored (Discarded block ∷ es) r = clash (r .only-plugs) refl
   inv-restored (UnplugAllAck ∷ es) r = clash (r .only-plugs) refl
@@ -98,9 +95,9 @@ module _ (w : World) (requested : ℕ) (s : Parts (w .device)) where
   restored-inside plugs r i l p = last-inside plugs (w .blocks) _ i (r .only-plugs) (r .all-could) (sym (inv-restored plugs r .told .bits i l) ∙ p)
 
   -- the plugged size is of whole blocks of the region, so the shape stays
-  pub shaped-restored : (plugs : List Event) → Restores w requested plugs → Parts (laidOn w requested plugs .device)
+  pub shaped-restored : (plugs : List Event) → Restores w requested plugs → Parts (afterRestore w requested plugs .device)
   shaped-restored plugs r =
-      let w′ = laidOn w requested plugs in
+      let w′ = afterRestore w requested plugs in
       let few : ones (used w′) ≤ regionBlocks w = omega (arith, ones-length (used w′), length-take (regionBlocks w) (w′ .blocks)) in
       let counted : plugged w′ ≡ ones (used w′) * blockSize w = inv-restored plugs r .told .count in
       let most = mul-le-mul-right (blockSize w) few in

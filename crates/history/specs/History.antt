@@ -1,4 +1,4 @@
--- Demand 3's words: a run of calls from a newly made device, the events that its answers tell, the last event on a block, and how many blocks are plugged.
+-- Demand 3's words: a newly made device, calls from it on, the events that their answers tell, the last event on a block, and how many blocks are plugged.
 use Prim.Native.Nat.{ℕ, _+_, _-_, _<_}
 use mathlib.Core.Path.{_≡_}
 use mathlib.Core.Bool.{Bool, true, false, cond, _&&_}

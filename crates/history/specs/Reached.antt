@@ -55,7 +55,7 @@ unfoldable pub allPlugs : List Event → Bool
 allPlugs [] = true
 allPlugs (e ∷ es) = wasPlug (some e) && allPlugs es
 
--- "laid on a placed device (no bit set, plugged 0)", with no host call pending; each of its plugs is of unplugged blocks inside the usable size
+-- it is "laid on a placed device (no bit set, plugged 0)" that waits for nothing and has its bitmap; the requested size is of the record's shape, and the plugs, one for each run, could happen one after the other inside the usable size
 pub record Restores (w : World) (requested : ℕ) (plugs : List Event) : Type 0 where
   pub is-placed : w .device .placed ≡ true
   pub waits-for-nothing : w .device .pending ≡ Nothing
@@ -67,8 +67,8 @@ pub record Restores (w : World) (requested : ℕ) (plugs : List Event) : Type 0 
   pub all-could : allCould plugs (w .blocks) (blocksIn (blockSize w) (usable w)) ≡ true
 
 -- "it sets bits, requested and plugged"
-abbrev pub laidOn : World → (requested : ℕ) → (plugs : List Event) → World
-laidOn w requested plugs =
+abbrev pub afterRestore : World → (requested : ℕ) → (plugs : List Event) → World
+afterRestore w requested plugs =
     let d = w .device in
     record {
       device = configTo (configWith (d .config) (start w) (usable w) (counted (blockSize w) plugs 0) requested) d;
@@ -78,7 +78,7 @@ laidOn w requested plugs =
 
 -- those events alone
 abbrev pub restored : World → (requested : ℕ) → (plugs : List Event) → Story
-restored w requested plugs = record { world = laidOn w requested plugs; «open» = NoRequest; events = plugs }
+restored w requested plugs = record { world = afterRestore w requested plugs; «open» = NoRequest; events = plugs }
 
 -- ---- every point of every run
 pub data Reached : Story → Type 0 where

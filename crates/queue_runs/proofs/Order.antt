@@ -107,7 +107,7 @@ module _ (w : World) (q : Queue) where
       (λ t. still _ _ _)
   moves (PastIt b) = still _ _ _
 
--- ---- over any calls
+-- ---- in every run
 kept : (s : QueueStory) (c next : QueueCall) → InOrder s c → InOrder (nextStory s c) next
 unfolding nextStory
 kept s c next h =

@@ -22,7 +22,7 @@ use Rattle.queue.specs.declared.Ending.{Ending}
 use Rattle.queue.specs.declared.Ending.the-variants.{Stays, Out, Used}
 use Rattle.queue.specs.Queue.{QueueOutcome, endingOf, aside, nextOf, serveNext, answerRefusal, hostAnswers}
 use Rattle.history.specs.History.{Event, Story, after}
-use Rattle.history.specs.Reached.{Restores, laidOn, restored, Reached}
+use Rattle.history.specs.Reached.{Restores, afterRestore, restored, Reached}
 
 -- ---- the calls
 -- a call of the device that goes past the queue: no request, and no answer of the host
@@ -142,7 +142,7 @@ opened s q = record { world = s .world; queue = q; story = s; taken = []; report
 abbrev pub restoredOn : QueueStory → (requested : ℕ) → (plugs : List Event) → QueueStory
 restoredOn s requested plugs =
     record {
-      world = laidOn (s .world) requested plugs;
+      world = afterRestore (s .world) requested plugs;
       queue = s .queue;
       story = restored (s .world) requested plugs;
       taken = s .taken;

@@ -111,7 +111,7 @@ constant-fields w c = kept-by w c .constant
 pub constant-in-restore : ConstantInRestore
 constant-in-restore w size plugs = constants w _ refl refl refl (λ _. refl) refl
 
--- ---- M5, over every run
+-- ---- M5, over any calls
 requested-is-usable-from : (before : Bool) (s : Story) (cs : List Call) → (before ≡ true → requested (s .world) ≤ usable (s .world)) → settledAfter before (s .world) cs ≡ true
     → requested (after s cs .world) ≤ usable (after s cs .world)
 unfolding settledAfter after next

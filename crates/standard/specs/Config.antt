@@ -21,7 +21,7 @@ use Rattle.step.specs.declared.Answer.the-variants.{Refused, Wants, Sized, Unse
 use Rattle.step.specs.World.{World, Call, ReadConfig, WriteConfig, Outcome}
 use Rattle.step.specs.Step.{step, blockSize, region, usable, plugged, requested, start, regionBlocks}
 use Rattle.history.specs.History.{Event, used, Story, after}
-use Rattle.history.specs.Reached.{laidOn, Reached, madeAs}
+use Rattle.history.specs.Reached.{afterRestore, Reached, madeAs}
 
 abbrev pub configOf : World → VirtioMemConfig
 configOf w = w .device .config
@@ -69,7 +69,7 @@ abbrev pub ConstantFields : World → Call → Outcome → Type 0
 ConstantFields w c o = Constant w (o .world)
 
 abbrev pub ConstantInRestore : Type 0
-ConstantInRestore = (w : World) (size : ℕ) (plugs : List Event) → Constant w (laidOn w size plugs)
+ConstantInRestore = (w : World) (size : ℕ) (plugs : List Event) → Constant w (afterRestore w size plugs)
 
 -- M4: block_size is a power of two, and the start and every other size are multiples of it; M5: no size is above region_size
 pub record Layout (w : World) : Type 0 where
