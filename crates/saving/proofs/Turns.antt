@@ -218,7 +218,8 @@ module _ (d : Device) (s before : List ℕ) (number : ℕ) (n : number ≡ entry
               let tl = length-take (length bs) (blocks before) in
               let clear′ : allAre (blocks before) 0 (length bs) false ≡ true = rw dn at clear in
               let ec : take (length bs) (blocks before) ≡ replicate (length bs) false =
-              every-clear (take (length bs) (blocks before)) clear′ ∙ ap (λ (u : ℕ). replicate u false) (omega arith) in
+              let w : length (take (length bs) (blocks before)) ≡ length bs = omega arith in
+              every-clear (take (length bs) (blocks before)) clear′ ∙ ap (λ (u : ℕ). replicate u false) w in
               let split : blocks before ≡ replicate (length bs) false ++ drop (length bs) (blocks before) =
               sym (take-drop (length bs) (blocks before)) ∙ ap (λ (u : List Bool). u ++ drop (length bs) (blocks before)) ec in
               record {
