@@ -1,6 +1,6 @@
 // SPDX-License-Identifier: Apache-2.0 AND BSD-3-Clause
 // The static library: each call of the device and of its queue for C and Rust, the record and the queue as words, and the guest's
-// side. Words that are no record, or no queue, are refused with 12.
+// side, and save records. Words that are no record, or no queue, are refused with 12.
 use answer_words::ANSWER_WORDS;
 use answer_words::number_of;
 use answer_words::pass_on;
@@ -29,6 +29,11 @@ use queue_words::ending_told;
 use queue_words::tell_queue;
 use rings::Queue;
 use rings::Taken;
+use save_words::tell_new;
+use save_words::tell_old;
+use save_words::tell_restore;
+use save_words::tell_save;
+use save_words::tell_save_length;
 use serving::host_answer;
 use serving::request;
 use step::Answer;
@@ -51,6 +56,7 @@ ghost use Rattle.step.specs.Step.{step};
 ghost use Rattle.queue.specs.Queue.{serveNext, hostAnswers};
 ghost use Rattle.driver.specs.Text.{Wrote};
 ghost use Rattle.driver_words.specs.Told.{ResponseTold, ConfigTold, PlanTold};
+ghost use Rattle.save_words.specs.Told.{lengthFrom, WroteTold, SaveTold, RestoreTold, ToNewTold, ToOldTold};
 ghost use Rattle.capi.specs.Exports.{nodeOf, MadeIn, lent, Exported};
 ghost use Rattle.capi.specs.Queue.{newQueue, QueueMadeIn, queueLent, QueueExported};
 
@@ -403,4 +409,66 @@ pub extern "C" fn jambcopper_driver_plan(config: &[u8], bitmap: &[u8], plug: &mu
         ⌝ }
 {
     tell_plan(config, bitmap, plug)
+}
+
+// How long the device's text is.
+#[no_mangle]
+pub extern "C" fn jambcopper_save_length(words: &[u64], bitmap: &[u8], length: &mut [u64]) -> u64
+    ensures { λ r. ⌜ WroteTold (lengthFrom (now (words .entry)) (now (bitmap .entry)) (now (length .entry))) (now (length .entry)) (now (length .exit)) r ⌝ }
+{
+    tell_save_length(words, bitmap, length)
+}
+
+// Saves the device as a text.
+#[no_mangle]
+pub extern "C" fn jambcopper_save(
+    words: &[u64],
+    bitmap: &[u8],
+    text: &mut [u8],
+    length: &mut [u64],
+) -> u64
+    ensures { λ r. ⌜ SaveTold (now (words .entry)) (now (bitmap .entry)) (now (text .entry)) (now (text .exit)) (now (length .entry)) (now (length .exit)) r ⌝ }
+{
+    tell_save(words, bitmap, text, length)
+}
+
+// Restores the state of a text onto the device.
+#[no_mangle]
+pub extern "C" fn jambcopper_restore(words: &mut [u64], bitmap: &mut [u8], text: &[u8]) -> u64
+    ensures { λ r. ⌜ RestoreTold (now (text .entry)) (now (words .entry)) (now (words .exit)) (now (bitmap .entry)) (now (bitmap .exit)) r ⌝ }
+{
+    tell_restore(words, bitmap, text)
+}
+
+// Moves a save record of the old form into a text.
+#[no_mangle]
+pub extern "C" fn jambcopper_old_to_new(
+    fields: &[u64],
+    old: &[u8],
+    scratch: &mut [u8],
+    text: &mut [u8],
+    length: &mut [u64],
+) -> u64
+    ensures { λ r. ⌜
+        ToNewTold (now (fields .entry)) (now (old .entry)) (now (scratch .entry)) (now (scratch .exit))
+        (now (text .entry)) (now (text .exit)) (now (length .entry)) (now (length .exit)) r
+        ⌝ }
+{
+    tell_new(fields, old, scratch, text, length)
+}
+
+// Moves a text into a save record of the old form.
+#[no_mangle]
+pub extern "C" fn jambcopper_new_to_old(
+    text: &[u8],
+    scratch: &mut [u8],
+    old: &mut [u8],
+    fields: &mut [u64],
+) -> u64
+    ensures { λ r. ⌜
+        ToOldTold (now (text .entry)) (now (scratch .entry)) (now (scratch .exit))
+        (now (old .entry)) (now (old .exit)) (now (fields .entry)) (now (fields .exit)) r
+        ⌝ }
+{
+    tell_old(text, scratch, old, fields)
 }
