@@ -71,6 +71,7 @@ pub record Accepts (s : List ℕ) (f : Fields) (runs : ℕ) : Type 0 where
   pub bs : List Bool
   pub says : Says s f bs
   pub rest : runsText (runsOf bs) ≡ drop runs s
+  pub inside : runs ≤ length s
 
 -- a text is accepted with the state whose text it is, and refused if there is none
 abbrev pub Checks : List ℕ → Checked → Type 0
