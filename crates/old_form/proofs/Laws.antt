@@ -81,6 +81,7 @@ moved-state f old scratch room n e = go (noRoom scratch) refl
           omega arith,
         )
     good false p q = let z : _≡_ {A = ℕ} 0 1 = cc in absurd (omega arith)
+
     go : (b : Bool) → noRoom scratch ≡ b → (isOld old ≡ true) × State f (bitsOf old) × (n ≡ length (newText f old)) × (n ≤ room)
     go true p = let q : Text n ≡ Refused 11 = e ∙ rw p in let z : _≡_ {A = ℕ} 0 1 = cc in absurd (omega arith)
     go false p = good _ refl (e ∙ rw p)

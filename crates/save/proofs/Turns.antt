@@ -46,6 +46,7 @@ part-byte len n e =
   where
     rest : (len n : ℕ) → (n % 8 ≡ 0 → ⊥) → len < (n + 7) / 8 → len ≤ n / 8
     rest len n e l = omega arith
+
     past : (len n : ℕ) → (n % 8 ≡ 0 → ⊥) → (n + 7) / 8 ≤ len → n / 8 < len
     past len n e l = omega arith
 
@@ -291,8 +292,7 @@ module _ (s before mid after : List ℕ) (long : 32768 ≤ length before) (r : C
       let c = cleared (blocks before) (length (there .bs)) (omega arith) in
       let d′ : Filled before mid 0 (length (there .bs)) false = rw k at d in
       let z : 0 + length (there .bs) ≡ length (there .bs) = omega arith in
-      let o : Outside before mid 0 (length (there .bs)) = rw z at (d′ .outside) in
-      (
+      let o : Outside before mid 0 (length (there .bs)) = rw z at (d′ .outside) in (
         there .bs,
         record { long = le-ltb (length before) 32768 long; says = there .says; fits = omega arith },
         laid-holds s f n there before mid after (d′ .as-blocks ∙ c) o l,

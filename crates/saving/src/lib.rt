@@ -86,7 +86,12 @@ fn fits_on(d: Device, bitmap: &[u8], f: Fields) -> bool
     if !((f.usable <= c.usable_region_size) & (c.plugged_size == 0)) {
         return false;
     }
-    bitmap::all_in_state(bitmap, 0, blocks_in(c.block_size, c.region_size) as usize, false)
+    bitmap::all_in_state(
+        bitmap,
+        0,
+        blocks_in(c.block_size, c.region_size) as usize,
+        false,
+    )
 }
 
 // Restores a state: its bits, requested and plugged size are laid on a device. 12, 7, 11, 19, 18.
