@@ -1,15 +1,15 @@
 -- What each step of saving and restoring does.
-use Prim.Native.Nat.{ℕ, _+_, _-_, _*_, _/_, _≤_, _<_}
+use Prim.Native.Nat.{ℕ, _+_, _/_, _≤_}
 use mathlib.Core.Path.{_≡_, refl, ap, _∙_, sym}
-use mathlib.Core.Bool.{Bool, true, false, cond, not, _&&_}
-use mathlib.Core.List.{List, [], _∷_, _++_}
+use mathlib.Core.Bool.{Bool, true, false, not, _&&_}
+use mathlib.Core.List.{List, _++_}
 use native.Mathlib.Omega.{arith}
 use borrow.Author.Tests.{ltb-false, leb-true, eqb-true, ne-eqb}
 use lib.Dec.{eqb, leb, ltb}
 use lib.ListN.{length, take, drop, replicate, length-take}
 use Rattle.units.specs.Numbers.{blocksIn}
 use Rattle.units.proofs.Tests.{refused, passed, and-left, and-right}
-use Rattle.bitmap.specs.Blocks.{blocks, allAre, Outside}
+use Rattle.bitmap.specs.Blocks.{blocks, allAre}
 use Rattle.bitmap.proofs.Laws.{blocks-length}
 use Rattle.record.specs.declared.Device.{Device}
 use Rattle.record.specs.Shape.{shapedOf, isIdle}
@@ -22,12 +22,12 @@ use Rattle.save.specs.declared.Checked.{Checked}
 use Rattle.save.specs.declared.Checked.the-variants as checked
 use Rattle.save.specs.Text.{allOf}
 use Rattle.save.specs.Writing.{isShort, textIn, lengthOf, wroteOf, writtenOn, Writes}
-use Rattle.save.specs.Reading.{Accepts, Checks, Refuses, Holds, Takes, NotTaken, refusalOf}
+use Rattle.save.specs.Reading.{Accepts, Checks, NotTaken}
 use Rattle.record.proofs.Laws.{shaped-is}
-use Rattle.save.proofs.Text.{in-blocks, valid-shape, state-block}
+use Rattle.save.proofs.Text.{state-block}
 use Rattle.save.proofs.Turns.{accepts-at, refuses-at, too-short, not-read, not-fitting, laid-holds}
 use Rattle.saving.specs.Saving.{fieldsIn, entryRefusal, after, savedLength, Saves}
-use Rattle.saving.specs.Restoring.{fitsOn, restoredTo, Fits, restoreRefusal, Restoring, NotRestoring}
+use Rattle.saving.specs.Restoring.{fitsOn, restoredTo, Fits, TakenOn, restoreRefusal, Restoring, NotRestoring}
 
 -- ---- `entry_refusal`
 
@@ -164,6 +164,28 @@ same-blocks d f e b r =
     let c = shaped-is d (entry-shaped d e .0) .block-size in
     ap (λ (x : ℕ). d .config .«region_size» / x) (c ∙ sym b) ∙ ap (λ (x : ℕ). x / f .block) (sym r)
 
+-- where a state is taken, the device has as many blocks as it, its bitmap has them all, and they are clear
+module _ (d : Device) (s before : List ℕ) (f : Fields) (bs : List Bool) (z : entryRefusal d ≡ 0) (t : TakenOn d s before f bs) where
+  pub as-many : allOf (fieldsIn d) ≡ length bs
+  as-many = same-blocks d f z (state-block (t .says .state)) (same-region d (blocks before) f (t .fits)) ∙ sym (t .says .state .all)
+
+  pub has-room : length bs ≤ length (blocks before)
+  has-room =
+      let count = blocks-length before in
+      let k = ltb-false (length before) ((allOf (fieldsIn d) + 7) / 8) (t .long) in
+      let n = as-many in
+      omega arith
+
+  pub starts-clear : blocks before ≡ replicate (length bs) false ++ drop (length bs) (blocks before)
+  starts-clear =
+      let first = take (length bs) (blocks before) in
+      let few = has-room in
+      let tl = length-take (length bs) (blocks before) in
+      let n : length (take (length bs) (blocks before)) ≡ length bs = omega arith in
+      let clear : allAre (blocks before) 0 (length bs) false ≡ true = rw as-many at (none-set d (blocks before) f (t .fits)) in
+      let e : first ≡ replicate (length bs) false = every-clear first clear ∙ ap (λ (u : ℕ). replicate u false) n in
+      sym (take-drop (length bs) (blocks before)) ∙ ap (λ (u : List Bool). u ++ drop (length bs) (blocks before)) e
+
 module _ (d : Device) (s before : List ℕ) (number : ℕ) (n : number ≡ entryRefusal d) where
   pub shut-out : (number ≡ 0 → ⊥) → NotRestoring d s before before number
   unfolding restoreRefusal
@@ -204,29 +226,15 @@ module _ (d : Device) (s before : List ℕ) (number : ℕ) (n : number ≡ entry
 
           pub laid : not v ≡ false → (final : List ℕ) → Lays (drop m s) before final → Restoring d s before final (restoredTo f d)
           laid q final l =
-              let fits = passed (fitsOn d (blocks before) f) v o q in
               let a′ = there in
               let bs = a′ .bs in
-              let x = a′ .says .state .all in
-              let same = same-region d (blocks before) f fits in
-              let clear = none-set d (blocks before) f fits in
-              let b4 = in-blocks f (valid-shape (a′ .says .state)) (f .region) in
-              let count = blocks-length before in
-              let k = ltb-false (length before) ((allOf (fieldsIn d) + 7) / 8) long in
-              let dn : allOf (fieldsIn d) ≡ length bs = same-blocks d f admits (state-block (a′ .says .state)) same ∙ sym x in
-              let few : length bs ≤ length (blocks before) = omega arith in
-              let tl = length-take (length bs) (blocks before) in
-              let clear′ : allAre (blocks before) 0 (length bs) false ≡ true = rw dn at clear in
-              let ec : take (length bs) (blocks before) ≡ replicate (length bs) false =
-              let w : length (take (length bs) (blocks before)) ≡ length bs = omega arith in
-              every-clear (take (length bs) (blocks before)) clear′ ∙ ap (λ (u : ℕ). replicate u false) w in
-              let split : blocks before ≡ replicate (length bs) false ++ drop (length bs) (blocks before) =
-              sym (take-drop (length bs) (blocks before)) ∙ ap (λ (u : List Bool). u ++ drop (length bs) (blocks before)) ec in
+              let t : TakenOn d s before f bs = record { long = long; says = a′ .says; fits = passed (fitsOn d (blocks before) f) v o q } in
               record {
                 fields = f;
                 bs = bs;
                 admitted = admits;
-                taken = record { long = long; says = a′ .says; fits = fits };
+                taken = t;
                 device = refl;
-                bitmap = laid-holds s f m a′ before before final split (record { same-length = refl; same-before = λ i j. refl; same-past = λ i j. refl }) l;
+                bitmap = laid-holds s f m a′ before before final (starts-clear d s before f bs admits t)
+                    (record { same-length = refl; same-before = λ i j. refl; same-past = λ i j. refl }) l;
               }
