@@ -1,0 +1,2 @@
+pub mod Plugs
+pub mod Starts
