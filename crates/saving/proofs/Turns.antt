@@ -123,6 +123,9 @@ module _ (d : Device) (bs : List Bool) (f : Fields) (h : fitsOn d bs f ≡ true)
   unfolding fitsOn
   is-placed = and-left (d .placed) _ h
 
+  pub same-start : f .start ≡ d .config .addr .0
+  same-start = eqb-true (f .start) (d .config .addr .0) (and-left (eqb (f .start) (d .config .addr .0)) _ after-placed)
+
   after-start : (eqb (f .region) (d .config .«region_size») && (leb (f .usable) (d .config .«usable_region_size»)
       && (eqb (d .config .«plugged_size») 0 && allAre bs 0 (blocksIn (d .config .«block_size») (d .config .«region_size»)) false))) ≡ true
   after-start = and-right (eqb (f .start) (d .config .addr .0)) _ after-placed
