@@ -1,2 +1,3 @@
 pub mod Plugs
 pub mod Starts
+pub mod Round
