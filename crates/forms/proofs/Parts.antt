@@ -7,7 +7,7 @@ use mathlib.Core.List.{List, [], _∷_, _++_, append-assoc}
 use native.Mathlib.Omega.{arith}
 use borrow.Author.Tests.{not-true, eq-eqb, eqb-true}
 use lib.Dec.{eqb}
-use lib.ListN.{length, drop, getD, length-append}
+use lib.ListN.{length, drop, getD, length-append, length-drop}
 use lib.Seq.{sets, getD-append-seam, take-length}
 use Rattle.units.proofs.Tests.{by-test, and-left, and-right}
 use Rattle.text.specs.Decimal.{decimal}
@@ -146,3 +146,22 @@ module _ (form s l : List ℕ) {before after : List ℕ} {r : Place} (o : Scanne
   pub part-nowhere : r ≡ place.Nowhere → (us end : List ℕ) → partOf (length before) form l ≡ part us end → ⊥
   part-nowhere e us end q =
       missing (sym (o .answer ∙ ap (λ (p : Place). placed s p (partNumbers (partOf (length before) form l))) e) ∙ q)
+
+-- ---- one outcome
+
+pub scanned-at-once : (before s : List ℕ) (w : Part) (p q : Place) (xs ys : List ℕ) → ScannedAt before s w p xs → ScannedAt before s w q ys → (p ≡ q) × (xs ≡ ys)
+scanned-at-once before s w p q xs ys a b = (same p q (sym (a .answer) ∙ b .answer) (a .inside) (b .inside), a .values ∙ sym (b .values))
+  where
+    same : (p q : Place) → placed s p (partNumbers w) ≡ placed s q (partNumbers w) → ((n : ℕ) → p ≡ place.At n → n ≤ length s) → ((n : ℕ) → q ≡ place.At n → n ≤ length s) → p ≡ q
+    same (place.At m) (place.At n) e i j =
+        let d : drop m s ≡ drop n s = cc in
+        let k = i m refl in
+        let l = j n refl in
+        let x = length-drop m s in
+        let y = length-drop n s in
+        let z = ap length d in
+        let r : m ≡ n = omega arith in
+        ap place.At r
+    same (place.At m) place.Nowhere e i j = let z : _≡_ {A = ℕ} 0 1 = cc in absurd (omega arith)
+    same place.Nowhere (place.At n) e i j = let z : _≡_ {A = ℕ} 0 1 = cc in absurd (omega arith)
+    same place.Nowhere place.Nowhere e i j = refl

@@ -13,7 +13,7 @@ use Rattle.units.proofs.Tests.{by-test}
 use Rattle.text.specs.declared.Number.{Number}
 use Rattle.text.specs.declared.Number.the-variants.{At, Bad}
 use Rattle.text.specs.Decimal.{decimal}
-use Rattle.text.specs.Reading.{Got, got, nothing, wordOf, numberAt}
+use Rattle.text.specs.Reading.{Got, got, nothing, wordOf, answerIn, numberAt}
 use Rattle.text.specs.Putting.{Put}
 use Rattle.text.proofs.Laws.{read-none, read-rest}
 use Rattle.text.proofs.Puts.{sets-append, then}
@@ -44,11 +44,30 @@ pub record Left (w : Part) (before s form values : List ℕ) (i j k : ℕ) : Typ
   pub within : k ≤ length before
   pub kept : values ≡ sets before 0 (take k values)
   pub left : w ≡ prepend (take k values) (partOf (length before - k) (drop j form) (drop i s))
+  pub inside : i ≤ length s
 
-pub begin : (s form values : List ℕ) (at : ℕ) → Left (partOf (length values) form (drop at s)) values s form values at 0 0
-begin s form values at =
+-- no position past the end is given
+drop-min : (n : ℕ) (s : List ℕ) → drop (min n (length s)) s ≡ drop n s
+drop-min n s =
+    by-test (leb n (length s))
+    (λ t. let h = leb-true n (length s) t in let e : min n (length s) ≡ n = omega arith in rw e)
+    (λ t.
+    let h = leb-false n (length s) t in
+    let e : min n (length s) ≡ length s = omega arith in
+    rw e (drop-of-length-le s {i = length s} (omega arith) ∙ sym (drop-of-length-le s {i = n} (omega arith))))
+
+number-inside : (s : List ℕ) (g : Got) (v n : ℕ) → At v n ≡ answerIn s g → n ≤ length s
+number-inside s (got u rest) v n e = let q : n ≡ length s - length rest = cc in omega arith
+number-inside s nothing v n e = let z : _≡_ {A = ℕ} 0 1 = cc in absurd (omega arith)
+
+nowhere : {n : ℕ} → place.Nowhere ≡ place.At n → ⊥
+nowhere e = let z : _≡_ {A = ℕ} 0 1 = cc in omega arith
+
+pub begin : (s form values : List ℕ) (at i : ℕ) → i ≡ min at (length s) → Left (partOf (length values) form (drop at s)) values s form values i 0 0
+begin s form values at i q =
     let e : length values - 0 ≡ length values = omega arith in
-    record { within = omega arith; kept = refl; left = rw e (prepend-none (partOf (length values) form (drop at s))) }
+    let d : drop at s ≡ drop i s = sym (drop-min at s) ∙ ap (λ (n : ℕ). drop n s) (sym q) in
+    record { within = omega arith; kept = refl; left = rw (e, ← d) (prepend-none (partOf (length values) form (drop at s))); inside = omega arith }
 
 module _ {w : Part} {before s form values : List ℕ} {i j k : ℕ} (o : Left w before s form values i j k) where
   pub long : length values ≡ length before
@@ -58,7 +77,7 @@ module _ {w : Part} {before s form values : List ℕ} {i j k : ℕ} (o : Left w 
   unfolding prepend
   fails e =
       let n : take k values ≡ partNumbers w = rw (e, append-nil) in
-      record { answer = rw e; values = o .kept ∙ ap (sets before 0) n }
+      record { answer = rw e; inside = λ m q. absurd (nowhere q); values = o .kept ∙ ap (sets before 0) n }
 
   module _ (h : j < length form) where
     module _ (e : getD form j 0 ≡ 35) where
@@ -108,6 +127,7 @@ module _ {w : Part} {before s form values : List ℕ} {i j k : ℕ} (o : Left w 
                     ∙ prepend-push (take k values) v (partOf (length before - (k + 1)) (drop (suc j) form) (drop n s))
                     ∙ ap (λ (xs : List ℕ). prepend xs (partOf (length before - (k + 1)) (drop (suc j) form) (drop n s))) first-read
                     ∙ rw (add-one j);
+                inside = number-inside s (wordOf (drop i s)) v n (sym t ∙ g);
               }
 
     module _ (e : getD form j 0 ≡ 35 → ⊥) where
@@ -132,6 +152,7 @@ module _ {w : Part} {before s form values : List ℕ} {i j k : ℕ} (o : Left w 
             within = o .within;
             kept = o .kept;
             left = rw (q, drop-cons s i 0 f, eq-eqb _ _ n) at (o .left) ∙ rw (add-one j, add-one i);
+            inside = omega arith;
           }
 
   pub at-end : length form ≤ j → ScannedAt before s w (place.At i) values
@@ -139,7 +160,8 @@ module _ {w : Part} {before s form values : List ℕ} {i j k : ℕ} (o : Left w 
   at-end h =
       let q : w ≡ part (take k values) (drop i s) = rw (drop-of-length-le form h, append-nil) at (o .left) in
       let n : take k values ≡ partNumbers w = rw q in
-      record { answer = rw q; values = o .kept ∙ ap (sets before 0) n }
+      let l = o .inside in
+      record { answer = rw q; inside = λ m p. let z : i ≡ m = cc in omega arith; values = o .kept ∙ ap (sets before 0) n }
 
 -- ---- `scan`: a part that is the whole
 

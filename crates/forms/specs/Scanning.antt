@@ -1,10 +1,10 @@
 -- What scanning does, step by step. That it undoes filling, and nothing else, is proved in proofs/Laws.antt.
-use Prim.Native.Nat.{ℕ, zero, suc}
+use Prim.Native.Nat.{ℕ, zero, suc, _≤_}
 use mathlib.Core.Path.{_≡_}
 use mathlib.Core.Bool.{Bool, true, false, cond}
 use mathlib.Core.List.{List, [], _∷_}
 use lib.Dec.{eqb}
-use lib.ListN.{drop}
+use lib.ListN.{length, drop}
 use lib.Seq.{sets}
 use Rattle.text.specs.Reading.{Got, got, nothing, wordOf}
 use Rattle.forms.specs.Forms.{isHole}
@@ -92,7 +92,9 @@ abbrev pub placed : List ℕ → Place → List ℕ → Part
 placed s (At n) vs = part vs (drop n s)
 placed s Nowhere vs = none vs
 
--- the answer says whether the text starts with a filled form, and where it goes on; the values as for `Scanned`
+-- the answer says whether the text starts with a filled form, and the one position of s from which on just the rest is left; the
+-- values as for `Scanned`
 pub record ScannedAt (before s : List ℕ) (w : Part) (r : Place) (after : List ℕ) : Type 0 where
   pub answer : w ≡ placed s r (partNumbers w)
+  pub inside : (n : ℕ) → r ≡ At n → n ≤ length s
   pub values : after ≡ sets before 0 (partNumbers w)

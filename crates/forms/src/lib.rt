@@ -1,5 +1,6 @@
 // Lines by their forms: a form is a text in which # stands for a number.
 use text::Number;
+use units::smaller;
 ghost use mathlib.Core.Path.{_≡_};
 ghost use Prim.Native.Nat.{_+_, min};
 ghost use lib.ListN.{length, getD, drop};
@@ -19,7 +20,7 @@ pub enum Place {
 pub fn scan_at(s: &[u8], at: usize, form: &[u8], values: &mut [u64]) -> Place
     ensures { λ r. ⌜ ScannedAt (now (values .entry)) (now (s .entry)) (partOf (length (now (values .entry))) (now (form .entry)) (drop at (now (s .entry)))) r (now (values .exit)) ⌝ }
 {
-    let mut i = at;
+    let mut i = smaller(at as u64, s.len() as u64) as usize;
     let mut j = 0;
     let mut k = 0;
     while j < form.len() {

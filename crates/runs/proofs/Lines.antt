@@ -11,6 +11,7 @@ use Rattle.units.proofs.Tests.{and-left, and-right, refused, passed}
 use Rattle.text.specs.Decimal.{largest}
 use Rattle.text.specs.Reading.{isDigit, digitOf}
 use Rattle.bitmap.specs.Blocks.{blocks, fill, Outside, Filled}
+use Rattle.bitmap.proofs.Bytes.{blocks-tell}
 use Rattle.forms.specs.Forms.{holes, filled, filledFrom}
 use Rattle.forms.specs.Scanning.{Part, part, none, bytePart, partOf, ScannedAt}
 use Rattle.forms.specs.declared.Place.{Place}
@@ -23,7 +24,7 @@ use Rattle.runs.specs.declared.RunLine.{RunLine}
 use Rattle.runs.specs.declared.RunLine.the-variants as line
 use Rattle.runs.specs.Runs.{Run, Apart, total, laidOn}
 use Rattle.runs.specs.Text.{runLine, runsText}
-use Rattle.runs.specs.Reading.{IsRun, runOk, Counts, LaidRuns, Lays}
+use Rattle.runs.specs.Reading.{IsRun, runOk, Counts, Starts, Lays}
 
 -- ---- the runs' lines
 
@@ -240,31 +241,59 @@ then-outside entry mid exit f c end h a b =
 
 lays-none : (l entry : List ℕ) → ((us rest : List ℕ) → partOf 2 runLine l ≡ part us rest → ⊥) → Lays l entry entry
 unfolding laidOn
-lays-none l entry n = record { long = refl; laid = go }
-  where
-    go : (from end : ℕ) (rs : List Run) → end ≤ largest → Apart from end rs → runsText rs ≡ l → LaidRuns end rs entry entry
-    go from end [] h a t = record { as-blocks = refl; outside = same-outside entry end }
-    go from end (r ∷ rs) h a t =
-        absurd (n _ _ (ap (partOf 2 runLine) (sym t) ∙ run-part r rs (omega (arith, a .2)) (omega (arith, a .2))))
+lays-none l entry n = record { runs = []; starts = n; as-blocks = refl; long = refl; outside = λ from end a. same-outside entry end }
 
 lays-turn : (l rest : List ℕ) (f c : ℕ) (entry mid exit : List ℕ) → partOf 2 runLine l ≡ part (f ∷ c ∷ []) rest → Filled entry mid f c true → Lays rest mid exit → Lays l entry exit
 unfolding laidOn
-lays-turn l rest f c entry mid exit e d o = record { long = o .long ∙ d .outside .same-length; laid = go }
-  where
-    go : (from end : ℕ) (rs : List Run) → end ≤ largest → Apart from end rs → runsText rs ≡ l → LaidRuns end rs entry exit
-    go from end [] h a t = absurd (missing (sym no-run ∙ ap (partOf 2 runLine) t ∙ e))
-    go from end (r ∷ rs) h a t =
-        let q : part (r .first ∷ r .count ∷ []) (runsText rs) ≡ part (f ∷ c ∷ []) rest =
-        sym (run-part r rs (omega (arith, a .2)) (omega (arith, a .2))) ∙ ap (partOf 2 runLine) t ∙ e in
-        let x : r .first ≡ f = cc in
-        let y : r .count ≡ c = cc in
-        let w : runsText rs ≡ rest = cc in
-        let b : blocks mid ≡ fill (blocks entry) (r .first) (r .count) true = d .as-blocks ∙ rw (x, y) in
-        let m = o .laid (suc (r .first + r .count)) end rs h (a .3) w in
-        record {
-          as-blocks = m .as-blocks ∙ ap (laidOn rs) b;
-          outside = then-outside entry mid exit f c end (omega (arith, a .2)) (d .outside) (m .outside);
-        }
+lays-turn l rest f c entry mid exit e d o =
+    record {
+      runs = record { first = f; count = c } ∷ o .runs;
+      starts = (rest, e, o .starts);
+      as-blocks = o .as-blocks ∙ ap (laidOn (o .runs)) (d .as-blocks);
+      long = o .long ∙ d .outside .same-length;
+      outside = λ from end a. then-outside entry mid exit f c end (a .2) (d .outside) (o .outside (suc (f + c)) end (a .3));
+    }
+
+-- a text of runs that are apart starts with those, and with no others
+pub starts-are : (from end : ℕ) (rs qs : List Run) (l : List ℕ) → end ≤ largest → Apart from end rs → runsText rs ≡ l → Starts l qs → qs ≡ rs
+starts-are from end [] [] l h a t s = refl
+starts-are from end [] (q ∷ qs) l h a t s = absurd (missing (sym no-run ∙ ap (partOf 2 runLine) t ∙ s .1))
+starts-are from end (r ∷ rs) [] l h a t s =
+    absurd (s _ _ (ap (partOf 2 runLine) (sym t) ∙ run-part r rs (omega (arith, a .2)) (omega (arith, a .2))))
+starts-are from end (r ∷ rs) (q ∷ qs) l h a t s =
+    let p : part (r .first ∷ r .count ∷ []) (runsText rs) ≡ part (q .first ∷ q .count ∷ []) (s .0) =
+    sym (run-part r rs (omega (arith, a .2)) (omega (arith, a .2))) ∙ ap (partOf 2 runLine) t ∙ s .1 in
+    let x : r .first ≡ q .first = cc in
+    let y : r .count ≡ q .count = cc in
+    let w : runsText rs ≡ s .0 = cc in
+    let i = starts-are (suc (r .first + r .count)) end rs qs (s .0) h (a .3) w (s .2) in
+    let z = run-is r q x y in
+    cc
+
+-- ---- one outcome
+
+starts-once : (l : List ℕ) (rs qs : List Run) → Starts l rs → Starts l qs → rs ≡ qs
+starts-once l [] [] a b = refl
+starts-once l [] (q ∷ qs) a b = absurd (a _ _ (b .1))
+starts-once l (r ∷ rs) [] a b = absurd (b _ _ (a .1))
+starts-once l (r ∷ rs) (q ∷ qs) a b =
+    let p : part (r .first ∷ r .count ∷ []) (a .0) ≡ part (q .first ∷ q .count ∷ []) (b .0) = sym (a .1) ∙ b .1 in
+    let x : r .first ≡ q .first = cc in
+    let y : r .count ≡ q .count = cc in
+    let w : a .0 ≡ b .0 = cc in
+    let i = starts-once (a .0) rs qs (a .2) (rw w (b .2)) in
+    let z = run-is r q x y in
+    cc
+
+-- the bytes of a bitmap are below 256, as its type says
+pub lays-once : (l entry xs ys : List ℕ) → ((i : ℕ) → getD xs i 0 < 256) → ((i : ℕ) → getD ys i 0 < 256) → Lays l entry xs → Lays l entry ys → xs ≡ ys
+lays-once l entry xs ys p q a b =
+    blocks-tell xs ys p q (a .as-blocks ∙ ap (λ (rs : List Run). laidOn rs (blocks entry)) (starts-once l (a .runs) (b .runs) (a .starts) (b .starts)) ∙ sym (b .as-blocks))
+
+pub counts-once : (from end sum : ℕ) (l : List ℕ) (a b : Counted) → Counts from end sum l a → Counts from end sum l b → a ≡ b
+counts-once from end sum l (Blocks n) b p q = let o = p .only n refl in ap Blocks (o .3) ∙ sym (q .whole (o .0) (o .1) (o .2))
+counts-once from end sum l Bad (Blocks n) p q = let o = q .only n refl in p .whole (o .0) (o .1) (o .2) ∙ ap Blocks (sym (o .3))
+counts-once from end sum l Bad Bad p q = refl
 
 -- the loop stands at i of the text: what is right for the text that is left is right for the whole
 pub record Setting (s : List ℕ) (at : ℕ) (entry : List ℕ) (i : ℕ) (cur : List ℕ) : Type 0 where

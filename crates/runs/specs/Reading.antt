@@ -28,12 +28,15 @@ pub record Counts (from end sum : ℕ) (l : List ℕ) (w : Counted) : Type 0 whe
   pub whole : (rs : List Run) → Apart from end rs → runsText rs ≡ l → w ≡ Blocks (sum + total rs)
   pub only : (n : ℕ) → w ≡ Blocks n → (rs : List Run) × Apart from end rs × (runsText rs ≡ l) × (n ≡ sum + total rs)
 
--- the blocks of runs were set, no other changed, and no byte past them was touched
-pub record LaidRuns (end : ℕ) (rs : List Run) (entry exit : List ℕ) : Type 0 where
-  pub as-blocks : blocks exit ≡ laidOn rs (blocks entry)
-  pub outside : Outside entry exit 0 end
+-- the runs with whose lines a text starts, up to where no run's line follows
+abbrev pub Starts : List ℕ → List Run → Type 0
+Starts l [] = (us rest : List ℕ) → partOf 2 runLine l ≡ part us rest → ⊥
+Starts l (r ∷ rs) = (rest : List ℕ) × (partOf 2 runLine l ≡ part (r .first ∷ r .count ∷ []) rest) × Starts rest rs
 
--- where l is the text of runs, they were laid
+-- their blocks were set, no other changed, and no byte past them was touched
 pub record Lays (l entry exit : List ℕ) : Type 0 where
+  pub runs : List Run
+  pub starts : Starts l runs
+  pub as-blocks : blocks exit ≡ laidOn runs (blocks entry)
   pub long : length exit ≡ length entry
-  pub laid : (from end : ℕ) (rs : List Run) → end ≤ largest → Apart from end rs → runsText rs ≡ l → LaidRuns end rs entry exit
+  pub outside : (from end : ℕ) → Apart from end runs → Outside entry exit 0 end

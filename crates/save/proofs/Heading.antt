@@ -1,13 +1,12 @@
 -- The head of a text, and the whole of it.
-use Prim.Native.Nat.{ℕ, zero, suc, min, _+_, _≤_, _<_}
+use Prim.Native.Nat.{ℕ, zero, suc, _+_, _≤_, _<_}
 use mathlib.Core.Path.{_≡_, refl, ap, _∙_, sym}
 use mathlib.Core.Bool.{Bool, true, false, cond}
 use mathlib.Core.List.{List, [], _∷_, _++_, append-assoc}
 use native.Mathlib.Omega.{arith}
-use borrow.Author.Tests.{lt-ltb, le-ltb, leb-true, leb-false}
-use lib.Dec.{ltb, leb}
-use lib.ListN.{length, drop, getD, drop-of-length-le}
-use Rattle.units.proofs.Tests.{by-test}
+use borrow.Author.Tests.{lt-ltb, le-ltb}
+use lib.Dec.{ltb}
+use lib.ListN.{length, drop, getD}
 use Rattle.text.specs.Decimal.{largest}
 use Rattle.forms.specs.Forms.{holes, filled}
 use Rattle.forms.specs.Scanning.{Part, part, none, partOf, ScannedAt}
@@ -80,7 +79,7 @@ module _ (s rest : List ℕ) (e : partOf 1 formLine s ≡ part (2 ∷ []) rest) 
   fields-is f bs h = ap (partOf 5 (fieldLines 2)) (sym (form-is s 2 rest e f bs h .1)) ∙ fields-part 2 f (runsOf bs) (state-words (h .state))
 
   pub head-fields : (r : Head) → IsFields s rest r → IsHead s r
-  head-fields (head.At f n) h = record { rest = rest; form = e; block = h .0; fields = h .1 }
+  head-fields (head.At f n) h = record { rest = rest; form = e; block = h .0; fields = h .1; inside = h .2 }
   head-fields (head.Refused k) h =
       let l = now-later in
       record { number-is = rw l (h .0); no-state = λ f bs t. h .1 _ _ (fields-is f bs t) }
@@ -110,11 +109,11 @@ module _ (s : List ℕ) (f : Fields) (n : ℕ) (h : Heads s f n) where
       let q : part (fieldsOf g) (runsText (runsOf bs)) ≡ part (fieldsOf f) (drop n s) = sym (fields-is s (h .rest) (h .form) g bs t) ∙ h .fields in
       (fields-are g f (state-block (t .state) ∙ sym (h .block)) (cc) (cc) (cc) (cc) (cc), cc)
 
-  pub checked-whole : n ≤ length s → (r : Checked) → Laid f n (drop n s) r → Checks s r
-  checked-whole i (checked.State g runs) l =
+  pub checked-whole : (r : Checked) → Laid f n (drop n s) r → Checks s r
+  checked-whole (checked.State g runs) l =
       let d = l .2 in
-      rw (l .0, l .1) (record { bs = d .0; says = record { state = d .1; text = whole-text (d .0) (d .2) }; rest = d .2; inside = i })
-  checked-whole i (checked.Refused k) l =
+      rw (l .0, l .1) (record { bs = d .0; says = record { state = d .1; text = whole-text (d .0) (d .2) }; rest = d .2; inside = h .inside })
+  checked-whole (checked.Refused k) l =
       let z = now-later s (h .rest) (h .form) in
       record {
         number-is = rw z (l .0);
@@ -126,18 +125,3 @@ heads-at s r h f n e = let g : IsHead s (head.At f n) = rw e at h in g
 
 pub heads-refused : (s : List ℕ) (r : Head) → IsHead s r → (k : ℕ) → r ≡ head.Refused k → Refuses s k
 heads-refused s r h k e = let g : IsHead s (head.Refused k) = rw e at h in g
-
--- no position past the end is given
-drop-min : (n : ℕ) (s : List ℕ) → drop (min n (length s)) s ≡ drop n s
-drop-min n s =
-    by-test (leb n (length s))
-    (λ t. let h = leb-true n (length s) t in let e : min n (length s) ≡ n = omega arith in rw e)
-    (λ t.
-    let h = leb-false n (length s) t in
-    let e : min n (length s) ≡ length s = omega arith in
-    rw e (drop-of-length-le s {i = length s} (omega arith) ∙ sym (drop-of-length-le s {i = n} (omega arith))))
-
-pub heads-inside : (s : List ℕ) (f : Fields) (n : ℕ) → Heads s f n → (m : ℕ) → m ≡ min n (length s) → Heads s f m
-heads-inside s f n h m e =
-    let d : drop n s ≡ drop m s = sym (drop-min n s) ∙ ap (λ (i : ℕ). drop i s) (sym e) in
-    record { rest = h .rest; form = h .form; block = h .block; fields = h .fields ∙ ap (λ (l : List ℕ). part (fieldsOf f) l) d }

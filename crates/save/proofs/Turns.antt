@@ -17,11 +17,11 @@ use Rattle.forms.specs.Forms.{holes, filled}
 use Rattle.forms.proofs.Laws.{Words, filled-length}
 use Rattle.bitmap.specs.Blocks.{blocks, every, allAre, ones, range, fill, Outside, Filled}
 use Rattle.bitmap.proofs.Laws.{blocks-length, range-take, range-length, ones-length, fill-left, fill-whole}
-use Rattle.runs.specs.Runs.{runsOf, total, laidOn}
+use Rattle.runs.specs.Runs.{Run, runsOf, total, laidOn}
 use Rattle.runs.specs.Text.{runsText}
 use Rattle.runs.specs.Reading.{Lays}
 use Rattle.runs.proofs.Spread.{take-drop, runs-ones, runs-laid}
-use Rattle.runs.proofs.Lines.{runs-short}
+use Rattle.runs.proofs.Lines.{runs-short, starts-are}
 use Rattle.save.specs.declared.Fields.{Fields}
 use Rattle.save.specs.declared.Wrote.{Wrote}
 use Rattle.save.specs.declared.Wrote.the-variants.{Text, Refused}
@@ -224,10 +224,12 @@ module _ (s : List ℕ) (f : Fields) (runs : ℕ) (a : Accepts s f runs) where
   laid-holds before mid after e o l =
       let st = a .says .state in
       let few = state-few st in
-      let laid = l .laid 0 (length (a .bs)) (runsOf (a .bs)) (omega arith) (state-apart st) (a .rest) in
-      let p = laid .outside in
+      let same : l .runs ≡ runsOf (a .bs) =
+      starts-are 0 (length (a .bs)) (runsOf (a .bs)) (l .runs) (drop runs s) (omega arith) (state-apart st) (a .rest) (l .starts) in
+      let p = l .outside 0 (length (a .bs)) (rw same (state-apart st)) in
       record {
-        as-blocks = laid .as-blocks ∙ ap (laidOn (runsOf (a .bs))) e ∙ runs-laid (a .bs) (drop (length (a .bs)) (blocks before));
+        as-blocks =
+            l .as-blocks ∙ ap (λ (rs : List Run). laidOn rs (blocks mid)) same ∙ ap (laidOn (runsOf (a .bs))) e ∙ runs-laid (a .bs) (drop (length (a .bs)) (blocks before));
         outside = record {
           same-length = p .same-length ∙ o .same-length;
           same-before = λ n h. p .same-before n h ∙ o .same-before n h;

@@ -45,7 +45,7 @@ pub record Refuses (s : List ℕ) (number : ℕ) : Type 0 where
 
 -- the text l, which is s from some position on, starts with the lines of the fields, or it does not; form 2 has 4 MiB of block size
 abbrev pub IsFields : (s l : List ℕ) → Head → Type 0
-IsFields s l (head.At f next) = (f .block ≡ 4194304) × (partOf 5 (fieldLines 2) l ≡ part (fieldsOf f) (drop next s))
+IsFields s l (head.At f next) = (f .block ≡ 4194304) × (partOf 5 (fieldLines 2) l ≡ part (fieldsOf f) (drop next s)) × (next ≤ length s)
 IsFields s l (head.Refused number) = (number ≡ 18) × ((us rest : List ℕ) → partOf 5 (fieldLines 2) l ≡ part us rest → ⊥)
 
 -- the text from the fields on, and the fields
@@ -54,6 +54,7 @@ pub record Heads (s : List ℕ) (f : Fields) (next : ℕ) : Type 0 where
   pub form : partOf 1 formLine s ≡ part (2 ∷ []) rest
   pub block : f .block ≡ 4194304
   pub fields : partOf 5 (fieldLines 2) rest ≡ part (fieldsOf f) (drop next s)
+  pub inside : next ≤ length s
 
 abbrev pub IsHead : List ℕ → Head → Type 0
 IsHead s (head.At f next) = Heads s f next

@@ -9,7 +9,6 @@ use runs::put_runs;
 use runs::runs_length;
 use units::GuestAddr;
 use units::MemTool;
-use units::smaller;
 use wire::VirtioMemConfig;
 ghost use mathlib.Core.Path.{_≡_};
 ghost use Prim.Native.Nat.{_+_, _/_};
@@ -232,10 +231,7 @@ pub fn check(s: &[u8]) -> Checked
 {
     let head = head_of(s);
     match head {
-        Head::At { fields, next } => {
-            let at = smaller(next as u64, s.len() as u64);
-            runs_of(fields, s, at as usize)
-        }
+        Head::At { fields, next } => runs_of(fields, s, next),
         Head::Refused(number) => Checked::Refused(number),
     }
 }

@@ -14,8 +14,11 @@ Inv-loop s at form values₀ i₀ j₀ k₀ values i j k = Left (partOf (length 
 abbrev μ-loop : tie.MeasureT-loop
 μ-loop s at form values₀ i₀ j₀ k₀ values i j k = length form - j
 
+smaller-requires : tie.Need-smaller-requires Inv-loop μ-loop
+smaller-requires c κs = tt
+
 loop-holds : tie.Need-loop-holds Inv-loop μ-loop
-loop-holds c = begin _ _ _ _
+loop-holds c = begin _ _ _ _ _ (c .smaller .ensures)
 
 shared-slice-read-if1 : tie.Need-shared-slice-read-if1 Inv-loop μ-loop
 shared-slice-read-if1 c = omega arith
@@ -101,6 +104,7 @@ scan-at-spec =
     (tie.spec
     Inv-loop
     μ-loop
+    smaller-requires
     loop-holds
     shared-slice-read-if1
     same-length

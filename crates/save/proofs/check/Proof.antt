@@ -1,6 +1,5 @@
 -- `save::check` meets its contract.
-use native.Mathlib.Omega.{arith}
-use Rattle.save.proofs.Heading.{heads-at, heads-refused, heads-inside, checked-whole}
+use Rattle.save.proofs.Heading.{heads-at, heads-refused, checked-whole}
 use borrow.Author.Needs.{needs}
 use Rattle.save.proofs.check.Statement.{statement}
 use Rattle.save.proofs.check.Tie as tie
@@ -11,9 +10,6 @@ head-of-requires c κs = search needs
 enum-known-head : tie.Need-enum-known-head
 enum-known-head c = search needs
 
-smaller-requires : tie.Need-smaller-requires
-smaller-requires c κs = search needs
-
 runs-of-requires : tie.Need-runs-of-requires
 runs-of-requires c κs = search needs
 
@@ -21,7 +17,7 @@ enum-known-head-2 : tie.Need-enum-known-head-2
 enum-known-head-2 c = search needs
 
 returns : tie.Need-returns
-returns c = checked-whole _ _ _ (heads-inside _ _ _ (heads-at _ _ (c .before .before .before .before .before .head-of .ensures) _ _ (c .before .before .before .head .given .1)) _ (c .before .smaller .ensures)) (omega (arith, (c .before .smaller .ensures))) (c .runs-of .result) (c .runs-of .ensures)
+returns c = checked-whole _ _ _ (heads-at _ _ (c .before .before .before .before .head-of .ensures) _ _ (c .before .before .head .given .1)) (c .runs-of .result) (c .runs-of .ensures)
 
 returns-2 : tie.Need-returns-2
 returns-2 c = heads-refused _ _ (c .before .before .before .head-of .ensures) _ (c .before .head2 .given .1)
@@ -32,7 +28,6 @@ check-spec =
     (tie.spec
     head-of-requires
     enum-known-head
-    smaller-requires
     runs-of-requires
     enum-known-head-2
     returns

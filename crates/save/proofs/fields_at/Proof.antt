@@ -41,7 +41,7 @@ array-read-t26 : tie.Need-array-read-t26
 array-read-t26 c = search needs
 
 returns-2 : tie.Need-returns-2
-returns-2 c = (refl, fields-found _ _ (c .before .before .before .before .scan-at .ensures) _ (c .before .next .given .1))
+returns-2 c = (refl, fields-found _ _ (c .before .before .before .before .scan-at .ensures) _ (c .before .next .given .1), c .before .before .before .before .scan-at .ensures .inside _ (c .before .next .given .1))
 
 pub fields-at-spec : {M : Type 1} → statement M
 fields-at-spec =
