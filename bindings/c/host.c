@@ -3,6 +3,7 @@
  * A small real host: it creates the device's memory with memfd_create and mmap, gives it back by punching a hole into
  * the memfd (fallocate), and plays a guest that plugs, touches and unplugs it by a split queue, which the kernel's
  * header lays out (vring_init). The guest's requests are written, and what it reads is read, by jambcopper_driver_...
+ * At last the device is saved as text, which it prints, and restored on another host.
  * The numbers that it prints are the kernel's: how much memory the memfd holds (st_blocks); and what the guest reads.
  */
 #define _GNU_SOURCE
@@ -256,20 +257,41 @@ static void plan_all(struct host *h)
     }
 }
 
+/* A device of 256 MiB, with its memory and its guest. */
+static void begin(struct host *h, uint64_t requested_mib)
+{
+    const uint32_t slots[] = { 1 };
+    expect(jambcopper_make(h->record, JAMBCOPPER_RECORD_WORDS, 256, requested_mib, false, false, 0, 1024 * MIB) == 0,
+           "not made");
+    set_up(h);
+    expect(jambcopper_place(h->record, JAMBCOPPER_RECORD_WORDS, h->bitmap, sizeof h->bitmap, h->table,
+                            JAMBCOPPER_ROW_WORDS, REGION_START, h->record[JAMBCOPPER_RECORD_REGION_SIZE], slots, 1,
+                            h->answer, JAMBCOPPER_ANSWER_WORDS) == 0,
+           "not placed");
+    answer_all(h);
+    expect(h->answer[JAMBCOPPER_ANSWER_KIND] == JAMBCOPPER_KIND_SIZED, "no memory was created");
+}
+
+/* The text of the device, in memory of its own. */
+static uint8_t *save(const struct host *h, uint64_t *length)
+{
+    expect(jambcopper_save_length(h->record, JAMBCOPPER_RECORD_WORDS, h->bitmap, sizeof h->bitmap, length, 1) == 0,
+           "no length");
+    uint8_t *text = malloc(*length);
+    if (text == NULL)
+        fail("malloc");
+    expect(jambcopper_save(h->record, JAMBCOPPER_RECORD_WORDS, h->bitmap, sizeof h->bitmap, text, *length, length,
+                           1) == 0,
+           "not saved");
+    return text;
+}
+
 int main(void)
 {
     static struct host h;
-    const uint32_t slots[] = { 1 };
     const uint64_t block = JAMBCOPPER_BLOCK_SIZE;
 
-    expect(jambcopper_make(h.record, JAMBCOPPER_RECORD_WORDS, 256, 64, false, false, 0, 1024 * MIB) == 0, "not made");
-    set_up(&h);
-    expect(jambcopper_place(h.record, JAMBCOPPER_RECORD_WORDS, h.bitmap, sizeof h.bitmap, h.table, JAMBCOPPER_ROW_WORDS,
-                            REGION_START, h.record[JAMBCOPPER_RECORD_REGION_SIZE], slots, 1, h.answer,
-                            JAMBCOPPER_ANSWER_WORDS) == 0,
-           "not placed");
-    answer_all(&h);
-    expect(h.answer[JAMBCOPPER_ANSWER_KIND] == JAMBCOPPER_KIND_SIZED, "no memory was created");
+    begin(&h, 64);
     print(&h, "before the plug");
 
     expect(ask(&h, VIRTIO_MEM_REQ_PLUG, REGION_START, 8) == VIRTIO_MEM_RESP_ACK, "no plug");
@@ -311,5 +333,22 @@ int main(void)
     learn(&h);
     plan_all(&h);
     print(&h, "no plug to propose");
+
+    /* The device goes to another host, which has placed one like it: blocks, requested and plugged size go along. */
+    expect(ask(&h, VIRTIO_MEM_REQ_UNPLUG, REGION_START + 2 * block, 3) == VIRTIO_MEM_RESP_ACK, "no unplug to save");
+    uint64_t length;
+    uint8_t *text = save(&h, &length);
+    printf("saved as\n%.*s", (int)length, (const char *)text);
+    static struct host other;
+    begin(&other, 16);
+    print(&other, "another host");
+    expect(jambcopper_restore(other.record, JAMBCOPPER_RECORD_WORDS, other.bitmap, sizeof other.bitmap, text,
+                              length) == 0,
+           "not restored");
+    print(&other, "restored");
+    expect(ask(&other, VIRTIO_MEM_REQ_PLUG, REGION_START + block, 2) == VIRTIO_MEM_RESP_ERROR, "a plug that is illegal");
+    expect(ask(&other, VIRTIO_MEM_REQ_PLUG, REGION_START + 2 * block, 3) == VIRTIO_MEM_RESP_ACK, "no plug elsewhere");
+    print(&other, "plugged again");
+    free(text);
     return 0;
 }

@@ -10,11 +10,13 @@
  *   - guest memory: a slice, and the guest address of its first byte.
  * The guest's side, jambcopper_driver_.., knows no device and keeps nothing: it writes the bytes of a request, reads
  * those of a response and of a config, and proposes the next plug.
+ * A save record is the state of a device as text: a device is saved as one and restored from one, and the old form, a
+ * byte for each block, is moved into it and back.
  *
  * A slice is a pointer and how many elements it has. Elements that a call has no use for are not touched.
  * Any contents are allowed, every one of them: words that are no record or no queue are refused with 12, a table that
- * is too short with 11, and bytes that are no response or no config with 16. Two slices of one call must not overlap,
- * and a pointer is never NULL.
+ * is too short with 11, bytes that are no response or no config with 16, and those that are no save record with 18.
+ * Two slices of one call must not overlap, and a pointer is never NULL.
  *
  * What is proved of every run of calls (docs/GUIDE.md) holds where each call is lent the record that the call before it
  * left and, while the device is placed or a host call is pending, the bitmap and the map table that were left. Before
@@ -32,7 +34,7 @@
  *
  * Each function returns the number of its refusal, or 0. A refused call changes nothing but the answer, which is
  * written in any case, where the function takes one; after 10 alone more has changed, and the numbers below say what.
- * A refused call of the guest's side changes nothing at all.
+ * A refused call of the guest's side changes nothing at all, and one about a save record nothing but its scratch.
  */
 #ifndef JAMBCOPPER_H
 #define JAMBCOPPER_H
@@ -68,6 +70,12 @@ extern "C" {
 #define JAMBCOPPER_QUEUE_SIZE 128
 #define JAMBCOPPER_AVAILABLE_BYTES 262
 #define JAMBCOPPER_USED_BYTES 1030
+/* A text of so many bytes is long enough for every save record: the longest is that of 1 TiB with every other block
+ * plugged. Bytes of the old form, one a block, are never more than the blocks of 1 TiB. */
+#define JAMBCOPPER_SAVE_MAX_TEXT_BYTES 1648502
+#define JAMBCOPPER_SAVE_MAX_OLD_BYTES 262144
+/* The scratch that a move of a save record takes. Its contents mean nothing, before the call and after it. */
+#define JAMBCOPPER_SAVE_SCRATCH 32768
 
 /* ---- the record: which word is what. It may be read, copied, stored and put back. */
 
@@ -155,8 +163,39 @@ extern "C" {
 #define JAMBCOPPER_PLUG_ADDRESS 0 /* guest address of the first block */
 #define JAMBCOPPER_PLUG_BLOCKS 1  /* how many blocks; from 1 on, below 65536 */
 
+/* ---- a save record: which word is what of the fields that a move is given or gives.
+ *
+ * The text is one field a line, each ended by a newline, the last too, its numbers decimal without leading zeros:
+ *
+ *     form=2
+ *     start=4294967296
+ *     region=268435456
+ *     requested=67108864
+ *     usable=268435456
+ *     plugged=20971520
+ *     run=0,2
+ *     run=5,3
+ *
+ * with a run, its first block and how many, for each longest run of plugged blocks, lowest first. One state has one
+ * text, and any other is refused: with 19 where it begins form=N and a newline and N is above 2, else with 18.
+ *
+ * The old form is a byte for each block of the region, 0 or 1 where it is plugged. It has no fields, so they are kept
+ * beside it.
+ *
+ * A state has a text where a device with an alignment of 128 MiB and one region can have the fields, no block at or
+ * past the usable size is plugged, and the plugged size is 4 MiB times the plugged blocks; else it is refused with 18.
+ */
+
+#define JAMBCOPPER_SAVE_FIELDS 6
+#define JAMBCOPPER_SAVE_BLOCK_SIZE 0 /* always 4 MiB; not in the text */
+#define JAMBCOPPER_SAVE_START 1      /* guest address of the region */
+#define JAMBCOPPER_SAVE_REGION 2     /* bytes, as those that follow */
+#define JAMBCOPPER_SAVE_REQUESTED 3
+#define JAMBCOPPER_SAVE_USABLE 4
+#define JAMBCOPPER_SAVE_PLUGGED 5
+
 /* ---- the numbers. Order of the tests: 12 (record, queue), 7 or 8, 5 or 6, 11, then 14, 15, or 2, 1, 3, 4, 9; on the
- * guest's side 16, 12, 11, 17.
+ * guest's side 16, 12, 11, 17; of save records 12, 7, 11, 19, 18.
  *
  * 10 ends the call that asked for the creation, and leaves what that call has written:
  *   - a size change: the new requested size stands; the usable size and the map table do not change;
@@ -182,6 +221,9 @@ extern "C" {
 #define JAMBCOPPER_BAD_INDEX 15      /* the available ring's index is more than 128 ahead of the next head */
 #define JAMBCOPPER_BAD_BYTES 16      /* bytes that are no response or no config, or no room for what is written */
 #define JAMBCOPPER_NO_PLUG 17        /* no plug to propose */
+#define JAMBCOPPER_BAD_SAVE 18       /* a text or old bytes that are no save record, a state that has none, a device that
+                                      * a save record cannot be laid on, or no room for what is written */
+#define JAMBCOPPER_LATER_FORM 19     /* a save record of a later form */
 
 /* ---- why a chain is no request */
 
@@ -333,6 +375,52 @@ uint64_t jambcopper_driver_read_config(const uint8_t *bytes, size_t byte_count, 
  */
 uint64_t jambcopper_driver_plan(const uint8_t *config, size_t config_bytes, const uint8_t *bitmap, size_t bitmap_bytes,
                                 uint64_t *plug, size_t plug_words);
+
+/* ---- save records. A `length` without room for its one word is 18 too, before anything else is looked at, and so are
+ * `fields` without room for JAMBCOPPER_SAVE_FIELDS words. */
+
+/*
+ * How many bytes the text of a device has, which is written to `length`. 12, 7, 11; 18 where the bitmap has another
+ * number of blocks than the plugged size says, or one at or past the usable size, as only a spoiled one has.
+ */
+uint64_t jambcopper_save_length(const uint64_t *record, size_t record_words, const uint8_t *bitmap, size_t bitmap_bytes,
+                                uint64_t *length, size_t length_words);
+
+/*
+ * Saves a device: writes its text to the front of the slice, whose rest stays, and how many bytes it has to `length`.
+ * 12, 7, 11, 18 as above; 18 too where the slice is shorter than the text. The map table is not in the text.
+ */
+uint64_t jambcopper_save(const uint64_t *record, size_t record_words, const uint8_t *bitmap, size_t bitmap_bytes,
+                         uint8_t *text, size_t text_bytes, uint64_t *length, size_t length_words);
+
+/*
+ * Restores a device from a text, all of the slice: sets its blocks in the bitmap, and the requested and plugged size.
+ * The host is asked for nothing, and no usable size is worked out. 12, 7, 11, 19; 18 where the text is no save record,
+ * or the device is not placed, has a block plugged or a plugged size, or has another start, another region or a smaller
+ * usable size than the text. The device may have several regions, and any alignment.
+ */
+uint64_t jambcopper_restore(uint64_t *record, size_t record_words, uint8_t *bitmap, size_t bitmap_bytes,
+                            const uint8_t *text, size_t text_bytes);
+
+/*
+ * Moves the old form into a text: written to the front of the slice, whose rest stays, and its bytes to `length`.
+ *   fields   the words that the old form lacks
+ *   old      the old bytes, exactly one for each block of the region
+ *   scratch  JAMBCOPPER_SAVE_SCRATCH bytes
+ * 11 where the scratch is shorter; 18 where the old bytes are of another number, one of them is above 1, fields and
+ * blocks make no state, or the slice is shorter than the text.
+ */
+uint64_t jambcopper_old_to_new(const uint64_t *fields, size_t field_words, const uint8_t *old, size_t old_bytes,
+                               uint8_t *scratch, size_t scratch_bytes, uint8_t *text, size_t text_bytes,
+                               uint64_t *length, size_t length_words);
+
+/*
+ * Moves a text, all of the slice, into the old form: a byte for each block of the region, to the front of `old`, whose
+ * rest stays, and the words of the fields. 11 where the scratch is shorter than JAMBCOPPER_SAVE_SCRATCH; 19; 18 where
+ * the text is no save record, or `old` has fewer bytes than the region has blocks.
+ */
+uint64_t jambcopper_new_to_old(const uint8_t *text, size_t text_bytes, uint8_t *scratch, size_t scratch_bytes,
+                               uint8_t *old, size_t old_bytes, uint64_t *fields, size_t field_words);
 
 #ifdef __cplusplus
 }
