@@ -5,7 +5,7 @@
 //! static library; its methods are named as those are in `bindings/c/jambcopper.h`. It never calls back: where the host
 //! must create or discard memory, a call answers [`Answer::Wants`], and the host answers by [`Device::host_answer`].
 //! [`Queue`] is the guest's queue, which [`Device::serve`] goes over. [`driver`] is the guest's side: its requests, the
-//! responses and the config that it reads, and a planner.
+//! responses and the config that it reads, and a planner. [`save`] has save records: a device as text, and the old form.
 //!
 //! ```
 //! use jambcopper::{Answer, Device, Error, HostAnswer, HostCall};
@@ -43,6 +43,7 @@ use std::fmt;
 
 pub mod driver;
 mod queue;
+pub mod save;
 mod sys;
 
 pub use queue::Queue;
@@ -102,6 +103,10 @@ pub enum Error {
     BadBytes = 16,
     /// No plug to propose: no plug of one block is legal.
     NoPlug = 17,
+    /// A text or old bytes that are no save record, a state that has none, or a device that one cannot be laid on.
+    BadSave = 18,
+    /// A save record of a later form.
+    LaterForm = 19,
     /// The host's answer is to another kind of question than the pending one: [`HostAnswer::Discarded`] to a creation,
     /// or [`HostAnswer::Created`] to a discard. The call stays pending. The library has no number for it, since it is
     /// told only whether the host did what was asked.
@@ -129,7 +134,9 @@ impl Error {
             15 => Error::BadIndex,
             16 => Error::BadBytes,
             17 => Error::NoPlug,
-            _ => unreachable!("the library refuses with 1 to 12 and 14 to 17"),
+            18 => Error::BadSave,
+            19 => Error::LaterForm,
+            _ => unreachable!("the library refuses with 1 to 12 and 14 to 19"),
         })
     }
 }
@@ -157,6 +164,8 @@ impl fmt::Display for Error {
             Error::BadIndex => "an available index more than 128 ahead",
             Error::BadBytes => "bytes that are no response or no config, or too few for a request",
             Error::NoPlug => "no plug to propose",
+            Error::BadSave => "no save record, or a device that it cannot be laid on",
+            Error::LaterForm => "a save record of a later form",
             Error::WrongAnswer => {
                 return f.write_str("an answer to another kind of question than the pending one")
             }
@@ -438,6 +447,33 @@ impl Device {
         };
         Error::check(call(lent, &mut answer))?;
         Ok(answer)
+    }
+
+    /// Saves the device: its text, as the module [`save`] describes it. What the map table has is not in it.
+    ///
+    /// [`Error::Pending`] while a host call is pending; [`Error::BadSave`] where the bitmap has another number of blocks
+    /// than the plugged size says, or one at or past the usable size, as only a spoiled one has.
+    pub fn save(&self) -> Result<String, Error> {
+        let mut length = [0];
+        Error::check(sys::save_length(&self.record, &self.bitmap, &mut length))?;
+        let mut text = vec![0; length[0] as usize];
+        Error::check(sys::save(
+            &self.record,
+            &self.bitmap,
+            &mut text,
+            &mut length,
+        ))?;
+        Ok(save::string(text, length))
+    }
+
+    /// Restores the device from the text of one: sets the blocks, and the requested and the plugged size. The host is
+    /// asked for nothing, and no usable size is worked out.
+    ///
+    /// [`Error::Pending`] while a host call is pending; [`Error::LaterForm`] and [`Error::BadSave`] as where a text is
+    /// read; [`Error::BadSave`] too where the device is not placed, has a block plugged or a plugged size, or has another
+    /// start, another region or a smaller usable size than the text. It may have several regions, and any alignment.
+    pub fn restore(&mut self, text: &[u8]) -> Result<(), Error> {
+        Error::check(sys::restore(&mut self.record, &mut self.bitmap, text))
     }
 
     /// Reads the config space from `offset` on: up to its end or the buffer's; the rest of the buffer stays.

@@ -11,6 +11,10 @@ pub const RESPONSE_WORDS: usize = 2;
 pub const CONFIG_BYTES: usize = 56;
 pub const CONFIG_WORDS: usize = 7;
 pub const PLUG_WORDS: usize = 2;
+pub const SAVE_FIELDS: usize = 6;
+pub const SAVE_SCRATCH: usize = 32_768;
+pub const SAVE_MAX_TEXT_BYTES: usize = 1_648_502;
+pub const SAVE_MAX_OLD_BYTES: usize = 262_144;
 
 /// The kinds of a pending host call, word 11 of the record.
 pub const PENDING_NOTHING: u64 = 0;
@@ -168,6 +172,54 @@ mod c {
             bitmap_bytes: usize,
             plug: *mut u64,
             plug_words: usize,
+        ) -> u64;
+        pub fn jambcopper_save_length(
+            record: *const u64,
+            record_words: usize,
+            bitmap: *const u8,
+            bitmap_bytes: usize,
+            length: *mut u64,
+            length_words: usize,
+        ) -> u64;
+        pub fn jambcopper_save(
+            record: *const u64,
+            record_words: usize,
+            bitmap: *const u8,
+            bitmap_bytes: usize,
+            text: *mut u8,
+            text_bytes: usize,
+            length: *mut u64,
+            length_words: usize,
+        ) -> u64;
+        pub fn jambcopper_restore(
+            record: *mut u64,
+            record_words: usize,
+            bitmap: *mut u8,
+            bitmap_bytes: usize,
+            text: *const u8,
+            text_bytes: usize,
+        ) -> u64;
+        pub fn jambcopper_old_to_new(
+            fields: *const u64,
+            field_words: usize,
+            old: *const u8,
+            old_bytes: usize,
+            scratch: *mut u8,
+            scratch_bytes: usize,
+            text: *mut u8,
+            text_bytes: usize,
+            length: *mut u64,
+            length_words: usize,
+        ) -> u64;
+        pub fn jambcopper_new_to_old(
+            text: *const u8,
+            text_bytes: usize,
+            scratch: *mut u8,
+            scratch_bytes: usize,
+            old: *mut u8,
+            old_bytes: usize,
+            fields: *mut u64,
+            field_words: usize,
         ) -> u64;
     }
 }
@@ -439,6 +491,90 @@ pub fn driver_plan(config: &[u8], bitmap: &[u8], plug: &mut [u64]) -> u64 {
             bitmap.len(),
             plug.as_mut_ptr(),
             plug.len(),
+        )
+    }
+}
+
+#[inline]
+pub fn save_length(record: &[u64], bitmap: &[u8], length: &mut [u64]) -> u64 {
+    unsafe {
+        c::jambcopper_save_length(
+            record.as_ptr(),
+            record.len(),
+            bitmap.as_ptr(),
+            bitmap.len(),
+            length.as_mut_ptr(),
+            length.len(),
+        )
+    }
+}
+
+#[inline]
+pub fn save(record: &[u64], bitmap: &[u8], text: &mut [u8], length: &mut [u64]) -> u64 {
+    unsafe {
+        c::jambcopper_save(
+            record.as_ptr(),
+            record.len(),
+            bitmap.as_ptr(),
+            bitmap.len(),
+            text.as_mut_ptr(),
+            text.len(),
+            length.as_mut_ptr(),
+            length.len(),
+        )
+    }
+}
+
+#[inline]
+pub fn restore(record: &mut [u64], bitmap: &mut [u8], text: &[u8]) -> u64 {
+    unsafe {
+        c::jambcopper_restore(
+            record.as_mut_ptr(),
+            record.len(),
+            bitmap.as_mut_ptr(),
+            bitmap.len(),
+            text.as_ptr(),
+            text.len(),
+        )
+    }
+}
+
+#[inline]
+pub fn old_to_new(
+    fields: &[u64],
+    old: &[u8],
+    scratch: &mut [u8],
+    text: &mut [u8],
+    length: &mut [u64],
+) -> u64 {
+    unsafe {
+        c::jambcopper_old_to_new(
+            fields.as_ptr(),
+            fields.len(),
+            old.as_ptr(),
+            old.len(),
+            scratch.as_mut_ptr(),
+            scratch.len(),
+            text.as_mut_ptr(),
+            text.len(),
+            length.as_mut_ptr(),
+            length.len(),
+        )
+    }
+}
+
+#[inline]
+pub fn new_to_old(text: &[u8], scratch: &mut [u8], old: &mut [u8], fields: &mut [u64]) -> u64 {
+    unsafe {
+        c::jambcopper_new_to_old(
+            text.as_ptr(),
+            text.len(),
+            scratch.as_mut_ptr(),
+            scratch.len(),
+            old.as_mut_ptr(),
+            old.len(),
+            fields.as_mut_ptr(),
+            fields.len(),
         )
     }
 }
