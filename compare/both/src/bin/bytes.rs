@@ -2,7 +2,7 @@
 //! Raw random bytes through every export of the static library; run it under valgrind.
 //!
 //! Each slice is a block of the heap of just its own length, so that memcheck sees a byte read or
-//! written outside. A call that is refused must leave every slice but the answer as it was.
+//! written outside. A call that is refused must leave every slice but the answer and the scratch as it was.
 //! `bytes SEED SECONDS` runs until the time is over.
 
 use std::env;
@@ -32,14 +32,14 @@ fn main() {
     };
     let mut random = Random::new(seed);
     let began = Instant::now();
-    let mut numbers = [[0u64; 18]; 14];
+    let mut numbers = [[0u64; 20]; 19];
     let mut calls = 0;
     while began.elapsed() < Duration::from_secs(seconds) {
         let mut lent = Lent::any(&mut random);
         for _ in 0..8 {
             let before = lent.clone();
             let (export, number) = lent.call(&mut random);
-            assert!(number <= 17, "{export}: {number}");
+            assert!(number <= 19, "{export}: {number}");
             if number != 0 && number != 10 {
                 lent.answer.clone_from(&before.answer);
                 assert!(
@@ -51,7 +51,7 @@ fn main() {
             calls += 1;
         }
     }
-    println!("{calls} calls from seed {seed}; by export, how many gave 0 to 17:");
+    println!("{calls} calls from seed {seed}; by export, how many gave 0 to 19:");
     let names = [
         "make",
         "place",
@@ -67,6 +67,11 @@ fn main() {
         "read_response",
         "driver_config",
         "plan",
+        "save_length",
+        "save",
+        "restore",
+        "old_to_new",
+        "new_to_old",
     ];
     for (name, numbers) in names.iter().zip(numbers) {
         println!("{name:13} {numbers:?}");
@@ -212,7 +217,8 @@ impl Lent {
         let base = random.pick(&[BASE, BASE, BASE, BASE, 0, u64::MAX - 511, u64::MAX]);
         let (any, other) = (number(random), number(random));
         let export = random.pick(&[
-            0, 1, 1, 2, 3, 3, 3, 4, 4, 4, 5, 6, 7, 8, 8, 8, 9, 9, 9, 10, 11, 12, 13, 13,
+            0, 1, 1, 2, 3, 3, 3, 4, 4, 4, 5, 6, 7, 8, 8, 8, 9, 9, 9, 10, 11, 12, 13, 13, 14, 15,
+            15, 16, 16, 17, 17, 18, 18,
         ]);
         let size = random.pick(&[record.get(3).copied().unwrap_or(0), other]);
         let device = sys::Lent {
@@ -285,6 +291,55 @@ impl Lent {
                     sys::driver_plan(&data, device.bitmap, plug)
                 })
             }
+            14 => {
+                let room = length(random, 1);
+                lend(&mut words(random, room), |length| {
+                    sys::save_length(device.record, device.bitmap, length)
+                })
+            }
+            15 => {
+                let mut due = [0];
+                sys::save_length(device.record, device.bitmap, &mut due);
+                let (size, room) = (length(random, due[0] as usize), length(random, 1));
+                lend(&mut words(random, room), |length| {
+                    lend(&mut bytes(random, size), |text| {
+                        sys::save(device.record, device.bitmap, text, length)
+                    })
+                })
+            }
+            16 => {
+                let text = text(random, device.record);
+                let mut record: Box<[u64]> = (&*device.record).into();
+                let mut bitmap: Box<[u8]> = (&*device.bitmap).into();
+                if random.chance(50) {
+                    bitmap.fill(0);
+                }
+                lend(&mut record, |record| {
+                    lend(&mut bitmap, |bitmap| sys::restore(record, bitmap, &text))
+                })
+            }
+            17 => {
+                let (fields, old) = old_form(random, device.record);
+                let most = 122 + 13 * old.len();
+                let (size, room) = (length(random, most), length(random, 1));
+                let mut scratch = scratch(random);
+                lend(&mut words(random, room), |length| {
+                    lend(&mut bytes(random, size), |text| {
+                        sys::old_to_new(&fields, &old, &mut scratch, text, length)
+                    })
+                })
+            }
+            18 => {
+                let blocks = device.record.get(3).map_or(0, |region| region / (4 * MIB));
+                let (size, room) = (length(random, blocks.min(4096) as usize), length(random, 6));
+                let text = text(random, device.record);
+                let mut scratch = scratch(random);
+                lend(&mut words(random, room), |fields| {
+                    lend(&mut bytes(random, size), |old| {
+                        sys::new_to_old(&text, &mut scratch, old, fields)
+                    })
+                })
+            }
             _ => {
                 let size = length(random, 56);
                 sys::write_config(device.record, any, &bytes(random, size))
@@ -303,6 +358,67 @@ fn lend<T: Clone + PartialEq>(slice: &mut Box<[T]>, call: impl FnOnce(&mut [T]) 
         "refused, and yet something changed"
     );
     number
+}
+
+/// Scratch for a move, mostly of the bytes that it needs.
+fn scratch(random: &mut Random) -> Box<[u8]> {
+    let size = length(random, sys::SAVE_SCRATCH);
+    bytes(random, size)
+}
+
+/// Old bytes for a record's region, and the fields to them: mostly of a state.
+fn old_form(random: &mut Random, record: &[u64]) -> (Box<[u64]>, Box<[u8]>) {
+    let &[block, _, start, region, usable, _, requested, ..] = record else {
+        return (words(random, 6), bytes(random, 64));
+    };
+    let blocks = (region / (4 * MIB)).min(4096) as usize;
+    let size = length(random, blocks);
+    let kind = random.below(4);
+    let mut old: Box<[u8]> = (0..size)
+        .map(|at| {
+            let inside = (at as u64) < usable / (4 * MIB);
+            u8::from(inside && (kind == 0 || kind == 1 && at % 2 == 1 || random.chance(30)))
+        })
+        .collect();
+    let plugged = 4 * MIB * old.iter().map(|byte| u64::from(*byte)).sum::<u64>();
+    let mut fields = vec![block, start, region, requested, usable, plugged];
+    if random.chance(10) {
+        let at = random.below(64) as usize;
+        if let Some(byte) = old.get_mut(at) {
+            *byte = random.next() as u8;
+        }
+    }
+    if random.chance(10) {
+        fields[random.below(6) as usize] = number(random);
+    }
+    fields.truncate(random.pick(&[6, 6, 6, 6, 6, 5, 0]));
+    (fields.into(), old)
+}
+
+/// The text of a state in a record's region, some of its bytes changed; or any bytes.
+fn text(random: &mut Random, record: &[u64]) -> Box<[u8]> {
+    let size = random.below(200) as usize;
+    let mut text = bytes(random, size);
+    let (fields, old) = old_form(random, record);
+    let mut room = vec![0; 122 + 13 * old.len()];
+    let mut length = [0];
+    let mut scratch = vec![0; sys::SAVE_SCRATCH];
+    if sys::old_to_new(&fields, &old, &mut scratch, &mut room, &mut length) == 0 {
+        text = room[..length[0] as usize].into();
+    }
+    for _ in 0..random.pick(&[0, 0, 0, 1, 2]) {
+        let at = random.below(1 + text.len() as u64) as usize;
+        let any = random.next() as u8;
+        let byte = random.pick(&[b'0', b'1', b'3', b'9', b',', b'\n', any]);
+        match text.get_mut(at) {
+            Some(there) => *there = byte,
+            None => text = text[..at / 2].into(),
+        }
+    }
+    if random.chance(5) {
+        text = [&b"form=3\n"[..], &text].concat().into();
+    }
+    text
 }
 
 /// The config of a record, where it is one, some of its bytes changed; else any bytes.
