@@ -80,7 +80,7 @@ function text_of(block, start, region, requested, usable, plugged, bits,    runs
 }
 
 # So many blocks of one kind.
-function blocks(kind, n) {
+function row_of(kind, n) {
     if (!(kind in many)) many[kind] = kind kind kind kind kind kind kind kind
     while (length(many[kind]) < n) many[kind] = many[kind] many[kind]
     return substr(many[kind], 1, n)
@@ -88,7 +88,7 @@ function blocks(kind, n) {
 
 # Reads a text: 0 and `field`, from 1 on, and `read_bits`; or 19 or 18. The lines say a state, at best, and the text is taken if it is
 # the text of that state: "One state has one text".
-function read(text,    line, n, i, key, run, bits, out, at) {
+function read_text(text,    line, n, i, key, run, bits, out, at) {
     n = split(text, line, "/")
     if (n > 1 && substr(line[1], 1, 5) == "form=" && is_number(substr(line[1], 6)))
         if (length(line[1]) > 6 || substr(line[1], 6) + 0 > 2) return 19 # "refused by name, as 19, before 18"
@@ -105,7 +105,7 @@ function read(text,    line, n, i, key, run, bits, out, at) {
         if (line[i] !~ /^run=[0-9]+,[0-9]+$/ || length(line[i]) > 18) return 18
         split(substr(line[i], 5), run, ",")
         if (run[1] + 0 < at || run[1] + run[2] > 262144) return 18
-        bits = bits blocks(0, run[1] - at) blocks(1, run[2])
+        bits = bits row_of(0, run[1] - at) row_of(1, run[2])
         at = run[1] + run[2]
         if (length(bits) > 4000) {
             out = out bits
@@ -114,6 +114,6 @@ function read(text,    line, n, i, key, run, bits, out, at) {
     }
     read_bits = out bits
     if (at > blocks_of(field[3])) return 18
-    read_bits = read_bits blocks(0, blocks_of(field[3]) - at)
+    read_bits = read_bits row_of(0, blocks_of(field[3]) - at)
     return text_of(field[1], field[2], field[3], field[4], field[5], field[6], read_bits) == text ? 0 : 18
 }

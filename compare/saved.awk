@@ -38,7 +38,7 @@ function due_old(    f, text) {
 }
 
 function due_text(    number) {
-    number = read($2)
+    number = read_text($2)
     return number ? number : "0\t" field[1] " " field[2] " " field[3] " " field[4] " " field[5] " " field[6] "\t" read_bits
 }
 
@@ -52,7 +52,7 @@ function due_save(    number, text) {
 # it sets bits, requested and plugged"
 function due_restore(    number, region, i, words) {
     if (number = refused($3)) return number
-    if (number = read($4)) return number
+    if (number = read_text($4)) return number
     region = blocks_of(w[4])
     if (!w[11] || index(substr($3, 1, region), "1") || w[6] "" != "0") return 18
     if (w[3] "" != field[2] || w[4] "" != field[3] || blocks_of(w[5]) < blocks_of(field[5])) return 18

@@ -7,15 +7,15 @@
 #   save     a record's words, and the bitmap's blocks
 #   restore  a record's words, the bitmap's blocks, and a text
 
-function one_of(words,    word, n) {
-    n = split(words, word, " ")
+function one_of(list,    word, n) {
+    n = split(list, word, " ")
     return word[1 + below(n)]
 }
 
 function chance(percent) { return below(100) < percent }
 
 # So many times 4 MiB, or 128 MiB, and some bytes more or less.
-function size(n, more) { return sprintf("%.0f", n * 4194304 + more) }
+function bytes_in(n, more) { return sprintf("%.0f", n * 4194304 + more) }
 function address(n, more,    high, low) {
     low = n % 100000 * 134217728
     high = int(n / 100000) * 134217728 + int(low / 100000)
@@ -41,17 +41,17 @@ function canonical(s) { return is_number(s) ? s : "18446744073709551615" }
 # Blocks of a region of which so many are usable: none, all, single ones, runs, or by chance.
 function any_bits(usable,    bits, out, kind, i, n) {
     kind = one_of("none all odd even runs runs runs chance chance ends")
-    if (kind == "none") out = blocks(0, usable)
-    else if (kind == "all") out = blocks(1, usable)
+    if (kind == "none") out = row_of(0, usable)
+    else if (kind == "all") out = row_of(1, usable)
     else if (kind == "odd" || kind == "even") {
         bits = kind == "odd" ? "01010101" : "10101010"
         for (out = bits; length(out) < usable; out = out out);
-    } else if (kind == "ends") out = blocks(1, below(3)) blocks(0, usable) blocks(1, 2)
+    } else if (kind == "ends") out = row_of(1, below(3)) row_of(0, usable) row_of(1, 2)
     else {
         i = below(2)
         while (length(out) + length(bits) < usable) {
             n = kind == "chance" ? 1 : one_of("1 1 2 3 7 8 9 64 " 1 + below(300))
-            bits = bits blocks(kind == "chance" ? below(2) : i, n)
+            bits = bits row_of(kind == "chance" ? below(2) : i, n)
             i = 1 - i
             if (length(bits) > 4000) { out = out bits; bits = "" }
         }
@@ -59,7 +59,7 @@ function any_bits(usable,    bits, out, kind, i, n) {
     }
     if (kind == "ends" && length(out) > usable && usable > 4) out = substr(out, 1, usable - 2) "11"
     out = substr(out, 1, usable)
-    return out blocks(0, region - usable)
+    return out row_of(0, region - usable)
 }
 
 # Sets region, in blocks, the fields f[1] to f[6], and `bits`: mostly of a state.
@@ -77,10 +77,10 @@ function any_state(    usable, n) {
     if (f[2] == "low") f[2] = address(32 + below(100))
     if (f[2] == "any") f[2] = address(below(2 ^ 20) * 2 ^ 17 + below(2 ^ 16))
     if (f[2] == "top") f[2] = address(2 ^ 37 - region / 32 - one_of("1 1 2 0"))
-    f[3] = size(region)
-    f[4] = size(one_of(n " 0 " region " " below(region + 1)))
-    f[5] = size(usable)
-    f[6] = size(n)
+    f[3] = bytes_in(region)
+    f[4] = bytes_in(one_of(n " 0 " region " " below(region + 1)))
+    f[5] = bytes_in(usable)
+    f[6] = bytes_in(n)
 }
 
 function print_old(    old, at) {
@@ -116,7 +116,7 @@ function any_record(    n) {
 }
 
 # A host call that is pending, mostly one of the shape.
-function wait(    rows) {
+function await(    rows) {
     rows = w[8] ? int((region + 511) / 512) : 1
     w[11] = one_of("1 2 3 3 4")
     w[12] = one_of("0 " rows - 1 " " rows " " region - 1 " " region)
@@ -130,26 +130,26 @@ function spoil(    at) {
     w[at] = at ~ /^(1|8|10|11|12|13|14)$/ ? one_of("0 1 2 3 65535 65536 18446744073709551615") : canonical(other(w[at]))
 }
 
-function words(    i, s) {
+function record_words(    i, s) {
     for (i = 0; i < length_of_w; i++) s = s (i ? " " : "") (i < 15 ? w[i] : "77")
     return s
 }
 
 # The bitmap of a device, with bits behind the region's blocks, or too few bytes.
-function bitmap(s) {
+function any_bitmap(s) {
     if (chance(5)) return substr(s, 1, 8 * below(length(s) / 8))
     return s (chance(30) ? one_of("11111111 00000000 0110100111111111") : "")
 }
 
-function print_save(    at) {
+function print_save() {
     any_record()
     if (chance(15)) w[10] = 0
-    if (chance(5)) wait()
-    if (chance(8)) w[5] = size(below(region + 1))
-    if (chance(8)) w[4] = size(below(region + 1))
+    if (chance(5)) await()
+    if (chance(8)) w[5] = bytes_in(below(region + 1))
+    if (chance(8)) w[4] = bytes_in(below(region + 1))
     if (chance(8)) spoil()
     if (chance(3)) length_of_w = one_of("0 14 16")
-    print "save\t" words() "\t" bitmap(bits)
+    print "save\t" record_words() "\t" any_bitmap(bits)
 }
 
 # A text that is laid on a device which is mostly as it must be.
@@ -157,23 +157,23 @@ function print_restore(    text, blank, at) {
     text = text_of(f[1], f[2], f[3], f[4], f[5], f[6], bits)
     if (chance(10)) text = changed(text)
     any_record()
-    w[4] = size(blocks_of(f[5]) + below(region - blocks_of(f[5]) + 1))
+    w[4] = bytes_in(blocks_of(f[5]) + below(region - blocks_of(f[5]) + 1))
     w[5] = 0
-    w[6] = size(below(region + 1))
-    blank = blocks(0, region)
+    w[6] = bytes_in(below(region + 1))
+    blank = row_of(0, region)
     if (chance(8)) w[10] = 0
-    if (chance(5)) w[5] = size(1 + below(region))
-    if (chance(5)) w[4] = size(below(region + 1))
+    if (chance(5)) w[5] = bytes_in(1 + below(region))
+    if (chance(5)) w[4] = bytes_in(below(region + 1))
     if (chance(3)) w[2] = address(32 + below(200))
-    if (chance(3)) w[3] = size(64 * (1 + below(16)))
+    if (chance(3)) w[3] = bytes_in(64 * (1 + below(16)))
     if (chance(8)) {
         at = one_of("1 " region " " 1 + below(region))
         blank = substr(blank, 1, at - 1) "1" substr(blank, at + 1)
     }
-    if (chance(5)) wait()
+    if (chance(5)) await()
     if (chance(8)) spoil()
     if (chance(3)) length_of_w = one_of("0 14 16")
-    print "restore\t" words() "\t" bitmap(blank) "\t" text
+    print "restore\t" record_words() "\t" any_bitmap(blank) "\t" text
 }
 
 # ---- texts that are changed
@@ -274,7 +274,7 @@ function text_as(runs) {
 # Two states of 512 MiB: one with runs, and one with nothing usable.
 function good_state(empty) {
     region = 128
-    bits = empty ? blocks(0, 128) : blocks(0, 3) blocks(1, 2) blocks(0, 40) blocks(1, 55) blocks(0, 28)
+    bits = empty ? row_of(0, 128) : row_of(0, 3) row_of(1, 2) row_of(0, 40) row_of(1, 55) row_of(0, 28)
     split(empty ? "4194304 4294967296 536870912 0 0 0" : "4194304 4294967296 536870912 251658240 419430400 239075328", f, " ")
 }
 
@@ -290,11 +290,11 @@ function all_fields(    empty, n, i, all, edge, kept, there) {
             for (i = split(all, edge, " "); i > 0; i--) {
                 f[n] = edge[i]
                 there = blocks_of(f[3]) > 0 && blocks_of(f[3]) < 300000 ? quotient : 128
-                bits = substr(bits blocks(0, there), 1, there)
+                bits = substr(bits row_of(0, there), 1, there)
                 print "old\t" f[1] " " f[2] " " f[3] " " f[4] " " f[5] " " f[6] "\t" bits
                 print "text\t" text_as(runs_of(bits))
                 any_record()
-                print "save\t" words() "\t" bits blocks(0, 7 - (length(bits) + 7) % 8)
+                print "save\t" record_words() "\t" bits row_of(0, 7 - (length(bits) + 7) % 8)
             }
             good_state(empty)
             for (i = split("18446744073709551616 99999999999999999999 0" kept " " kept "0 +" kept " x", edge, " "); i > 0; i--) {
@@ -331,7 +331,7 @@ function all_restores(    devices, change, n, d, t, i, at, text, blank, short) {
         any_record()
         w[5] = w[6] = w[8] = 0
         w[7] = "134217728"
-        blank = blocks(0, 200)
+        blank = row_of(0, 200)
         for (i = split(devices[d], change, " "); i > 0; i--) {
             split(change[i], at, "=")
             if (at[1] == "length") length_of_w = at[2]
@@ -339,8 +339,8 @@ function all_restores(    devices, change, n, d, t, i, at, text, blank, short) {
             else w[at[1]] = at[2]
         }
         blank = short ? substr(blank, 1, 120) : substr(blank, 1, blocks_of(w[3])) "11111111"
-        print "restore\t" words() "\t" blank "\t" text
-        if (t == 1) print "save\t" words() "\t" blank
+        print "restore\t" record_words() "\t" blank "\t" text
+        if (t == 1) print "save\t" record_words() "\t" blank
     }
 }
 
