@@ -9,7 +9,9 @@ use std::process::{exit, Command};
 use std::time::Instant;
 
 use both::proved::Proved;
-use both::sys::{self, ANSWER_WORDS, QUEUE_WORDS};
+use both::sys::{
+    self, Lent, ANSWER_WORDS, QUEUE_WORDS, SAVE_FIELDS, SAVE_MAX_TEXT_BYTES, SAVE_SCRATCH,
+};
 use oracle::guest::Guest;
 use oracle::host::answering;
 use oracle::rust::{queue, Rust, BLOCK, PLUG, STATE, UNPLUG, UNPLUG_ALL};
@@ -20,7 +22,8 @@ const HELP: &str = "\
 bench FILE SVG clock|no-clock COUNT..
                     measures, and writes the table into FILE and the plot as SVG: nanoseconds by the clock, and the
                     instructions of a row, which COUNT.. SIDE ROW prints (bin/count and this program)
-bench SIDE ROW      one row of one side, marked for bin/count: SIDE is mem.rs or proved";
+bench SIDE ROW      one row of one side, marked for bin/count: SIDE is mem.rs or proved
+bench save CALL ROW one call on a save record, marked for bin/count";
 
 /// 1 TiB in a single region at 4 GiB, all of it requested.
 const FIRST: &str = "capacity_mib=1048576 requested_mib=1048576 multi=0 node=none boot=1073741824 addr=4294967296 slot=1";
@@ -95,6 +98,22 @@ const ROWS: [Row; 15] = [
     row("config read of 8 bytes", What::Config(8), 0, 201),
     row("config read of 56 bytes", What::Config(56), 0, 201),
     row("queue", What::Queue, 0, 201),
+];
+
+/// What is done with a save record: mem.rs has nothing like it.
+const SAVE_CALLS: [&str; 4] = ["save", "restore", "old to new", "new to old"];
+
+/// A row of save records: its name, how many runs there are, and which blocks of 1 TiB are plugged.
+type SaveRow = (&'static str, u64, fn(usize) -> bool);
+
+const SAVE_ROWS: [SaveRow; 5] = [
+    ("1 run, all plugged", 1, |_| true),
+    ("no run", 0, |_| false),
+    ("8,192 runs", 8_192, |block| block % 32 == 1),
+    ("65,536 runs", 65_536, |block| block % 4 == 1),
+    ("131,072 runs, every other block", 131_072, |block| {
+        block % 2 == 1
+    }),
 ];
 
 /// Measures a stretch: it is marked, so that instructions are counted in it alone, or its nanoseconds are kept.
@@ -281,6 +300,73 @@ impl Side {
     }
 }
 
+/// A state of 1 TiB in each of its forms, and the lent words and bytes to move it by.
+struct Saved {
+    fields: [u64; SAVE_FIELDS],
+    old: Vec<u8>,
+    text: Vec<u8>,
+    length: [u64; 1],
+    scratch: Vec<u8>,
+    device: Proved,
+}
+
+impl Saved {
+    /// The state of a row, and a device that it can be laid on.
+    fn new((_, _, plugged): SaveRow) -> Saved {
+        let Side::Proved(device, ..) = Side::new(true, &ROWS[0]) else {
+            unreachable!("asked for")
+        };
+        let old: Vec<u8> = (0..262_144).map(|at| u8::from(plugged(at))).collect();
+        let blocks: u64 = old.iter().map(|byte| u64::from(*byte)).sum();
+        let size = device.region();
+        let mut saved = Saved {
+            fields: [BLOCK, START, size, size, size, blocks * BLOCK],
+            old,
+            text: vec![0; SAVE_MAX_TEXT_BYTES],
+            length: [0],
+            scratch: vec![0; SAVE_SCRATCH],
+            device,
+        };
+        assert_eq!(saved.call("old to new", &mut Meter::default()), 0);
+        saved.text.truncate(saved.length[0] as usize);
+        saved
+    }
+
+    /// One call, measured, on what it was given before.
+    fn call(&mut self, call: &str, meter: &mut Meter) -> u64 {
+        let Saved {
+            fields,
+            old,
+            text,
+            length,
+            scratch,
+            device,
+        } = self;
+        let Lent { record, bitmap, .. } = device.lent();
+        match call {
+            "save" => meter.measure(|| sys::save(record, bitmap, text, length)),
+            "restore" => meter.measure(|| sys::restore(record, bitmap, text)),
+            "old to new" => meter.measure(|| sys::old_to_new(fields, old, scratch, text, length)),
+            "new to old" => meter.measure(|| sys::new_to_old(text, scratch, old, fields)),
+            _ => panic!("no call {call}"),
+        }
+    }
+}
+
+/// A row's call, once after one that is not measured. What is saved was restored.
+fn run_save(call: &str, name: &str, meter: &mut Meter) {
+    let found = SAVE_ROWS.iter().find(|row| row.0 == name);
+    let row = *found.unwrap_or_else(|| panic!("no row {name}"));
+    let mut off = Meter::default();
+    for meter in [&mut Meter::default(), meter] {
+        let mut saved = Saved::new(row);
+        if call == "save" {
+            assert_eq!(saved.call("restore", &mut off), 0);
+        }
+        assert_eq!(saved.call(call, meter), 0);
+    }
+}
+
 /// The head, 0, is in the used ring, with the response's length.
 fn reported(guest: &Guest) {
     assert!(guest.all_used());
@@ -312,6 +398,13 @@ fn main() {
             let row = find(name);
             Side::new(side == "proved", row).run(row, &mut meter);
         }
+        ["save", call, name] => {
+            let mut meter = Meter {
+                marks: true,
+                ..Meter::default()
+            };
+            run_save(call, name, &mut meter);
+        }
         [file, svg, clock @ ("clock" | "no-clock"), ref count @ ..] if !count.is_empty() => {
             let clock = clock == "clock";
             write(file, svg, &Measure { count, clock })
@@ -340,9 +433,14 @@ impl Measure<'_> {
     /// All the instructions of a row.
     fn instructions(&self, row: &Row, proved: bool) -> u64 {
         let side = if proved { "proved" } else { "mem.rs" };
+        self.counted(&[side, row.name])
+    }
+
+    /// What is counted where this program is given these words.
+    fn counted(&self, words: &[&str]) -> u64 {
         let output = Command::new(self.count[0])
             .args(&self.count[1..])
-            .args([side, row.name])
+            .args(words)
             .output()
             .unwrap_or_else(|e| panic!("{}: {e}", self.count[0]));
         let number = String::from_utf8_lossy(&output.stdout).trim().parse();
@@ -411,13 +509,14 @@ fn write(file: &str, svg: &str, measure: &Measure) {
         bars.push((row.name, instructions));
     }
     table += &format!(
-        "\nThe queue's share, {} instructions{}, is taken off the requests of mem.rs, but not off those from ring to ring.{}\n\n{}",
+        "\nThe queue's share, {} instructions{}, is taken off the requests of mem.rs, but not off those from ring to ring.{}\n\n{}\n{}",
         queue.instructions,
         queue
             .nanoseconds
             .map_or(String::new(), |ns| format!(" and {ns} ns")),
         if measure.clock { "" } else { NO_TIMES },
-        memory()
+        memory(),
+        saves(measure)
     );
     let text = fs::read_to_string(file).unwrap_or_else(|e| panic!("{file}: {e}"));
     let (begin, end) = ("<!-- measured -->\n", "<!-- end -->");
@@ -444,6 +543,36 @@ fn memory() -> String {
             grouped(proved as u64),
             proved as f64 / rust as f64
         );
+    }
+    table
+}
+
+/// Save records of 1 TiB, which mem.rs has not: the instructions of each call, and of each run that a row has more than the one
+/// before it.
+fn saves(measure: &Measure) -> String {
+    let mut table = "| save records of 1 TiB, instructions | text, bytes |".to_string();
+    for call in SAVE_CALLS {
+        table += &format!(" {call} | a run more |");
+    }
+    table += &format!("\n|---|---:|{}\n", "---:|---:|".repeat(SAVE_CALLS.len()));
+    let mut before: Option<(u64, [u64; SAVE_CALLS.len()])> = None;
+    for row in SAVE_ROWS {
+        let (name, runs, _) = row;
+        let bytes = Saved::new(row).text.len() as u64;
+        let counts = SAVE_CALLS.map(|call| measure.counted(&["save", call, name]));
+        table += &format!("| {name} | {} |", grouped(bytes));
+        for (at, count) in counts.iter().enumerate() {
+            let more = match before {
+                Some((fewer, counts)) if fewer < runs => {
+                    format!("{:.1}", (count - counts[at]) as f64 / (runs - fewer) as f64)
+                }
+                _ => String::new(),
+            };
+            table += &format!(" {} | {more} |", grouped(*count));
+        }
+        table += "\n";
+        println!("{name}: {counts:?}");
+        before = Some((runs, counts));
     }
     table
 }
