@@ -240,11 +240,11 @@ function changed(text,    n, times, at, line, lines, i, s, key) {
 function all_changes(text,    n, i, j, byte, bytes, kept) {
     print "text\t" text
     n = take_apart(text)
-    bytes = split("0 1 2 3 4 9 a e f n r = , / : %20 %00 %0a %0d %2f %2b %2d %ff R", byte, " ")
+    bytes = split("0 1 2 3 4 9 a e f n r = , / : %20 %00 %0d %2f %2b %2d %ff R", byte, " ")
     for (i = 1; i <= n; i++) {
         kept = c[i]
         for (j = 1; j <= bytes; j++) {
-            c[i] = byte[j] == "%0a" ? "/" : byte[j]
+            c[i] = byte[j]
             if (c[i] != kept) print "text\t" put_together(1, n)
         }
         c[i] = kept kept
