@@ -76,12 +76,12 @@ pub comes-back : (bs : List Bool) → spread 0 (length bs) (runsOf bs) ≡ bs
 comes-back bs = let z : 0 + length bs ≡ length bs = omega arith in rw z at (spread-runs 0 0 bs (omega arith))
 
 -- ---- and runs that are apart are those of what they spread to
-skip-clear : (g i : ℕ) (bs : List Bool) → runsFrom i 0 (replicate g false ++ bs) ≡ runsFrom (i + g) 0 bs
+pub skip-clear : (g i : ℕ) (bs : List Bool) → runsFrom i 0 (replicate g false ++ bs) ≡ runsFrom (i + g) 0 bs
 unfolding runsFrom closed
 skip-clear zero i bs = let z : i + 0 ≡ i = omega arith in rw z
 skip-clear (suc g) i bs = let z : i + suc g ≡ suc i + g = omega arith in rw z (skip-clear g (suc i) bs)
 
-count-set : (c i n : ℕ) (bs : List Bool) → runsFrom i n (replicate c true ++ bs) ≡ runsFrom (i + c) (n + c) bs
+pub count-set : (c i n : ℕ) (bs : List Bool) → runsFrom i n (replicate c true ++ bs) ≡ runsFrom (i + c) (n + c) bs
 unfolding runsFrom
 count-set zero i n bs = let z : i + 0 ≡ i = omega arith in let y : n + 0 ≡ n = omega arith in rw (z, y)
 count-set (suc c) i n bs =
@@ -99,7 +99,7 @@ run-ends i n end [] h a = go (end - i)
     go (suc g) = refl
 run-ends i n end (r ∷ rs) h a = let p = a .0 in let w : r .first - i ≡ suc (r .first - suc i) = omega arith in rw w
 
-closed-run : (f c : ℕ) (rs : List Run) → 0 < c → closed (f + c) c rs ≡ record { first = f; count = c } ∷ rs
+pub closed-run : (f c : ℕ) (rs : List Run) → 0 < c → closed (f + c) c rs ≡ record { first = f; count = c } ∷ rs
 unfolding closed
 closed-run f zero rs h = absurd (omega arith)
 closed-run f (suc c) rs h = let w : f + suc c - suc c ≡ f = omega arith in rw w

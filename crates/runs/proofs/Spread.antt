@@ -86,7 +86,7 @@ past-clear c g (x ∷ xs) = past-clear c g xs
 
 -- ---- of a state
 
-end-clear : (i n g : ℕ) → runsFrom i n (replicate g false) ≡ closed i n []
+pub end-clear : (i n g : ℕ) → runsFrom i n (replicate g false) ≡ closed i n []
 unfolding runsFrom closed
 end-clear i n zero = refl
 end-clear i n (suc g) = ap (closed i n) (end-clear (suc i) 0 g)
@@ -97,11 +97,13 @@ runs-clear i n g [] = end-clear i n g
 runs-clear i n g (true ∷ xs) = runs-clear (suc i) (suc n) g xs
 runs-clear i n g (false ∷ xs) = ap (closed i n) (runs-clear (suc i) 0 g xs)
 
-pub every-clear : (ys : List Bool) → every false ys ≡ true → ys ≡ replicate (length ys) false
+pub every-is : (v : Bool) (ys : List Bool) → every v ys ≡ true → ys ≡ replicate (length ys) v
 unfolding every
-every-clear [] e = refl
-every-clear (true ∷ ys) e = let z : _≡_ {A = ℕ} 0 1 = cc in absurd (omega arith)
-every-clear (false ∷ ys) e = ap (λ (l : List Bool). false ∷ l) (every-clear ys e)
+every-is v [] e = refl
+every-is true (true ∷ ys) e = ap (λ (l : List Bool). true ∷ l) (every-is true ys e)
+every-is false (false ∷ ys) e = ap (λ (l : List Bool). false ∷ l) (every-is false ys e)
+every-is true (false ∷ ys) e = let z : _≡_ {A = ℕ} 0 1 = cc in absurd (omega arith)
+every-is false (true ∷ ys) e = let z : _≡_ {A = ℕ} 0 1 = cc in absurd (omega arith)
 
 pub take-drop : (n : ℕ) (bs : List Bool) → take n bs ++ drop n bs ≡ bs
 take-drop zero bs = refl
@@ -121,7 +123,7 @@ runs-inside bs used h e =
     let t = length-take used bs in
     let k : length (take used bs) ≡ used = omega arith in
     let a = take-whole (length bs - used) (drop used bs) (omega arith) in
-    let c = every-clear (drop used bs) (rw a at e) in
+    let c = every-is false (drop used bs) (rw a at e) in
     let w : take used bs ++ replicate (length (drop used bs)) false ≡ bs = ap (λ (l : List Bool). take used bs ++ l) (sym c) ∙ take-drop used bs in
     let r : runsOf (take used bs) ≡ runsOf bs = sym (runs-clear 0 0 (length (drop used bs)) (take used bs)) ∙ ap runsOf w in
     let z : 0 + length (take used bs) ≡ used = omega arith in

@@ -8,6 +8,9 @@ use Rattle.runs.specs.Runs.{Run}
 abbrev pub runLine : List ℕ
 runLine = bytes "run=#,#\n"
 
+abbrev pub lineOf : (first count : ℕ) → List ℕ
+lineOf first count = filled runLine (first ∷ count ∷ [])
+
 unfoldable pub runsText : List Run → List ℕ
 runsText [] = []
-runsText (r ∷ rs) = filled runLine (r .first ∷ r .count ∷ []) ++ runsText rs
+runsText (r ∷ rs) = lineOf (r .first) (r .count) ++ runsText rs

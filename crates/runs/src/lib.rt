@@ -1,31 +1,60 @@
 // SPDX-License-Identifier: Apache-2.0 AND BSD-3-Clause
 // The runs of plugged blocks as text, one line for each longest run: written from a packed bitmap, counted, and laid on a bitmap.
+use bitmap::Found;
+use bitmap::next_clear;
+use bitmap::next_set;
 use forms::Place;
 use units::held_sum;
 use units::sum_within;
 ghost use mathlib.Core.Path.{_≡_};
-ghost use mathlib.Core.List.{[]};
-ghost use Prim.Native.Nat.{_≤_};
+ghost use Prim.Native.Nat.{_*_, _<_, min};
 ghost use lib.ListN.{take, drop, length};
 ghost use Rattle.units.specs.Numbers.{held};
 ghost use Rattle.text.specs.Putting.{Put};
 ghost use Rattle.bitmap.specs.Blocks.{blocks};
-ghost use Rattle.runs.specs.Runs.{closed, runsOf};
-ghost use Rattle.runs.specs.Text.{runsText};
+ghost use Rattle.runs.specs.Runs.{runsOf};
+ghost use Rattle.runs.specs.Text.{lineOf, runsText};
+ghost use Rattle.runs.specs.Next.{InARow, IsNext};
 ghost use Rattle.runs.specs.Reading.{IsRun, runOk, Counts, Lays};
 
 // How many bytes a run's line has room for: more than any has.
 const LINE: usize = 64;
 
-// Puts the run of the n set blocks that end before block i, if there are any.
-fn put_run(out: &mut [u8], at: usize, i: usize, n: usize) -> usize
-    requires { ⌜ n ≤ i ⌝ }
-    ensures { λ r. ⌜ Put (now (out .entry)) at (runsText (closed i n [])) (now (out .exit)) r ⌝ }
+// A run of set blocks: its first block, and how many there are.
+enum NextRun {
+    At { first: usize, count: usize },
+    Nothing,
+}
+
+// How many blocks a bitmap of this length has among the first `end`.
+fn blocks_within(len: usize, end: usize) -> usize
+    ensures { λ r. ⌜ r ≡ min end (8 * len) ⌝ }
 {
-    if n == 0 {
-        return forms::within(at, out.len());
+    if end / 8 < len { end } else { 8 * len }
+}
+
+// How many set blocks stand in a row from `first` on, among the first `end`.
+fn count_from(bitmap: &[u8], first: usize, end: usize) -> usize
+    requires { ⌜ first < length (take end (blocks (now bitmap))) ⌝ }
+    ensures { λ r. ⌜ InARow (take end (blocks (now (bitmap .entry)))) first r ⌝ }
+{
+    match next_clear(bitmap, first, end) {
+        Found::At(stop) => stop - first,
+        Found::Nothing => blocks_within(bitmap.len(), end) - first,
     }
-    forms::put_form_at(out, at, b"run=#,#\n", &[(i - n) as u64, n as u64])
+}
+
+// The next run from `from` on, among the first `end` blocks. Bytes without a set block, and those with no other, are passed at once.
+fn next_run(bitmap: &[u8], from: usize, end: usize) -> NextRun
+    ensures { λ r. ⌜ IsNext (take end (blocks (now (bitmap .entry)))) from r ⌝ }
+{
+    let Found::At(first) = next_set(bitmap, from, end) else {
+        return NextRun::Nothing;
+    };
+    NextRun::At {
+        first,
+        count: count_from(bitmap, first, end),
+    }
 }
 
 // Puts the runs of set blocks among the first `end`.
@@ -34,27 +63,22 @@ pub fn put_runs(out: &mut [u8], at: usize, bitmap: &[u8], end: usize) -> usize
 {
     let mut to = forms::within(at, out.len());
     let mut i = 0;
-    let mut n = 0;
     while i < end {
-        if bitmap::is_set(bitmap, i) {
-            n += 1;
-            i += 1;
-        } else {
-            to = put_run(out, to, i, n);
-            n = 0;
-            i += 1;
-        }
+        let NextRun::At { first, count } = next_run(bitmap, i, end) else {
+            return to;
+        };
+        to = forms::put_form_at(out, to, b"run=#,#\n", &[first as u64, count as u64]);
+        i = first + count;
     }
-    put_run(out, to, i, n)
+    to
 }
 
-// How long the line is of the n set blocks that end before block i.
-fn line_length(i: usize, n: usize) -> u64
-    requires { ⌜ n ≤ i ⌝ }
-    ensures { λ r. ⌜ r ≡ length (runsText (closed i n [])) ⌝ }
+// How long a run's line is.
+fn line_length(first: u64, count: u64) -> u64
+    ensures { λ r. ⌜ r ≡ length (lineOf first count) ⌝ }
 {
     let mut line = [0u8; LINE];
-    put_run(&mut line, 0, i, n) as u64
+    forms::put_form_at(&mut line, 0, b"run=#,#\n", &[first, count]) as u64
 }
 
 // How long the text is of the runs of set blocks among the first `end`.
@@ -63,18 +87,14 @@ pub fn runs_length(bitmap: &[u8], end: usize) -> u64
 {
     let mut sum = 0;
     let mut i = 0;
-    let mut n = 0;
     while i < end {
-        if bitmap::is_set(bitmap, i) {
-            n += 1;
-            i += 1;
-        } else {
-            sum = held_sum(sum, line_length(i, n));
-            n = 0;
-            i += 1;
-        }
+        let NextRun::At { first, count } = next_run(bitmap, i, end) else {
+            return sum;
+        };
+        sum = held_sum(sum, line_length(first as u64, count as u64));
+        i = first + count;
     }
-    held_sum(sum, line_length(i, n))
+    sum
 }
 
 // A run's line, and where the text goes on.

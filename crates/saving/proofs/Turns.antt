@@ -14,7 +14,7 @@ use Rattle.bitmap.proofs.Laws.{blocks-length}
 use Rattle.record.specs.declared.Device.{Device}
 use Rattle.record.specs.Shape.{shapedOf, isIdle}
 use Rattle.runs.specs.Reading.{Lays}
-use Rattle.runs.proofs.Spread.{every-clear, take-drop}
+use Rattle.runs.proofs.Spread.{every-is, take-drop}
 use Rattle.save.specs.declared.Fields.{Fields}
 use Rattle.save.specs.declared.Wrote.{Wrote}
 use Rattle.save.specs.declared.Wrote.the-variants.{Refused}
@@ -186,7 +186,7 @@ module _ (d : Device) (s before : List ℕ) (f : Fields) (bs : List Bool) (z : e
       let tl = length-take (length bs) (blocks before) in
       let n : length (take (length bs) (blocks before)) ≡ length bs = omega arith in
       let clear : allAre (blocks before) 0 (length bs) false ≡ true = rw as-many at (none-set d (blocks before) f (t .fits)) in
-      let e : first ≡ replicate (length bs) false = every-clear first clear ∙ ap (λ (u : ℕ). replicate u false) n in
+      let e : first ≡ replicate (length bs) false = every-is false first clear ∙ ap (λ (u : ℕ). replicate u false) n in
       sym (take-drop (length bs) (blocks before)) ∙ ap (λ (u : List Bool). u ++ drop (length bs) (blocks before)) e
 
 module _ (d : Device) (s before : List ℕ) (number : ℕ) (n : number ≡ entryRefusal d) where

@@ -1,19 +1,32 @@
 -- `runs::line_length` meets its contract.
 use mathlib.Core.Path.{refl}
 use native.Mathlib.Omega.{arith}
-use borrow.Author.Needs.{needs}
 use Rattle.runs.proofs.Turns.{line-is}
+use borrow.Author.Needs.{needs}
 use Rattle.runs.proofs.line_length.Statement.{statement}
 use Rattle.runs.proofs.line_length.Tie as tie
 
-slice-aggregate-put-run : tie.Need-slice-aggregate-put-run
-slice-aggregate-put-run c = search needs
+slice-aggregate-put-form-at : tie.Need-slice-aggregate-put-form-at
+slice-aggregate-put-form-at c = search needs
 
-put-run-requires : tie.Need-put-run-requires
-put-run-requires c κs = search needs
+slice-aggregate-put-form-at-2 : tie.Need-slice-aggregate-put-form-at-2
+slice-aggregate-put-form-at-2 c = search needs
+
+slice-aggregate-put-form-at-3 : tie.Need-slice-aggregate-put-form-at-3
+slice-aggregate-put-form-at-3 c = search needs
+
+put-form-at-requires : tie.Need-put-form-at-requires
+put-form-at-requires c κs = search needs
 
 returns : tie.Need-returns
-returns c = line-is _ _ _ refl (omega arith) (c .before .before .before .pre) (c .before .put-run .ensures)
+returns c = line-is _ _ _ refl (omega arith) (omega arith) (c .before .put-form-at .ensures)
 
 pub line-length-spec : {M : Type 1} → statement M
-line-length-spec = tie.close (tie.spec slice-aggregate-put-run put-run-requires returns)
+line-length-spec =
+    tie.close
+    (tie.spec
+    slice-aggregate-put-form-at
+    slice-aggregate-put-form-at-2
+    slice-aggregate-put-form-at-3
+    put-form-at-requires
+    returns)

@@ -1,19 +1,18 @@
--- `runs::put_runs` meets its contract. The invariant: the text put so far, with the runs that are left, is the whole (`Going`).
+-- `runs::put_runs` meets its contract.
 use Prim.Native.Nat.{_-_}
-use mathlib.Core.Path.{_∙_}
 use native.Mathlib.Omega.{arith}
 use borrow.Author.Needs.{needs}
 use lib.ListN.{take}
 use Rattle.bitmap.specs.Blocks.{blocks}
-use Rattle.runs.proofs.Turns.{put-long, Going, going-start, going-long, set-next, clear-next, runs-end}
+use Rattle.runs.proofs.Turns.{Going, going-start, going-long, going-run, going-none, going-end, run-inside}
 use Rattle.runs.proofs.put_runs.Statement.{statement}
 use Rattle.runs.proofs.put_runs.Tie as tie
 
 abbrev Inv-loop : tie.InvT-loop
-Inv-loop out₀ at bitmap end to₀ i₀ n₀ out to i n = Going out₀ at (take end (blocks bitmap)) out to i n
+Inv-loop out₀ at bitmap end to₀ i₀ t9 out to i = Going out₀ at (take end (blocks bitmap)) out to i
 
 abbrev μ-loop : tie.MeasureT-loop
-μ-loop out₀ at bitmap end to₀ i₀ n₀ out to i n = end - i
+μ-loop out₀ at bitmap end to₀ i₀ t9 out to i = end - i
 
 within-requires : tie.Need-within-requires Inv-loop μ-loop
 within-requires c κs = tt
@@ -21,41 +20,44 @@ within-requires c κs = tt
 loop-holds : tie.Need-loop-holds Inv-loop μ-loop
 loop-holds c = going-start _ _ _ _ (c .within .ensures)
 
-is-set-requires : tie.Need-is-set-requires Inv-loop μ-loop
-is-set-requires c κs = tt
+next-run-requires : tie.Need-next-run-requires Inv-loop μ-loop
+next-run-requires c κs = tt
 
-add-n : tie.Need-add-n Inv-loop μ-loop
-add-n c = let f = c .before .before .before .loop .inv .walk .few in omega arith
+enum-known-first : tie.Need-enum-known-first Inv-loop μ-loop
+enum-known-first c = search needs
 
-add-i : tie.Need-add-i Inv-loop μ-loop
-add-i c = omega arith
-
-loop-less : tie.Need-loop-less Inv-loop μ-loop
-loop-less c = omega arith
-
-loop-again : tie.Need-loop-again Inv-loop μ-loop
-loop-again c = set-next _ _ (c .before .before .before .loop .inv) (c .before .before .loop-test .taken) _ (c .before .is-set .ensures) (c .if1 .taken)
-
-put-run-requires : tie.Need-put-run-requires Inv-loop μ-loop
-put-run-requires c κs = c .before .before .before .before .loop .inv .walk .few
-
-add-i-2 : tie.Need-add-i-2 Inv-loop μ-loop
-add-i-2 c = omega arith
-
-loop-less-2 : tie.Need-loop-less-2 Inv-loop μ-loop
-loop-less-2 c = omega arith
-
-loop-again-2 : tie.Need-loop-again-2 Inv-loop μ-loop
-loop-again-2 c = clear-next _ _ (c .before .before .before .before .before .before .before .loop .inv) (c .before .before .before .before .before .before .loop-test .taken) _ (c .before .before .before .before .before .is-set .ensures) (c .before .before .before .before .if1 .left) (c .before .before .put-run .ensures)
-
-put-run-requires-2 : tie.Need-put-run-requires-2 Inv-loop μ-loop
-put-run-requires-2 c κs = c .before .before .loop .inv .walk .few
+enum-told : tie.Need-enum-told Inv-loop μ-loop
+enum-told c = search needs
 
 same-length : tie.Need-same-length Inv-loop μ-loop
-same-length c = put-long (c .before .before .put-run2 .ensures) ∙ going-long (c .before .before .before .before .before .loop .inv)
+same-length c = going-long (c .before .before .before .before .loop .inv)
 
 returns : tie.Need-returns Inv-loop μ-loop
-returns c = runs-end _ _ (c .before .before .before .before .before .loop .inv) (c .before .before .before .before .loop-test .left) (c .before .before .put-run2 .ensures)
+returns c = going-none (blocks (c .before .before .before .before .before .before .before .before .args .bitmap .now)) (c .before .before .before .before .before .before .before .before .args .end) (c .before .before .before .before .loop .inv) _ (c .before .before .next-run .ensures) (c .enum-told .given .1)
+
+slice-aggregate-put-form-at : tie.Need-slice-aggregate-put-form-at Inv-loop μ-loop
+slice-aggregate-put-form-at c = search needs
+
+slice-aggregate-put-form-at-2 : tie.Need-slice-aggregate-put-form-at-2 Inv-loop μ-loop
+slice-aggregate-put-form-at-2 c = search needs
+
+put-form-at-requires : tie.Need-put-form-at-requires Inv-loop μ-loop
+put-form-at-requires c κs = search needs
+
+add-i : tie.Need-add-i Inv-loop μ-loop
+add-i c = let k = run-inside (blocks (c .before .before .before .before .before .before .before .before .before .before .before .before .before .before .before .args .bitmap .now)) (c .before .before .before .before .before .before .before .before .before .before .before .before .before .before .before .args .end) (c .before .before .before .before .before .before .before .before .before .before .before .loop .i) _ (c .before .before .before .before .before .before .before .before .before .next-run .ensures) _ _ (c .before .before .before .before .before .before .before .first .given .1) in let a = k .0 in omega arith
+
+loop-less : tie.Need-loop-less Inv-loop μ-loop
+loop-less c = let k = run-inside (blocks (c .before .before .before .before .before .before .before .before .before .before .before .before .before .before .before .args .bitmap .now)) (c .before .before .before .before .before .before .before .before .before .before .before .before .before .before .before .args .end) (c .before .before .before .before .before .before .before .before .before .before .before .loop .i) _ (c .before .before .before .before .before .before .before .before .before .next-run .ensures) _ _ (c .before .before .before .before .before .before .before .first .given .1) in let a = k .0 in let b = k .1 in omega arith
+
+loop-again : tie.Need-loop-again Inv-loop μ-loop
+loop-again c = going-run (blocks (c .before .before .before .before .before .before .before .before .before .before .before .before .before .before .before .args .bitmap .now)) (c .before .before .before .before .before .before .before .before .before .before .before .before .before .before .before .args .end) (c .before .before .before .before .before .before .before .before .before .before .before .loop .inv) _ (c .before .before .before .before .before .before .before .before .before .next-run .ensures) _ _ (c .before .before .before .before .before .before .before .first .given .1) (c .before .before .put-form-at .ensures)
+
+same-length-2 : tie.Need-same-length-2 Inv-loop μ-loop
+same-length-2 c = going-long (c .before .loop .inv)
+
+returns-2 : tie.Need-returns-2 Inv-loop μ-loop
+returns-2 c = going-end (blocks (c .before .before .before .before .before .args .bitmap .now)) (c .before .before .before .before .before .args .end) (c .before .loop .inv) (c .loop-test .left)
 
 pub put-runs-spec : {M : Type 1} → statement M
 put-runs-spec =
@@ -65,15 +67,16 @@ put-runs-spec =
     μ-loop
     within-requires
     loop-holds
-    is-set-requires
-    add-n
+    next-run-requires
+    enum-known-first
+    enum-told
+    same-length
+    returns
+    slice-aggregate-put-form-at
+    slice-aggregate-put-form-at-2
+    put-form-at-requires
     add-i
     loop-less
     loop-again
-    put-run-requires
-    add-i-2
-    loop-less-2
-    loop-again-2
-    put-run-requires-2
-    same-length
-    returns)
+    same-length-2
+    returns-2)
