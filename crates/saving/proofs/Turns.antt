@@ -55,7 +55,7 @@ module _ (d : Device) (m : List ℕ) (number : ℕ) (n : number ≡ entryRefusal
   let-in w r z e = rw (← n, z) e
 
   pub not-measured : (number ≡ 0 → ⊥) → Refused number ≡ savedLength d m
-  not-measured z = turned-away _ z
+  not-measured z = turned-away (lengthOf (fieldsIn d) m) z
 
   pub not-saved : (number ≡ 0 → ⊥) → (before : List ℕ) → Saves d m before before (Refused number)
   not-saved z before = record { answer = turned-away _ z; buffer = refl }

@@ -17,7 +17,7 @@ all-in-state-requires : tie.Need-all-in-state-requires
 all-in-state-requires c κs = search needs
 
 returns-3 : tie.Need-returns-3
-returns-3 c = all-clear _ _ _ (c .before .before .before .before .before .before .if1 .left) (c .before .before .if2 .left) _ (c .before .blocks-in .ensures) _ (c .all-in-state .ensures)
+returns-3 c = all-clear (c .before .before .before .before .before .before .before .before .before .before .before .before .before .before .args .d) _ _ (c .before .before .before .before .before .before .if1 .left) (c .before .before .if2 .left) _ (c .before .blocks-in .ensures) _ (c .all-in-state .ensures)
 
 pub fits-on-spec : {M : Type 1} → statement M
 fits-on-spec =
