@@ -39,8 +39,11 @@ fn look(s: &[u8]) -> Wrong
     match checked {
         Checked::State { fields: _, runs: _ } => Wrong::Nothing,
         Checked::Refused(number) => {
-            let found = wrong_line(s);
-            Wrong::Is { number, found }
+            let line = wrong_line(s);
+            Wrong::Is {
+                number,
+                found: line,
+            }
         }
     }
 }
