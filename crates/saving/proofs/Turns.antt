@@ -1,7 +1,7 @@
 -- What each step of saving and restoring does.
 use Prim.Native.Nat.{ℕ, _+_, _/_, _≤_}
 use mathlib.Core.Path.{_≡_, refl, ap, _∙_, sym}
-use mathlib.Core.Bool.{Bool, true, false, not, _&&_}
+use mathlib.Core.Bool.{Bool, true, false, cond, not, _&&_}
 use mathlib.Core.List.{List, _++_}
 use native.Mathlib.Omega.{arith}
 use borrow.Author.Tests.{ltb-false, leb-true, eqb-true, ne-eqb}
@@ -22,7 +22,7 @@ use Rattle.save.specs.declared.Checked.{Checked}
 use Rattle.save.specs.declared.Checked.the-variants as checked
 use Rattle.save.specs.Text.{allOf}
 use Rattle.save.specs.Writing.{isShort, textIn, lengthOf, wroteOf, writtenOn, Writes}
-use Rattle.save.specs.Reading.{Accepts, Checks, NotTaken}
+use Rattle.save.specs.Reading.{isLater, Accepts, Checks, NotTaken}
 use Rattle.record.proofs.Laws.{shaped-is}
 use Rattle.save.proofs.Text.{state-block}
 use Rattle.save.proofs.Turns.{accepts-at, refuses-at, too-short, not-read, not-fitting, laid-holds}
@@ -241,3 +241,16 @@ module _ (d : Device) (s before : List ℕ) (number : ℕ) (n : number ≡ entry
                 bitmap = laid-holds s f m a′ before before final (starts-clear d s before f bs admits t)
                     (record { same-length = refl; same-before = λ i j. refl; same-past = λ i j. refl }) l;
               }
+
+-- a refusal has a number
+pub never-0 : (d : Device) (s before final : List ℕ) → NotRestoring d s before final 0 → ⊥
+unfolding restoreRefusal entryRefusal
+never-0 d s before final r = go (shapedOf d) (isIdle (d .pending)) (isShort (fieldsIn d) before) (isLater s) (r .number-is)
+  where
+    go : (shaped idle short later : Bool)
+        → let entry : ℕ = cond (not shaped) 12 (cond (not idle) 7 0) in 0 ≡ cond (eqb entry 0) (cond short 11 (cond later 19 18)) entry → ⊥
+    go false idle short later e = omega arith
+    go true false short later e = omega arith
+    go true true true later e = omega arith
+    go true true false true e = omega arith
+    go true true false false e = omega arith

@@ -254,7 +254,7 @@ beside-two ws a b j h =
 
 module _ (ws : List ℕ) (d : Device) (is : decodedOf ws ≡ Is d) where
   -- a record of the same node reads back
-  reads-back : (d′ : Device) → d′ .config .«node_id» ≡ d .config .«node_id» → decodedOf (put ws 0 (wordsOf d′)) ≡ Is d′
+  pub reads-back : (d′ : Device) → d′ .config .«node_id» ≡ d .config .«node_id» → decodedOf (put ws 0 (wordsOf d′)) ≡ Is d′
   unfolding recordOf
   reads-back d′ same =
       let f = decoded-fits ws d is in
