@@ -104,4 +104,4 @@ pub demand-3-heard : Demand3InHand
 demand-3-heard m words′ makes us run all =
     let l = linked m words′ makes in
     let d = l .device in
-    rw (events-heard (first words′) (begun d) us (at-first words′ d (made-decodes m words′ makes d (l .is-made))) run all) (l .demand-3 us run)
+    rw (events-heard (first words′) (begun d) us (at-first words′ d (made-decodes m words′ makes d (l .is-made))) run all) (l .follows .demand-3 us run)

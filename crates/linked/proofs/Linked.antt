@@ -23,12 +23,12 @@ use Rattle.words.specs.declared.Decoded.the-variants.{Is}
 use Rattle.words.specs.Record.{wordsOf, decodedOf}
 use Rattle.words.proofs.Laws.{encoded-decodes}
 use Rattle.capi.specs.Exports.{nodeOf, madeWords}
-use Rattle.history.specs.History.{Story, next, after, Fresh, begun, Told}
-use Rattle.history.specs.Reached.{from-making}
+use Rattle.history.specs.History.{Story, next, after, Fresh, begun}
+use Rattle.history.specs.Reached.{Reached, from-making}
 use Rattle.history.proofs.Cases.{by-cond}
 use Rattle.history.proofs.Demand3.{demand-3, reached-after}
 use Rattle.history.proofs.Newly.{made-fresh}
-use Rattle.linked.specs.Runs.{Use, callOf, Held, leaves, One, Run, heldAfter, callsOf, Making, madeBy, Makes, first, Means, inHand, Steps, Linked}
+use Rattle.linked.specs.Runs.{Use, callOf, Held, leaves, One, Run, heldAfter, callsOf, Making, madeBy, Makes, first, Means, inHand, Steps, Follows, Linked}
 use Rattle.linked.proofs.Steps.{Tells, in-hand, one-goes}
 
 -- ---- a call on what is held is a step of the world in hand
@@ -44,10 +44,20 @@ steps-on h w m u one =
     }
 
 -- ---- over any run
-always-means : (h : Held) (s : Story) (us : List Use) → Means h (s .world) → Run h us → Means (heldAfter h us) (after s (callsOf us) .world)
+run-means : (h : Held) (s : Story) → Means h (s .world) → (us : List Use) → Run h us → Means (heldAfter h us) (after s (callsOf us) .world)
 unfolding Run heldAfter callsOf after next
-always-means h s [] m run = m
-always-means h s (u ∷ us) m run = always-means (leaves h u) (next s (callOf u)) us (one-goes h (s .world) m u (run .0) .1) (run .1)
+run-means h s m [] run = m
+run-means h s m (u ∷ us) run = run-means (leaves h u) (next s (callOf u)) (one-goes h (s .world) m u (run .0) .1) us (run .1)
+
+-- from anywhere that a run of the definition reaches
+pub follows-from : (h : Held) (s : Story) → Means h (s .world) → Reached s → Follows h s
+follows-from h s m reached =
+    record {
+      means = run-means h s m;
+      steps = λ us run. steps-on (heldAfter h us) (after s (callsOf us) .world) (run-means h s m us run);
+      demand-3 = λ us run.
+          rw (in-hand (heldAfter h us) (after s (callsOf us) .world) (run-means h s m us run)) (demand-3 (after s (callsOf us)) (reached-after s reached (callsOf us)));
+    }
 
 -- ---- making
 -- a made device, with its node
@@ -69,21 +79,10 @@ node-within : (given : Bool) (node : ℕ) → node ≤ 65535 → nodeNumber (nod
 node-within true node h = h
 node-within false node h = omega arith
 
--- ---- the run of a device whose record the words are
+-- ---- a device whose record the words are
 pub at-first : (words : List ℕ) (d : Device) → decodedOf words ≡ Is d → Means (first words) (begun d .world)
 unfolding blocks rowsOf
 at-first words d is = record { decodes = is; marked = refl; mapped = refl }
-
-module _ (words : List ℕ) (d : Device) (fresh : Fresh d) (is : decodedOf words ≡ Is d) (us : List Use) (run : Run (first words) us) where
-  -- what is held after a run of the exports means the world after the run of their calls
-  pub run-means : Means (heldAfter (first words) us) (after (begun d) (callsOf us) .world)
-  run-means = always-means (first words) (begun d) us (at-first words d is) run
-
-  pub run-steps : (u : Use) → One (heldAfter (first words) us) u → Steps (heldAfter (first words) us) u
-  run-steps u one = steps-on (heldAfter (first words) us) (after (begun d) (callsOf us) .world) run-means u one
-
-  pub demand-3-in-hand : Told (inHand (heldAfter (first words) us)) (after (begun d) (callsOf us) .events)
-  demand-3-in-hand = rw (in-hand (heldAfter (first words) us) (after (begun d) (callsOf us) .world) run-means) (demand-3 (after (begun d) (callsOf us)) (reached-after (begun d) (from-making fresh) (callsOf us)))
 
 -- ---- from making on
 module _ (m : Making) (words′ : List ℕ) (makes : Makes m words′) where
@@ -115,16 +114,11 @@ module _ (m : Making) (words′ : List ℕ) (makes : Makes m words′) where
     pub made-decodes : decodedOf words′ ≡ Is d
     made-decodes = ap decodedOf made-words ∙ encoded-decodes d (m .words) node-small (leb-true 15 (length (m .words)) room)
 
+    pub follows-making : Follows (first words′) (begun d)
+    follows-making = follows-from (first words′) (begun d) (at-first words′ d made-decodes) (from-making is-fresh)
+
   pub linked : Linked m words′
   linked =
       let d = is-made-at-0 .device in
       let e = is-made-at-0 .is-made in
-      let fresh = is-fresh d e in
-      let is = made-decodes d e in
-      record {
-        device = d;
-        is-made = e;
-        means = λ us run. run-means words′ d fresh is us run;
-        steps = λ us run u one. run-steps words′ d fresh is us run u one;
-        demand-3 = λ us run. demand-3-in-hand words′ d fresh is us run;
-      }
+      record { device = d; is-made = e; follows = follows-making d e }

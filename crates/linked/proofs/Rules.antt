@@ -7,7 +7,7 @@ use Rattle.record.specs.declared.Device.{Device}
 use Rattle.step.specs.World.{World, Call, Outcome}
 use Rattle.step.specs.Step.{step}
 use Rattle.history.specs.History.{Story, after, Fresh, begun}
-use Rattle.history.specs.Reached.{from-making}
+use Rattle.history.specs.Reached.{Reached, from-making}
 use Rattle.history.specs.Rules.{InEveryRun, FromEveryWorld, askedIn, takenIn, waits, KeepsShape, Never12, UsableNeverShrinks, DiscardIsCounted, OnlySizeChangeMovesRequested, PlugWithinRequested, SizeChangeTouchesNothing, LoweringAsksNothing, WholeOrNotAtAll, PendingStays, AsksWhatIsDue}
 use Rattle.history.specs.Questions.{AsksForPending, OnlyUnplugsDiscard, OnlyOpenUnplugsDiscard}
 use Rattle.history.specs.Refusals.{RefusedChangesNothing, TenIsCreationFailed}
@@ -19,10 +19,10 @@ use Rattle.history.proofs.Whole.{whole-or-not-at-all}
 use Rattle.history.proofs.HostCalls.{each-asked-answered, pending-stays, asks-what-is-due}
 use Rattle.history.proofs.Questions.{asks-for-pending, only-unplugs-discard, only-open-unplugs-discard}
 use Rattle.history.proofs.Refusals.{refused-changes-nothing, ten-is-creation-failed}
-use Rattle.linked.specs.Runs.{Use, callOf, Held, leaves, heldAfter, callsOf, Steps, first, inHand}
+use Rattle.linked.specs.Runs.{Use, callOf, Held, leaves, heldAfter, callsOf, Means, Steps, first, inHand}
 use Rattle.linked.specs.Rules.{shows, OfEveryCall, storyInHand, AfterEveryRun, RulesInHand}
 use Rattle.linked.proofs.Steps.{in-hand}
-use Rattle.linked.proofs.Linked.{is-fresh, made-decodes, run-means, linked}
+use Rattle.linked.proofs.Linked.{is-fresh, follows-making, linked}
 
 -- what a call shows is what the definition's step ends in
 shows-step : (h : Held) (u : Use) → Steps h u → step (inHand h) (callOf u) ≡ shows h u
@@ -32,19 +32,22 @@ shows-step h u s = let o = step (inHand h) (callOf u) in ends (o .world) (inHand
         → _≡_ {A = Outcome} (record { world = w; answer = step (inHand h) (callOf u) .answer; bytes = bytes }) (record { world = v; answer = step (inHand h) (callOf u) .answer; bytes = bytes′ })
     ends w v bytes bytes′ p q = rw (p, q)
 
+-- so a rule of every world holds of a call that is a step, and a rule of every run wherever one has led
+pub rule-of-call : (P : World → Call → Outcome → Type 0) → FromEveryWorld P → (h : Held) (u : Use) → Steps h u → P (inHand h) (callOf u) (shows h u)
+rule-of-call P rule h u s = rw (shows-step h u s) at (rule (inHand h) (callOf u))
+
+pub rule-in-hand : (P : Story → Call → Type 0) → InEveryRun P → (h : Held) (s : Story) → Means h (s .world) → Reached s → (c : Call) → P (storyInHand h s) c
+rule-in-hand P rule h s m reached c =
+    let same : storyInHand h s ≡ s = ap (λ (w : World). record { world = w; «open» = s .«open»; events = s .events }) (in-hand h (s .world) m) in
+    rw same (rule s reached c)
+
 of-every-call : (P : World → Call → Outcome → Type 0) → FromEveryWorld P → OfEveryCall P
-of-every-call P rule m words′ makes us run u one =
-    let h = heldAfter (first words′) us in
-    rw (shows-step h u (linked m words′ makes .steps us run u one)) at (rule (inHand h) (callOf u))
+of-every-call P rule m words′ makes us run u one = rule-of-call P rule (heldAfter (first words′) us) u (linked m words′ makes .follows .steps us run u one)
 
 after-every-run : (P : Story → Call → Type 0) → InEveryRun P → AfterEveryRun P
 after-every-run P rule m words′ makes d e us run u =
-    let s = after (begun d) (callsOf us) in
-    let h = heldAfter (first words′) us in
-    let fresh = is-fresh m words′ makes d e in
-    let same : storyInHand h s ≡ s =
-    ap (λ (w : World). record { world = w; «open» = s .«open»; events = s .events }) (in-hand h (s .world) (run-means words′ d fresh (made-decodes m words′ makes d e) us run)) in
-    rw same (rule s (reached-after (begun d) (from-making fresh) (callsOf us)) (callOf u))
+    rule-in-hand P rule _ (after (begun d) (callsOf us)) (follows-making m words′ makes d e .means us run)
+    (reached-after (begun d) (from-making (is-fresh m words′ makes d e)) (callsOf us)) (callOf u)
 
 -- a newly made device waits for nothing
 asked-from-making : (d : Device) → Fresh d → (cs : List Call) → askedIn (begun d .world) cs ≡ takenIn (begun d .world) cs + waits (after (begun d) cs .world .device .pending)
@@ -73,8 +76,6 @@ rules-in-hand =
       asks-what-is-due = after-every-run AsksWhatIsDue asks-what-is-due;
       pending-stays = of-every-call PendingStays pending-stays;
       each-asked-answered = λ m words′ makes d e us run.
-          let fresh = is-fresh m words′ makes d e in
-          let means = run-means words′ d fresh (made-decodes m words′ makes d e) us run in
-          let same = in-hand (heldAfter (first words′) us) (after (begun d) (callsOf us) .world) means in
-          asked-from-making d fresh (callsOf us) ∙ ap (λ (w : World). takenIn (begun d .world) (callsOf us) + waits (w .device .pending)) (sym same);
+          let same = in-hand (heldAfter (first words′) us) (after (begun d) (callsOf us) .world) (follows-making m words′ makes d e .means us run) in
+          asked-from-making d (is-fresh m words′ makes d e) (callsOf us) ∙ ap (λ (w : World). takenIn (begun d .world) (callsOf us) + waits (w .device .pending)) (sym same);
     }

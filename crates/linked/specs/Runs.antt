@@ -19,7 +19,7 @@ use Rattle.words.specs.declared.Decoded.the-variants.{Is}
 use Rattle.words.specs.Record.{recordOf, decodedOf}
 use Rattle.step.specs.Answers.{answerWords, numberOf}
 use Rattle.capi.specs.Exports.{nodeOf, MadeIn, Lent, Exported}
-use Rattle.history.specs.History.{after, begun, Told}
+use Rattle.history.specs.History.{Story, after, begun, Told}
 
 -- ---- one call
 -- the exported function, and its arguments that are no lent slices of a device
@@ -154,13 +154,17 @@ pub record Steps (h : Held) (u : Use) : Type 0 where
   pub left : u .after .bytes ≡ step (inHand h) (callOf u) .bytes
   pub goes-on : inHand (leaves h u) ≡ step (inHand h) (callOf u) .world
 
--- the theorem: a device was made, and over any run of the exported functions from then on
+-- over any run of the exported functions from what is held, h, where a run of the definition stands at s
+pub record Follows (h : Held) (s : Story) : Type 0 where
+  -- what is held means the world that the definition's run of the same calls leads to
+  pub means : (us : List Use) → Run h us → Means (heldAfter h us) (after s (callsOf us) .world)
+  -- and any further call is its next step
+  pub steps : (us : List Use) → Run h us → (u : Use) → One (heldAfter h us) u → Steps (heldAfter h us) u
+  -- demand 3 holds of the world that is held, and of the events of the definition's run
+  pub demand-3 : (us : List Use) → Run h us → Told (inHand (heldAfter h us)) (after s (callsOf us) .events)
+
+-- the theorem: a device was made, and over any run from then on
 pub record Linked (m : Making) (words′ : List ℕ) : Type 0 where
   pub device : Device
   pub is-made : madeBy m ≡ MadeDevice device
-  -- what is held means the world that the definition's run of the same calls leads to
-  pub means : (us : List Use) → Run (first words′) us → Means (heldAfter (first words′) us) (after (begun device) (callsOf us) .world)
-  -- and any further call is its next step
-  pub steps : (us : List Use) → Run (first words′) us → (u : Use) → One (heldAfter (first words′) us) u → Steps (heldAfter (first words′) us) u
-  -- demand 3 holds of the world that is held, and of the events of the definition's run
-  pub demand-3 : (us : List Use) → Run (first words′) us → Told (inHand (heldAfter (first words′) us)) (after (begun device) (callsOf us) .events)
+  pub follows : Follows (first words′) (begun device)
