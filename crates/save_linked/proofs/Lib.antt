@@ -1,0 +1,2 @@
+pub mod Restores
+pub mod Contracts
