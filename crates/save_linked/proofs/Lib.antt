@@ -1,2 +1,3 @@
 pub mod Restores
+pub mod Programs
 pub mod Contracts
