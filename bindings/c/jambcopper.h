@@ -74,7 +74,8 @@ extern "C" {
  * plugged. Bytes of the old form, one a block, are never more than the blocks of 1 TiB. */
 #define JAMBCOPPER_SAVE_MAX_TEXT_BYTES 1648502
 #define JAMBCOPPER_SAVE_MAX_OLD_BYTES 262144
-/* The scratch that a move of a save record takes. Its contents mean nothing, before the call and after it. */
+/* The scratch that a move of a save record takes. What it holds before does not matter; a move that is done leaves the
+ * blocks in it, packed as in a bitmap. */
 #define JAMBCOPPER_SAVE_SCRATCH 32768
 
 /* ---- the record: which word is what. It may be read, copied, stored and put back. */
