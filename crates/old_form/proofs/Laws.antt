@@ -1,8 +1,8 @@
 -- Old bytes and blocks tell each other; and moving there and back gives the same bytes, or the same text.
-use Prim.Native.Nat.{ℕ, zero, suc, _+_, _≤_, _<_}
+use Prim.Native.Nat.{ℕ, zero, suc, _+_, _≤_}
 use mathlib.Core.Path.{_≡_, refl, ap, _∙_, sym}
-use mathlib.Core.Bool.{Bool, true, false, cond, not, _&&_}
-use mathlib.Core.List.{List, [], _∷_, _++_}
+use mathlib.Core.Bool.{Bool, true, false, cond, _&&_}
+use mathlib.Core.List.{List, [], _∷_}
 use native.Mathlib.Omega.{arith}
 use borrow.Author.Tests.{leb-true, le-leb, eqb-true, eq-eqb}
 use lib.Dec.{leb, eqb}
@@ -16,7 +16,7 @@ use Rattle.save.specs.declared.Got.{Got}
 use Rattle.save.specs.declared.Got.the-variants as got
 use Rattle.save.specs.Text.{textOf, shapeOk, allOf, validOf, State, Says}
 use Rattle.save.specs.Writing.{writtenOn}
-use Rattle.save.specs.Reading.{Takes, NotTaken, AtMost, noRoom}
+use Rattle.save.specs.Reading.{noRoom}
 use Rattle.save.proofs.Text.{valid-shape, one-text}
 use Rattle.old_form.specs.Old.{oldOf, isOld, bitsOf}
 use Rattle.old_form.specs.Moves.{oldOk, newText, movedOf, ToNew, ToOld}

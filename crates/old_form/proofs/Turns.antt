@@ -1,28 +1,28 @@
 -- What each step of packing, unpacking and moving does.
-use Prim.Native.Nat.{ℕ, zero, suc, _+_, _-_, _*_, _/_, _≤_, _<_}
+use Prim.Native.Nat.{ℕ, suc, _+_, _-_, _/_, _≤_, _<_}
 use mathlib.Core.Path.{_≡_, refl, ap, _∙_, sym}
-use mathlib.Core.Bool.{Bool, true, false, cond, not, _&&_}
+use mathlib.Core.Bool.{Bool, true, false, cond, not}
 use mathlib.Core.List.{List, [], _∷_, _++_, append-assoc}
 use native.Mathlib.Omega.{arith}
 use native.Mathlib.Numerals.{add-one}
 use borrow.Author.Tests.{lt-leb, le-leb, lt-ltb, le-ltb, eq-eqb, ne-eqb}
-use lib.Dec.{leb, ltb, eqb}
+use lib.Dec.{eqb}
 use lib.ListN.{length, set, take, drop, getD, length-take, length-drop, length-append, drop-of-length-le}
-use lib.Seq.{take-suc, take-length, drop-cons, drop-length, set-at, take-at, drop-at}
-use Rattle.units.proofs.Tests.{by-test, refused, passed}
+use lib.Seq.{take-suc, take-length, drop-cons, set-at, take-at}
+use Rattle.units.proofs.Tests.{refused, passed}
 use Rattle.bitmap.specs.Blocks.{blocks, blockAt, fill, Outside, Filled}
 use Rattle.bitmap.proofs.Laws.{blocks-length, fill-right, fill-none}
 use Rattle.save.specs.declared.Fields.{Fields}
 use Rattle.save.specs.declared.Wrote.{Wrote}
-use Rattle.save.specs.declared.Wrote.the-variants.{Text, Refused}
+use Rattle.save.specs.declared.Wrote.the-variants.{Refused}
 use Rattle.save.specs.declared.Got.{Got}
 use Rattle.save.specs.declared.Got.the-variants as got
-use Rattle.save.specs.Text.{textOf, shapeOk, allOf, validOf, State}
-use Rattle.save.specs.Writing.{blocksFor, isShort, validIn, textIn, wroteOf, writtenOn, Writes}
-use Rattle.save.specs.Reading.{Holds, Takes, AtMost, noRoom, Reads}
-use Rattle.save.proofs.Text.{in-blocks, shape-is, state-few}
+use Rattle.save.specs.Text.{textOf, shapeOk, allOf}
+use Rattle.save.specs.Writing.{blocksFor, isShort, wroteOf, writtenOn, Writes}
+use Rattle.save.specs.Reading.{Holds, noRoom, Reads}
+use Rattle.save.proofs.Text.{in-blocks, shape-is}
 use Rattle.old_form.specs.Old.{oldOf, isOld, bitsOf}
-use Rattle.old_form.specs.Moves.{oldOk, newText, movedOf, ToNew, ToOld}
+use Rattle.old_form.specs.Moves.{oldOk, movedOf, ToNew, ToOld}
 use Rattle.old_form.proofs.Laws.{old-length, bits-length}
 
 -- ---- `is_old`

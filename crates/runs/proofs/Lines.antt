@@ -1,7 +1,7 @@
 -- One text for runs that are apart, and one list of runs for a text; and what each step of reading does.
-use Prim.Native.Nat.{ℕ, zero, suc, _+_, _-_, _*_, _≤_, _<_}
+use Prim.Native.Nat.{ℕ, suc, _+_, _-_, _*_, _≤_, _<_}
 use mathlib.Core.Path.{_≡_, refl, ap, _∙_, sym}
-use mathlib.Core.Bool.{Bool, true, false, _&&_, not}
+use mathlib.Core.Bool.{Bool, true, false, not}
 use mathlib.Core.List.{List, [], _∷_, _++_}
 use native.Mathlib.Omega.{arith}
 use borrow.Author.Tests.{le-leb, lt-ltb, leb-true, ltb-true}
@@ -10,10 +10,10 @@ use lib.ListN.{length, drop, getD, length-append, length-drop, drop-of-length-le
 use Rattle.units.proofs.Tests.{and-left, and-right, refused, passed}
 use Rattle.text.specs.Decimal.{largest}
 use Rattle.text.specs.Reading.{isDigit, digitOf}
-use Rattle.bitmap.specs.Blocks.{blocks, fill, Outside, Filled}
+use Rattle.bitmap.specs.Blocks.{blocks, Outside, Filled}
 use Rattle.bitmap.proofs.Bytes.{blocks-tell}
 use Rattle.forms.specs.Forms.{holes, filled, filledFrom}
-use Rattle.forms.specs.Scanning.{Part, part, none, bytePart, partOf, ScannedAt}
+use Rattle.forms.specs.Scanning.{part, none, bytePart, partOf, ScannedAt}
 use Rattle.forms.specs.declared.Place.{Place}
 use Rattle.forms.specs.declared.Place.the-variants as place
 use Rattle.forms.proofs.Laws.{filled-length}

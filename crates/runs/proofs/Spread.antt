@@ -1,12 +1,11 @@
 -- The runs of a state, and the state of runs: how many blocks there are, and that none lies past the usable size.
-use Prim.Native.Nat.{ℕ, zero, suc, _+_, _-_, _*_, _/_, _%_, _≤_, _<_}
+use Prim.Native.Nat.{ℕ, zero, suc, _+_, _-_, _≤_}
 use mathlib.Core.Path.{_≡_, refl, ap, _∙_, sym}
-use mathlib.Core.Bool.{Bool, true, false, _&&_, Bool·beq}
-use mathlib.Core.List.{List, [], _∷_, _++_, append-assoc, append-nil}
+use mathlib.Core.Bool.{Bool, true, false}
+use mathlib.Core.List.{List, [], _∷_, _++_, append-assoc}
 use native.Mathlib.Omega.{arith}
 use lib.ListN.{length, take, drop, replicate, length-append, length-take, length-drop}
-use Rattle.units.proofs.Tests.{and-right}
-use Rattle.bitmap.specs.Blocks.{every, ones, allAre, range, fill}
+use Rattle.bitmap.specs.Blocks.{every, ones, allAre, fill}
 use Rattle.bitmap.proofs.Laws.{fill-left, fill-right, fill-whole}
 use Rattle.runs.specs.Runs.{Run, closed, runsFrom, runsOf, spread, Apart, total, laidOn}
 use Rattle.runs.proofs.Runs.{runs-apart, comes-back, sooner}

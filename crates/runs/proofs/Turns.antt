@@ -1,39 +1,31 @@
 -- What each step of writing and of measuring does.
 use Prim.Native.Nat.{ℕ, zero, suc, min, _+_, _-_, _*_, _/_, _≤_, _<_}
 use mathlib.Core.Path.{_≡_, refl, ap, _∙_, sym}
-use mathlib.Core.Bool.{Bool, true, false, not}
+use mathlib.Core.Bool.{Bool, true, false}
 use mathlib.Core.List.{List, [], _∷_, _++_, append-assoc, append-nil}
 use native.Mathlib.Omega.{arith}
 use borrow.Author.Tests.{ltb-true, ltb-false, leb-true, leb-false}
 use lib.Dec.{ltb, leb}
-use lib.ListN.{length, drop, take, getD, replicate, length-take, length-drop, length-append, drop-of-length-le}
+use lib.ListN.{length, drop, take, replicate, length-take, length-drop, length-append, drop-of-length-le}
 use lib.Seq.{length-sets, take-all, drop-cons, drop-drop, getD-take}
-use Rattle.units.specs.Numbers.{held, top}
+use Rattle.units.specs.Numbers.{held}
 use Rattle.units.proofs.Tests.{by-test}
 use Rattle.text.specs.Decimal.{largest}
 use Rattle.text.specs.Putting.{Put}
 use Rattle.text.proofs.Puts.{then}
-use Rattle.forms.specs.Forms.{filled, holes}
+use Rattle.forms.specs.Forms.{holes}
 use Rattle.forms.proofs.Laws.{filled-length}
-use Rattle.bitmap.specs.Blocks.{blocks, blockAt, every, range, allAre, nextOf}
+use Rattle.bitmap.specs.Blocks.{blockAt, every, range, allAre, nextOf}
 use Rattle.bitmap.specs.declared.Found.{Found}
 use Rattle.bitmap.specs.declared.Found.the-variants as found
-use Rattle.bitmap.proofs.Laws.{blocks-length, range-take, range-length, next-at, next-nothing}
+use Rattle.bitmap.proofs.Laws.{range-take, range-length, next-at, next-nothing}
 use Rattle.runs.specs.declared.NextRun.{NextRun}
 use Rattle.runs.specs.declared.NextRun.the-variants as run
-use Rattle.runs.specs.Runs.{Run, closed, runsFrom, runsOf}
+use Rattle.runs.specs.Runs.{closed, runsFrom, runsOf}
 use Rattle.runs.specs.Text.{runLine, lineOf, runsText}
 use Rattle.runs.specs.Next.{InARow, IsNext}
 use Rattle.runs.proofs.Runs.{skip-clear, count-set, closed-run}
 use Rattle.runs.proofs.Spread.{every-is, take-drop, end-clear}
-
--- ---- `blocks_within`
-
-pub all-of : (len end : ℕ) → end / 8 < len → end ≡ min end (8 * len)
-all-of len end h = omega arith
-
-pub some-of : (len end : ℕ) → len ≤ end / 8 → 8 * len ≡ min end (8 * len)
-some-of len end h = omega arith
 
 -- ---- `count_from` and `next_run`, on the first `end` of the blocks bs
 

@@ -1,11 +1,10 @@
 -- What counting the runs of a text, and laying them on a bitmap, promise.
-use Prim.Native.Nat.{ℕ, _+_, _≤_}
+use Prim.Native.Nat.{ℕ, _+_}
 use mathlib.Core.Path.{_≡_}
-use mathlib.Core.Bool.{Bool, true, _&&_}
+use mathlib.Core.Bool.{Bool, _&&_}
 use mathlib.Core.List.{List, [], _∷_}
 use lib.Dec.{leb, ltb}
 use lib.ListN.{length, drop}
-use Rattle.text.specs.Decimal.{largest}
 use Rattle.bitmap.specs.Blocks.{blocks, Outside}
 use Rattle.forms.specs.Scanning.{part, partOf}
 use Rattle.runs.specs.declared.RunLine.{RunLine}

@@ -1,13 +1,12 @@
 -- The head of a text, and the whole of it.
-use Prim.Native.Nat.{ℕ, zero, suc, _+_, _≤_, _<_}
+use Prim.Native.Nat.{ℕ, _+_, _≤_, _<_}
 use mathlib.Core.Path.{_≡_, refl, ap, _∙_, sym}
-use mathlib.Core.Bool.{Bool, true, false, cond}
+use mathlib.Core.Bool.{Bool, false}
 use mathlib.Core.List.{List, [], _∷_, _++_, append-assoc}
 use native.Mathlib.Omega.{arith}
 use borrow.Author.Tests.{lt-ltb, le-ltb}
 use lib.Dec.{ltb}
-use lib.ListN.{length, drop, getD}
-use Rattle.text.specs.Decimal.{largest}
+use lib.ListN.{drop, getD}
 use Rattle.forms.specs.Forms.{holes, filled}
 use Rattle.forms.specs.Scanning.{Part, part, none, partOf, ScannedAt}
 use Rattle.forms.specs.declared.Place.{Place}
@@ -21,7 +20,7 @@ use Rattle.save.specs.declared.Checked.the-variants as checked
 use Rattle.runs.specs.Runs.{runsOf}
 use Rattle.runs.specs.Text.{runsText}
 use Rattle.save.specs.Text.{formLine, fieldLines, fieldsOf, textOf, State, Says}
-use Rattle.save.specs.Reading.{Laid, laterPart, isLater, IsFields, NoState, Heads, Refuses, IsHead, Accepts, Checks}
+use Rattle.save.specs.Reading.{Laid, laterPart, isLater, IsFields, Heads, Refuses, IsHead, Checks}
 use Rattle.save.proofs.Text.{says-form, fields-part, fields-are, state-words, state-block}
 
 -- ---- `fields_at`

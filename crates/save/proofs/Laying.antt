@@ -1,15 +1,14 @@
 -- `runs_of`: the fields and the runs of a text make a state, or no state has them.
-use Prim.Native.Nat.{ℕ, zero, suc, _+_, _-_, _*_, _/_, _%_, _≤_, _<_}
+use Prim.Native.Nat.{ℕ, suc, _+_, _-_, _*_, _/_, _≤_}
 use mathlib.Core.Path.{_≡_, refl, ap, _∙_, sym}
-use mathlib.Core.Bool.{Bool, true, false, _&&_, not}
+use mathlib.Core.Bool.{Bool, true, false, not}
 use mathlib.Core.List.{List, [], _∷_, _++_}
 use native.Mathlib.Omega.{arith}
-use borrow.Author.Tests.{eqb-true, eq-eqb}
+use borrow.Author.Tests.{eq-eqb}
 use lib.Dec.{eqb}
-use lib.ListN.{length, take, drop, replicate}
-use Rattle.units.proofs.Tests.{and-left, and-right, refused}
-use Rattle.units.specs.Numbers.{bytesOf, blocksIn}
-use Rattle.bitmap.specs.Blocks.{every, ones, allAre}
+use lib.ListN.{length, replicate}
+use Rattle.units.proofs.Tests.{refused}
+use Rattle.bitmap.specs.Blocks.{ones, allAre}
 use Rattle.save.specs.declared.Fields.{Fields}
 use Rattle.runs.specs.declared.Counted.{Counted}
 use Rattle.runs.specs.declared.Counted.the-variants.{Blocks, Bad}

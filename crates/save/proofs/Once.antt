@@ -1,11 +1,10 @@
 -- Each promise leaves one outcome; what is written can be read; and 19 in words.
 use Prim.Native.Nat.{ℕ, _+_, _≤_, _<_}
 use mathlib.Core.Path.{_≡_, refl, ap, _∙_, sym}
-use mathlib.Core.Bool.{Bool, true, false, cond}
+use mathlib.Core.Bool.{Bool, true}
 use mathlib.Core.List.{List, [], _∷_, _++_, append-assoc}
 use native.Mathlib.Omega.{arith}
 use borrow.Author.Tests.{ltb-true, lt-ltb}
-use lib.Dec.{ltb}
 use lib.ListN.{length, drop, getD, length-drop}
 use Rattle.text.specs.Decimal.{largest, decimal}
 use Rattle.text.specs.Reading.{isDigit, digitOf}
@@ -15,18 +14,17 @@ use Rattle.forms.specs.Scanning.{Part, part, none, pushPart, holePart, bytePart
 use Rattle.forms.proofs.Parts.{part-filled, part-read}
 use Rattle.runs.specs.Runs.{runsOf}
 use Rattle.runs.specs.Text.{runsText}
-use Rattle.bitmap.specs.Blocks.{blocks}
 use Rattle.bitmap.proofs.Bytes.{blocks-tell}
 use Rattle.save.specs.declared.Fields.{Fields}
 use Rattle.save.specs.declared.Wrote.{Wrote}
-use Rattle.save.specs.declared.Wrote.the-variants.{Text, Refused}
+use Rattle.save.specs.declared.Wrote.the-variants.{Refused}
 use Rattle.save.specs.declared.Checked.{Checked}
 use Rattle.save.specs.declared.Checked.the-variants as checked
 use Rattle.save.specs.declared.Got.{Got}
 use Rattle.save.specs.declared.Got.the-variants as got
 use Rattle.save.specs.Text.{formLine, State, Says}
 use Rattle.save.specs.Writing.{Writes}
-use Rattle.save.specs.Reading.{laterPart, isLater, refusalOf, Refuses, Accepts, Checks, Holds, Takes, NotTaken, AtMost, noRoom, Reads}
+use Rattle.save.specs.Reading.{laterPart, isLater, Accepts, Checks, Holds, Takes, AtMost, noRoom, Reads}
 use Rattle.save.proofs.Text.{one-text}
 
 -- ---- one outcome

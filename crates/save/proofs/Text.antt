@@ -1,21 +1,20 @@
 -- One state has one text, and one text one state.
-use Prim.Native.Nat.{ℕ, zero, suc, _+_, _-_, _*_, _/_, _≤_, _<_}
+use Prim.Native.Nat.{ℕ, _+_, _-_, _*_, _/_, _≤_, _<_}
 use mathlib.Core.Path.{_≡_, refl, ap, _∙_, sym}
-use mathlib.Core.Bool.{Bool, true, false, _&&_}
+use mathlib.Core.Bool.{Bool, true, false}
 use mathlib.Core.List.{List, [], _∷_, _++_, append-assoc}
 use native.Mathlib.Omega.{arith}
 use borrow.Author.Tests.{eqb-true}
-use lib.Dec.{eqb}
 use lib.ListN.{length}
 use Rattle.units.proofs.Tests.{and-left, and-right}
 use Rattle.units.specs.Numbers.{bytesOf, blocksIn}
 use Rattle.text.specs.Decimal.{largest}
 use Rattle.text.specs.Reading.{isDigit, digitOf}
 use Rattle.forms.specs.Forms.{holes, filled}
-use Rattle.forms.specs.Scanning.{Part, part, none, bytePart, partOf}
+use Rattle.forms.specs.Scanning.{part, partOf}
 use Rattle.forms.proofs.Laws.{Words}
 use Rattle.forms.proofs.Parts.{opened-part, part-written}
-use Rattle.record.specs.Shape.{configShapedOf, ofConfig, shapedOf}
+use Rattle.record.specs.Shape.{configShapedOf, ofConfig}
 use Rattle.record.proofs.Laws.{Shaped, shaped-is}
 use Rattle.save.specs.declared.Fields.{Fields}
 use Rattle.bitmap.specs.Blocks.{ones, allAre}

@@ -1,23 +1,22 @@
 -- What each step of writing, and of reading onto a bitmap, does.
-use Prim.Native.Nat.{ℕ, suc, _+_, _-_, _*_, _/_, _%_, _≤_, _<_}
-use mathlib.Core.Path.{_≡_, refl, ap, _∙_, sym}
-use mathlib.Core.Bool.{Bool, true, false, cond, not, _&&_}
+use Prim.Native.Nat.{ℕ, _+_, _-_, _*_, _/_, _%_, _≤_, _<_}
+use mathlib.Core.Path.{_≡_, ap, _∙_, sym}
+use mathlib.Core.Bool.{Bool, true, false, not, _&&_}
 use mathlib.Core.List.{List, [], _∷_, _++_}
 use native.Mathlib.Omega.{arith}
-use borrow.Author.Tests.{ltb-true, ltb-false, lt-ltb, le-ltb, le-leb, lt-leb}
+use borrow.Author.Tests.{ltb-true, ltb-false, le-ltb, le-leb, lt-leb}
 use lib.Dec.{eqb, ltb, leb}
 use lib.ListN.{length, drop, take, replicate, length-take, length-append}
 use lib.Seq.{sets}
 use Rattle.units.proofs.Tests.{by-test, refused, passed}
-use Rattle.units.specs.Numbers.{held, top, bytesOf, blocksIn}
-use Rattle.text.specs.Decimal.{largest}
+use Rattle.units.specs.Numbers.{held, top}
 use Rattle.text.specs.Putting.{Put}
 use Rattle.text.proofs.Puts.{then}
 use Rattle.forms.specs.Forms.{holes, filled}
 use Rattle.forms.proofs.Laws.{Words, filled-length}
 use Rattle.bitmap.specs.Blocks.{blocks, every, allAre, ones, range, fill, Outside, Filled}
 use Rattle.bitmap.proofs.Laws.{blocks-length, range-take, range-length, ones-length, fill-left, fill-whole}
-use Rattle.runs.specs.Runs.{Run, runsOf, total, laidOn}
+use Rattle.runs.specs.Runs.{Run, runsOf, laidOn}
 use Rattle.runs.specs.Text.{runsText}
 use Rattle.runs.specs.Reading.{Lays}
 use Rattle.runs.proofs.Spread.{take-drop, runs-ones, runs-laid}
@@ -27,9 +26,9 @@ use Rattle.save.specs.declared.Wrote.{Wrote}
 use Rattle.save.specs.declared.Wrote.the-variants.{Text, Refused}
 use Rattle.save.specs.declared.Checked.{Checked}
 use Rattle.save.specs.declared.Checked.the-variants as checked
-use Rattle.save.specs.Text.{formLine, fieldLines, fieldsOf, headText, textOf, shapeOk, allOf, usedOf, validOf, State, Says}
-use Rattle.save.specs.Writing.{blocksFor, isShort, validIn, textIn, lengthOf, wroteOf, Writes}
-use Rattle.save.specs.Reading.{refusalOf, Refuses, Accepts, Checks, Holds, Takes, NotTaken, AtMost, noRoom}
+use Rattle.save.specs.Text.{formLine, fieldLines, fieldsOf, headText, textOf, shapeOk, allOf, usedOf, validOf, State}
+use Rattle.save.specs.Writing.{blocksFor, isShort, validIn, textIn, lengthOf, wroteOf}
+use Rattle.save.specs.Reading.{Refuses, Accepts, Checks, Holds, Takes, NotTaken, AtMost, noRoom}
 use Rattle.save.proofs.Text.{shape-is, in-blocks, valid-shape, state-few, state-apart, one-text}
 use Rattle.save.proofs.Heading.{not-later}
 

@@ -1,6 +1,6 @@
 -- Each promise leaves one outcome, bytes included: the number, and what stands in each lent slice.
 use Prim.Native.Nat.{ℕ, _<_}
-use mathlib.Core.Path.{_≡_, refl, ap, _∙_, sym}
+use mathlib.Core.Path.{_≡_, ap, _∙_, sym}
 use mathlib.Core.Bool.{Bool, true, false, _&&_}
 use mathlib.Core.List.{List}
 use lib.Dec.{leb}
@@ -14,7 +14,7 @@ use Rattle.save.specs.declared.Got.{Got}
 use Rattle.saving.specs.declared.Restored.{Restored}
 use Rattle.saving.proofs.Once.{restores-once}
 use Rattle.old_form.proofs.Once.{to-new-once, to-old-once}
-use Rattle.save_words.specs.Told.{fieldsOf, wroteNumber, wroteWords, WroteTold, SaveTold, restoredNumber, restoredWords, LaidOn, RestoreTold, NewIf, ToNewTold, gotNumber, gotWords, OldIf, ToOldTold}
+use Rattle.save_words.specs.Told.{fieldsOf, WroteTold, SaveTold, restoredNumber, restoredWords, LaidOn, RestoreTold, NewIf, ToNewTold, gotNumber, gotWords, OldIf, ToOldTold}
 
 pub wrote-told-once : (w : Wrote) (len us vs : List ℕ) (m n : ℕ) → WroteTold w len us m → WroteTold w len vs n → (m ≡ n) × (us ≡ vs)
 wrote-told-once w len us vs m n x y = (x .numbered ∙ sym (y .numbered), x .told ∙ sym (y .told))

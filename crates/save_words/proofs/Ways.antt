@@ -1,9 +1,7 @@
 -- The ways that a call ends in: no room, no record, a refusal, or what it gives.
 use Prim.Native.Nat.{ℕ, _≤_, _<_}
-use mathlib.Core.Path.{_≡_, refl, ap, _∙_, sym}
-use mathlib.Core.Bool.{Bool, true, false, cond, _&&_}
+use mathlib.Core.Path.{_≡_, refl, _∙_, sym}
 use mathlib.Core.List.{List, [], _∷_}
-use lib.Dec.{leb}
 use lib.ListN.{length}
 use borrow.Author.Tests.{le-leb, lt-leb}
 use Rattle.little_endian.specs.Bytes.{put}
@@ -16,13 +14,13 @@ use Rattle.save.specs.declared.Wrote.{Wrote}
 use Rattle.save.specs.declared.Wrote.the-variants.{Text, Refused}
 use Rattle.save.specs.declared.Got.{Got}
 use Rattle.save.specs.declared.Got.the-variants as got
-use Rattle.save.specs.Writing.{textIn, writtenOn}
+use Rattle.save.specs.Writing.{textIn}
 use Rattle.saving.specs.declared.Restored.{Restored}
 use Rattle.saving.specs.declared.Restored.the-variants as restored
-use Rattle.saving.specs.Saving.{fieldsIn, savedLength, savedOf, Saves}
+use Rattle.saving.specs.Saving.{fieldsIn, savedLength, Saves}
 use Rattle.saving.specs.Restoring.{Restores}
 use Rattle.old_form.specs.Moves.{ToNew, ToOld}
-use Rattle.save_words.specs.Told.{fieldsOf, fieldsWords, wroteNumber, wroteWords, WroteTold, onRecord, lengthFrom, savedFrom, textFrom, SaveTold, Laid, Foreign, LaidOn, RestoreTold, NewTold, NoRoom, NewIf, ToNewTold, OldTold, OldIf, ToOldTold}
+use Rattle.save_words.specs.Told.{fieldsOf, fieldsWords, WroteTold, onRecord, lengthFrom, savedFrom, textFrom, SaveTold, LaidOn, RestoreTold, NewIf, ToNewTold, OldIf, ToOldTold}
 
 -- ---- `tell_wrote`
 

@@ -6,6 +6,7 @@ use mathlib.Core.List.{List, [], _∷_}
 use lib.Dec.{leb}
 use lib.ListN.{length, getD}
 use Rattle.little_endian.specs.Bytes.{put}
+use Rattle.record.specs.declared.Device.{Device}
 use Rattle.words.specs.declared.Decoded.{Decoded}
 use Rattle.words.specs.declared.Decoded.the-variants.{Is, NoRecord}
 use Rattle.words.specs.Record.{wordsOf, decodedOf}
@@ -44,7 +45,7 @@ pub record WroteTold (w : Wrote) (length length′ : List ℕ) (number : ℕ) : 
   pub told : length′ ≡ wroteWords w length
 
 -- 18 where there is no room for the length, and 12 for words that are no record
-unfoldable pub onRecord : Decoded → (Rattle.record.specs.declared.Device.Device → Wrote) → Wrote
+unfoldable pub onRecord : Decoded → (Device → Wrote) → Wrote
 onRecord (Is d) call = call d
 onRecord NoRecord call = Refused 12
 
@@ -76,7 +77,7 @@ restoredWords (restored.Device d) words = put words 0 (wordsOf d)
 restoredWords (restored.Refused number) words = words
 
 -- a restore of the record in the words; the next call goes on from what they hold then
-pub record Laid (d : Rattle.record.specs.declared.Device.Device) (text words words′ bitmap bitmap′ : List ℕ) (number : ℕ) : Type 0 where
+pub record Laid (d : Device) (text words words′ bitmap bitmap′ : List ℕ) (number : ℕ) : Type 0 where
   pub answer : Restored
   pub restores : Restores d text bitmap bitmap′ answer
   pub numbered : number ≡ restoredNumber answer

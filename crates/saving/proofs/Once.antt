@@ -1,6 +1,6 @@
 -- Each promise leaves one outcome.
 use Prim.Native.Nat.{ℕ, _<_}
-use mathlib.Core.Path.{_≡_, refl, ap, _∙_, sym}
+use mathlib.Core.Path.{_≡_, ap, _∙_, sym}
 use mathlib.Core.List.{List}
 use lib.ListN.{getD}
 use Rattle.record.specs.declared.Device.{Device}

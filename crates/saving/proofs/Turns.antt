@@ -26,7 +26,7 @@ use Rattle.save.specs.Reading.{isLater, Accepts, Checks, NotTaken}
 use Rattle.record.proofs.Laws.{shaped-is}
 use Rattle.save.proofs.Text.{state-block}
 use Rattle.save.proofs.Turns.{accepts-at, refuses-at, too-short, not-read, not-fitting, laid-holds}
-use Rattle.saving.specs.Saving.{fieldsIn, entryRefusal, after, savedLength, Saves}
+use Rattle.saving.specs.Saving.{fieldsIn, entryRefusal, ifAdmitted, savedLength, Saves}
 use Rattle.saving.specs.Restoring.{fitsOn, restoredTo, Fits, TakenOn, restoreRefusal, Restoring, NotRestoring}
 
 -- ---- `entry_refusal`
@@ -48,10 +48,10 @@ module _ (d : Device) (r : Bool) (p : r ≡ shapedOf d) where
 -- ---- `save_length` and `save`
 
 module _ (d : Device) (m : List ℕ) (number : ℕ) (n : number ≡ entryRefusal d) where
-  turned-away : (w : Wrote) → (number ≡ 0 → ⊥) → Refused number ≡ after (entryRefusal d) w
+  turned-away : (w : Wrote) → (number ≡ 0 → ⊥) → Refused number ≡ ifAdmitted (entryRefusal d) w
   turned-away w z = let e = ne-eqb number 0 z in rw (← n, e)
 
-  let-in : (w r : Wrote) → number ≡ 0 → r ≡ w → r ≡ after (entryRefusal d) w
+  let-in : (w r : Wrote) → number ≡ 0 → r ≡ w → r ≡ ifAdmitted (entryRefusal d) w
   let-in w r z e = rw (← n, z) e
 
   pub not-measured : (number ≡ 0 → ⊥) → Refused number ≡ savedLength d m

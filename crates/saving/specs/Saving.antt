@@ -1,7 +1,7 @@
 -- What saving a device promises: 12, 7, 11, 18, or its text.
 use Prim.Native.Nat.{ℕ}
 use mathlib.Core.Path.{_≡_}
-use mathlib.Core.Bool.{Bool, cond, not}
+use mathlib.Core.Bool.{cond, not}
 use mathlib.Core.List.{List}
 use lib.Dec.{eqb}
 use lib.ListN.{length}
@@ -30,15 +30,15 @@ unfoldable pub entryRefusal : Device → ℕ
 entryRefusal d = cond (not (shapedOf d)) 12 (cond (not (isIdle (d .pending))) 7 0)
 
 -- a refusal of the record, or what comes after it
-abbrev pub after : (number : ℕ) → Wrote → Wrote
-after number w = cond (eqb number 0) w (Refused number)
+abbrev pub ifAdmitted : (number : ℕ) → Wrote → Wrote
+ifAdmitted number w = cond (eqb number 0) w (Refused number)
 
 abbrev pub savedLength : Device → List ℕ → Wrote
-savedLength d bitmap = after (entryRefusal d) (lengthOf (fieldsIn d) bitmap)
+savedLength d bitmap = ifAdmitted (entryRefusal d) (lengthOf (fieldsIn d) bitmap)
 
 abbrev pub savedOf : Device → List ℕ → (room : ℕ) → Wrote
-savedOf d bitmap room = after (entryRefusal d) (wroteOf (fieldsIn d) bitmap room)
+savedOf d bitmap room = ifAdmitted (entryRefusal d) (wroteOf (fieldsIn d) bitmap room)
 
-pub record Saves (d : Device) (bitmap before after′ : List ℕ) (r : Wrote) : Type 0 where
+pub record Saves (d : Device) (bitmap before after : List ℕ) (r : Wrote) : Type 0 where
   pub answer : r ≡ savedOf d bitmap (length before)
-  pub buffer : after′ ≡ writtenOn r (textIn (fieldsIn d) bitmap) before
+  pub buffer : after ≡ writtenOn r (textIn (fieldsIn d) bitmap) before
