@@ -1,5 +1,4 @@
 -- A form that was filled at the start of a text is found there with what it was filled with, and what was found there was a filled form.
--- Assumes nothing.
 use Prim.Native.Nat.{ℕ, zero, suc, _+_, _-_, _≤_, _<_}
 use mathlib.Core.Path.{_≡_, refl, sym, ap, _∙_}
 use mathlib.Core.Bool.{true, false, not, _&&_}
