@@ -1,6 +1,6 @@
 /* SPDX-License-Identifier: Apache-2.0 AND BSD-3-Clause */
 /*
- * Jambcopper, a proved virtio-mem device, for C: what target/staticlib/libcapi.a exports, to x86-64 programs.
+ * Jambcopper, a proved virtio-mem device, for C: what target/staticlib/libjambcopper.a exports, to x86-64 programs.
  *
  * The device has no memory of its own. The caller keeps, and lends to each call:
  *   - the record, JAMBCOPPER_RECORD_WORDS words;

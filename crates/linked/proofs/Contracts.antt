@@ -5,21 +5,21 @@ use denote.Ref.{now}
 use denote.Triple.Clauses.{AtExit}
 use borrow.Fn.Kinds.{Dens, resT, endedOf}
 use Rattle.making.specs.Made.{made}
-use Rattle.capi.specs.Exports.{nodeOf, MadeIn, lent}
-use Rattle.capi.proofs.jambcopper_make.Kinds.{ps as make-ps, r as make-r}
-use Rattle.capi.proofs.jambcopper_make.Reads.{Learnt as Make-learnt}
-use Rattle.capi.proofs.jambcopper_place.Kinds.{ps as place-ps, r as place-r}
-use Rattle.capi.proofs.jambcopper_place.Reads.{Learnt as Place-learnt}
-use Rattle.capi.proofs.jambcopper_set_requested_size.Kinds.{ps as size-ps, r as size-r}
-use Rattle.capi.proofs.jambcopper_set_requested_size.Reads.{Learnt as Size-learnt}
-use Rattle.capi.proofs.jambcopper_request.Kinds.{ps as request-ps, r as request-r}
-use Rattle.capi.proofs.jambcopper_request.Reads.{Learnt as Request-learnt}
-use Rattle.capi.proofs.jambcopper_host_answer.Kinds.{ps as answer-ps, r as answer-r}
-use Rattle.capi.proofs.jambcopper_host_answer.Reads.{Learnt as Answer-learnt}
-use Rattle.capi.proofs.jambcopper_read_config.Kinds.{ps as read-ps, r as read-r}
-use Rattle.capi.proofs.jambcopper_read_config.Reads.{Learnt as Read-learnt}
-use Rattle.capi.proofs.jambcopper_write_config.Kinds.{ps as write-ps, r as write-r}
-use Rattle.capi.proofs.jambcopper_write_config.Reads.{Learnt as Write-learnt}
+use Rattle.jambcopper.specs.Exports.{nodeOf, MadeIn, lent}
+use Rattle.jambcopper.proofs.jambcopper_make.Kinds.{ps as make-ps, r as make-r}
+use Rattle.jambcopper.proofs.jambcopper_make.Reads.{Learnt as Make-learnt}
+use Rattle.jambcopper.proofs.jambcopper_place.Kinds.{ps as place-ps, r as place-r}
+use Rattle.jambcopper.proofs.jambcopper_place.Reads.{Learnt as Place-learnt}
+use Rattle.jambcopper.proofs.jambcopper_set_requested_size.Kinds.{ps as size-ps, r as size-r}
+use Rattle.jambcopper.proofs.jambcopper_set_requested_size.Reads.{Learnt as Size-learnt}
+use Rattle.jambcopper.proofs.jambcopper_request.Kinds.{ps as request-ps, r as request-r}
+use Rattle.jambcopper.proofs.jambcopper_request.Reads.{Learnt as Request-learnt}
+use Rattle.jambcopper.proofs.jambcopper_host_answer.Kinds.{ps as answer-ps, r as answer-r}
+use Rattle.jambcopper.proofs.jambcopper_host_answer.Reads.{Learnt as Answer-learnt}
+use Rattle.jambcopper.proofs.jambcopper_read_config.Kinds.{ps as read-ps, r as read-r}
+use Rattle.jambcopper.proofs.jambcopper_read_config.Reads.{Learnt as Read-learnt}
+use Rattle.jambcopper.proofs.jambcopper_write_config.Kinds.{ps as write-ps, r as write-r}
+use Rattle.jambcopper.proofs.jambcopper_write_config.Reads.{Learnt as Write-learnt}
 use Rattle.linked.specs.Runs.{«jambcopper_place», «jambcopper_set_requested_size», «jambcopper_request», «jambcopper_host_answer», «jambcopper_read_config», «jambcopper_write_config», callBy, Promised}
 
 -- a are the arguments, in their order; e are the lent slices afterwards; z is what is returned

@@ -21,7 +21,7 @@ use Rattle.step.specs.Step.{tablesFit, readyRefusal, unplacedRefusal, pendingRe
 use Rattle.making.specs.Made.{made}
 use Rattle.words.specs.Record.{wordsOf, pendingOf, pendingFits, isRecord, recordOf, decodedOf}
 use Rattle.making.specs.Made.{madeNumber}
-use Rattle.capi.specs.Exports.{lent, madeWords, Called}
+use Rattle.jambcopper.specs.Exports.{lent, madeWords, Called}
 use Rattle.history.specs.History.{PlugAck, NoRequest, ackToType, ackToRequest, ackToHost, acknowledges, discardOf, reports, ifAck, unlessRefused, eventsOf, openedByType, openedByRequest, goesOn, openedBy, askedBy, openAfter, Told}
 use Rattle.history.proofs.Shaped.{clash}
 use Rattle.linked.specs.Runs.{«jambcopper_place», «jambcopper_set_requested_size», «jambcopper_request», «jambcopper_host_answer», «jambcopper_read_config»}

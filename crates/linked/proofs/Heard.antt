@@ -14,7 +14,7 @@ use Rattle.step.specs.declared.Answer.the-variants.{Refused, Wants, Sized, Unse
 use Rattle.step.specs.World.{World, Call, ReadConfig, WriteConfig}
 use Rattle.step.specs.Step.{step, readConfig, writeConfig}
 use Rattle.step.specs.Answers.{answerWords}
-use Rattle.capi.specs.Exports.{Lent}
+use Rattle.jambcopper.specs.Exports.{Lent}
 use Rattle.history.specs.History.{Open, acknowledges, reports, ifAck, unlessRefused, eventsOf, openAfter, Story, next, after, begun}
 use Rattle.linked.specs.Runs.{Function, «jambcopper_place», «jambcopper_set_requested_size», «jambcopper_request», «jambcopper_host_answer», «jambcopper_read_config», «jambcopper_write_config»}
 use Rattle.linked.specs.Runs.{Use, callBy, callOf, Held, leaves, Run, callsOf, first, Means}

@@ -22,7 +22,7 @@ use Rattle.making.specs.Made.{nodeNumber, requestedBad, made, madeNumber}
 use Rattle.words.specs.declared.Decoded.the-variants.{Is}
 use Rattle.words.specs.Record.{wordsOf, decodedOf}
 use Rattle.words.proofs.Laws.{encoded-decodes}
-use Rattle.capi.specs.Exports.{nodeOf, madeWords}
+use Rattle.jambcopper.specs.Exports.{nodeOf, madeWords}
 use Rattle.history.specs.History.{Story, next, after, Fresh, begun}
 use Rattle.history.specs.Reached.{Reached, from-making}
 use Rattle.history.proofs.Cases.{by-cond}

@@ -16,7 +16,7 @@ use Rattle.words.specs.declared.Decoded.the-variants.{Is, NoRecord}
 use Rattle.words.specs.Record.{wordsOf, decodedOf}
 use Rattle.words.proofs.Laws.{decoded-encodes}
 use Rattle.little_endian.specs.Bytes.{put}
-use Rattle.capi.specs.Exports.{Lent, Called}
+use Rattle.jambcopper.specs.Exports.{Lent, Called}
 use Rattle.history.specs.Refusals.{lentBytes}
 use Rattle.history.proofs.Shaped.{clash}
 use Rattle.history.proofs.Refusals.{refused-changes-nothing}

@@ -17,7 +17,7 @@ use Rattle.words.specs.declared.Decoded.the-variants.{Is}
 use Rattle.words.specs.Record.{decodedOf}
 use Rattle.words.proofs.Laws.{decoded-fits}
 use Rattle.step.specs.Answers.{answerWords, numberOf}
-use Rattle.capi.specs.Exports.{Lent, Told as Kept, Called}
+use Rattle.jambcopper.specs.Exports.{Lent, Told as Kept, Called}
 use Rattle.history.specs.Rules.{isPlace}
 use Rattle.history.proofs.Shaped.{clash}
 use Rattle.linked.specs.Runs.{Function, «jambcopper_place», «jambcopper_set_requested_size», «jambcopper_request», «jambcopper_host_answer», «jambcopper_read_config», «jambcopper_write_config»}

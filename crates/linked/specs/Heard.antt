@@ -9,7 +9,7 @@ use Rattle.record.specs.declared.HostCall.the-variants.{Create, Discard}
 use Rattle.step.specs.declared.Answer.{Answer}
 use Rattle.step.specs.declared.Answer.the-variants.{Refused, Wants, Sized, Unserved, Served, Done}
 use Rattle.words.specs.Record.{word}
-use Rattle.capi.specs.Exports.{Lent}
+use Rattle.jambcopper.specs.Exports.{Lent}
 use Rattle.history.specs.History.{Event, Open, NoRequest, eventsOf, openAfter, Told}
 use Rattle.linked.specs.Runs.{Function, «jambcopper_place», «jambcopper_set_requested_size», «jambcopper_request», «jambcopper_host_answer», «jambcopper_read_config», «jambcopper_write_config», Use, callOf, Held, leaves, Run, heldAfter, first, inHand, Making, Makes}
 

@@ -18,7 +18,7 @@ use Rattle.making.specs.Made.{made}
 use Rattle.words.specs.declared.Decoded.the-variants.{Is}
 use Rattle.words.specs.Record.{recordOf, decodedOf}
 use Rattle.step.specs.Answers.{answerWords, numberOf}
-use Rattle.capi.specs.Exports.{nodeOf, MadeIn, Lent, Exported}
+use Rattle.jambcopper.specs.Exports.{nodeOf, MadeIn, Lent, Exported}
 use Rattle.history.specs.History.{Story, after, begun, Told}
 
 -- ---- one call

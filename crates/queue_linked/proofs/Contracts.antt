@@ -3,14 +3,14 @@ use contract.Lifetimes.{Lfts}
 use denote.Ref.{now}
 use denote.Triple.Clauses.{AtExit}
 use borrow.Fn.Kinds.{Dens, resT, endedOf}
-use Rattle.capi.specs.Exports.{lent}
-use Rattle.capi.specs.Queue.{newQueue, QueueMadeIn, queueLent}
-use Rattle.capi.proofs.jambcopper_queue_make.Kinds.{ps as make-ps, r as make-r}
-use Rattle.capi.proofs.jambcopper_queue_make.Reads.{Learnt as Make-learnt}
-use Rattle.capi.proofs.jambcopper_serve.Kinds.{ps as serve-ps, r as serve-r}
-use Rattle.capi.proofs.jambcopper_serve.Reads.{Learnt as Serve-learnt}
-use Rattle.capi.proofs.jambcopper_serve_answer.Kinds.{ps as answer-ps, r as answer-r}
-use Rattle.capi.proofs.jambcopper_serve_answer.Reads.{Learnt as Answer-learnt}
+use Rattle.jambcopper.specs.Exports.{lent}
+use Rattle.jambcopper.specs.Queue.{newQueue, QueueMadeIn, queueLent}
+use Rattle.jambcopper.proofs.jambcopper_queue_make.Kinds.{ps as make-ps, r as make-r}
+use Rattle.jambcopper.proofs.jambcopper_queue_make.Reads.{Learnt as Make-learnt}
+use Rattle.jambcopper.proofs.jambcopper_serve.Kinds.{ps as serve-ps, r as serve-r}
+use Rattle.jambcopper.proofs.jambcopper_serve.Reads.{Learnt as Serve-learnt}
+use Rattle.jambcopper.proofs.jambcopper_serve_answer.Kinds.{ps as answer-ps, r as answer-r}
+use Rattle.jambcopper.proofs.jambcopper_serve_answer.Reads.{Learnt as Answer-learnt}
 use Rattle.queue_runs.specs.Runs.{TakeNext, Host, queueStep}
 use Rattle.queue_linked.specs.Runs.{OnQueue}
 

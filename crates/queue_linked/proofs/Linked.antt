@@ -18,8 +18,8 @@ use Rattle.step.specs.Answers.{answerWords, numberOf}
 use Rattle.queue_words.specs.declared.DecodedQueue.the-variants.{Is as IsQueue}
 use Rattle.queue_words.specs.Words.{queueWords, isQueue, decodedQueueOf}
 use Rattle.queue_words.proofs.Laws.{encoded-decodes}
-use Rattle.capi.specs.Exports.{Lent}
-use Rattle.capi.specs.Queue.{QueueLent}
+use Rattle.jambcopper.specs.Exports.{Lent}
+use Rattle.jambcopper.specs.Queue.{QueueLent}
 use Rattle.history.specs.History.{begun}
 use Rattle.history.specs.Reached.{from-making}
 use Rattle.linked.specs.Runs.{callBy as deviceCallBy, leaves, Making, Makes, Means, inHand}

@@ -22,7 +22,7 @@ use Rattle.queue_words.specs.declared.DecodedQueue.{DecodedQueue}
 use Rattle.queue_words.specs.declared.DecodedQueue.the-variants.{Is as IsQueue, NoQueue}
 use Rattle.queue_words.specs.Words.{queueWords, decodedQueueOf}
 use Rattle.queue_words.proofs.Laws.{decoded-encodes as queue-encodes}
-use Rattle.capi.specs.Queue.{QueueLent, QueueForeign, QueueCalled}
+use Rattle.jambcopper.specs.Queue.{QueueLent, QueueForeign, QueueCalled}
 use Rattle.history.proofs.Shaped.{clash}
 use Rattle.linked.proofs.Refused.{refused-with}
 use Rattle.queue_runs.specs.Runs.{QueueCall, TakeNext, Host, PastIt, queueStep, lentTo}

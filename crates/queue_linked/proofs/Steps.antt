@@ -29,8 +29,8 @@ use Rattle.queue.specs.declared.QueueAnswer.the-variants.{Of}
 use Rattle.queue.specs.Queue.{QueueOutcome, queueOk, takingRefusal, nextUnless, nextOf, takes, outRefusal, answerRefusal, answers, unlessRefused, queueAnswerWords, queueNumberOf}
 use Rattle.queue_words.specs.declared.DecodedQueue.the-variants.{Is as IsQueue}
 use Rattle.queue_words.specs.Words.{decodedQueueOf}
-use Rattle.capi.specs.Exports.{Lent}
-use Rattle.capi.specs.Queue.{QueueLent, QueueTold, QueueCalled}
+use Rattle.jambcopper.specs.Exports.{Lent}
+use Rattle.jambcopper.specs.Queue.{QueueLent, QueueTold, QueueCalled}
 use Rattle.history.specs.Rules.{isPlace}
 use Rattle.history.proofs.Shaped.{clash}
 use Rattle.linked.specs.Runs.{Held, inUse, holding, Means}

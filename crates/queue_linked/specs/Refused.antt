@@ -2,7 +2,7 @@
 use Prim.Native.Nat.{ℕ}
 use mathlib.Core.Path.{_≡_}
 use mathlib.Core.Bool.{Bool, true}
-use Rattle.capi.specs.Queue.{QueueLent}
+use Rattle.jambcopper.specs.Queue.{QueueLent}
 use Rattle.linked.specs.Refused.{AreBytes}
 use Rattle.queue_runs.specs.Runs.{QueueCall, lentTo}
 use Rattle.queue_runs.specs.Standard.{onGuest}

@@ -14,8 +14,8 @@ use Rattle.making.specs.declared.Made.the-variants.{Device as MadeDevice}
 use Rattle.queue.specs.Queue.{queueAnswerWords, queueNumberOf}
 use Rattle.queue_words.specs.declared.DecodedQueue.the-variants.{Is as IsQueue}
 use Rattle.queue_words.specs.Words.{decodedQueueOf}
-use Rattle.capi.specs.Exports.{Lent}
-use Rattle.capi.specs.Queue.{newQueue, QueueMadeIn, QueueLent, QueueExported}
+use Rattle.jambcopper.specs.Exports.{Lent}
+use Rattle.jambcopper.specs.Queue.{newQueue, QueueMadeIn, QueueLent, QueueExported}
 use Rattle.history.specs.History.{begun, Told}
 use Rattle.linked.specs.Runs.{Function, «jambcopper_place» as place, «jambcopper_set_requested_size» as resize, «jambcopper_read_config» as read, «jambcopper_write_config» as write, Use, Promised, Held, inUse, Lends, holding, leaves, Making, madeBy, Makes, first, Means, inHand}
 use Rattle.queue_runs.specs.Runs.{Beside, Placing, Sizing, Reading, Writing, QueueCall, TakeNext, Host, PastIt, queueStep, QueueStory, afterAll, opened}

@@ -4,8 +4,8 @@ use denote.Ref.{now}
 use denote.Triple.Clauses.{AtExit}
 use borrow.Fn.Kinds.{Dens, resT, endedOf}
 use Rattle.save_words.specs.Told.{RestoreTold}
-use Rattle.capi.proofs.jambcopper_restore.Kinds.{ps as restore-ps, r as restore-r}
-use Rattle.capi.proofs.jambcopper_restore.Reads.{Learnt as Restore-learnt}
+use Rattle.jambcopper.proofs.jambcopper_restore.Kinds.{ps as restore-ps, r as restore-r}
+use Rattle.jambcopper.proofs.jambcopper_restore.Reads.{Learnt as Restore-learnt}
 
 -- a are the arguments, in their order; e are the lent slices afterwards; z is what is returned
 pub restore-promises : (κs : Lfts 3) (a : Dens κs restore-ps) (z : resT restore-r κs .Denot) (e : AtExit (endedOf 3 restore-ps restore-r) κs) → Restore-learnt κs a z e

@@ -24,7 +24,7 @@ use Rattle.words.specs.Record.{wordsOf, decodedOf, afterRequest, afterAnswer}
 use Rattle.step.specs.Answers.{answerWords, numberOf}
 use Rattle.words.proofs.Laws.{decoded-encodes, decoded-long, request-encodes, answer-encodes}
 use Rattle.making.specs.Made.{madeNumber}
-use Rattle.capi.specs.Exports.{madeWords, MadeIn, lent, Called, Exported}
+use Rattle.jambcopper.specs.Exports.{madeWords, MadeIn, lent, Called, Exported}
 
 -- what the device's call promises, written out as words, is what the export promises
 pub served : (call : Device → Outcome) (words : List ℕ) (r : Decoded) → r ≡ decodedOf words → (d : Device) → r ≡ Is d

@@ -18,7 +18,7 @@ use Rattle.words.specs.Record.{wordsOf, decodedOf}
 use Rattle.queue_words.specs.declared.DecodedQueue.{DecodedQueue}
 use Rattle.queue_words.specs.declared.DecodedQueue.the-variants.{Is as IsQueue, NoQueue}
 use Rattle.queue_words.specs.Words.{queueWords, decodedQueueOf}
-use Rattle.capi.specs.Exports.{Lent, Foreign}
+use Rattle.jambcopper.specs.Exports.{Lent, Foreign}
 
 -- ---- making
 -- a queue of which nothing is taken yet

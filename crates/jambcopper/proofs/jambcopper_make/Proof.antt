@@ -1,11 +1,11 @@
--- `capi::jambcopper_make` meets its contract: 12 where there is no room, else what was made. Assumes nothing.
+-- `jambcopper::jambcopper_make` meets its contract: 12 where there is no room, else what was made. Assumes nothing.
 use mathlib.Core.Path.{ap, _∙_}
 use Rattle.making.specs.declared.Node.{Node}
 use Rattle.making.specs.Made.{made}
-use Rattle.capi.proofs.Ways.{no-room, made-refused, made-device}
+use Rattle.jambcopper.proofs.Ways.{no-room, made-refused, made-device}
 use borrow.Author.Needs.{needs}
-use Rattle.capi.proofs.jambcopper_make.Statement.{statement}
-use Rattle.capi.proofs.jambcopper_make.Tie as tie
+use Rattle.jambcopper.proofs.jambcopper_make.Statement.{statement}
+use Rattle.jambcopper.proofs.jambcopper_make.Tie as tie
 
 returns : tie.Need-returns
 returns c = no-room _ _ (c .if1 .taken)

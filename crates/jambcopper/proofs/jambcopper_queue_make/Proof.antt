@@ -1,8 +1,8 @@
--- `capi::jambcopper_queue_make` meets its contract: 12 where there is no room, else the words of a new queue. Assumes nothing.
-use Rattle.capi.proofs.QueueWays.{no-queue-room, queue-made}
+-- `jambcopper::jambcopper_queue_make` meets its contract: 12 where there is no room, else the words of a new queue. Assumes nothing.
+use Rattle.jambcopper.proofs.QueueWays.{no-queue-room, queue-made}
 use borrow.Author.Needs.{needs}
-use Rattle.capi.proofs.jambcopper_queue_make.Statement.{statement}
-use Rattle.capi.proofs.jambcopper_queue_make.Tie as tie
+use Rattle.jambcopper.proofs.jambcopper_queue_make.Statement.{statement}
+use Rattle.jambcopper.proofs.jambcopper_queue_make.Tie as tie
 
 returns : tie.Need-returns
 returns c = no-queue-room _ _ (c .if1 .taken)

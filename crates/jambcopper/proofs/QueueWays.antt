@@ -28,8 +28,8 @@ use Rattle.queue_words.specs.declared.DecodedQueue.{DecodedQueue}
 use Rattle.queue_words.specs.declared.DecodedQueue.the-variants.{Is as IsQueue, NoQueue}
 use Rattle.queue_words.specs.Words.{queueWords, decodedQueueOf, endingWords}
 use Rattle.queue_words.proofs.Laws.{decoded-long as queue-long, decoded-encodes as queue-encodes, ending-told}
-use Rattle.capi.specs.Exports.{lent, Told, Called, Exported}
-use Rattle.capi.specs.Queue.{QueueMadeIn, queueLent, QueueCalled, QueueExported}
+use Rattle.jambcopper.specs.Exports.{lent, Told, Called, Exported}
+use Rattle.jambcopper.specs.Queue.{QueueMadeIn, queueLent, QueueCalled, QueueExported}
 
 -- ---- an answer's nine words
 nine : (a : Answer) → length (answerWords a) ≡ 9

@@ -15,8 +15,8 @@ use Rattle.words.specs.Record.{decodedOf}
 use Rattle.queue_words.specs.declared.DecodedQueue.{DecodedQueue}
 use Rattle.queue_words.specs.declared.DecodedQueue.the-variants.{Is as IsQueue, NoQueue}
 use Rattle.queue_words.specs.Words.{decodedQueueOf}
-use Rattle.capi.specs.Exports.{MadeIn, Lent, lent, Told, Foreign, Called, Exported}
-use Rattle.capi.specs.Queue.{QueueMadeIn, QueueLent, queueLent, QueueTold, QueueForeign, QueueCalled, QueueExported}
+use Rattle.jambcopper.specs.Exports.{MadeIn, Lent, lent, Told, Foreign, Called, Exported}
+use Rattle.jambcopper.specs.Queue.{QueueMadeIn, QueueLent, queueLent, QueueTold, QueueForeign, QueueCalled, QueueExported}
 
 pub made-in-once : (words : List ℕ) (m : Made) (n n′ : ℕ) (words′ words″ : List ℕ) → MadeIn words m n words′ → MadeIn words m n′ words″ → (n ≡ n′) × (words′ ≡ words″)
 made-in-once words m n n′ words′ words″ p q = (p .numbered ∙ sym (q .numbered), p .recorded ∙ sym (q .recorded))

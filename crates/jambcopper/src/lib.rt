@@ -57,8 +57,8 @@ ghost use Rattle.queue.specs.Queue.{serveNext, hostAnswers};
 ghost use Rattle.driver.specs.Text.{Wrote};
 ghost use Rattle.driver_words.specs.Told.{ResponseTold, ConfigTold, PlanTold};
 ghost use Rattle.save_words.specs.Told.{lengthFrom, WroteTold, SaveTold, RestoreTold, ToNewTold, ToOldTold};
-ghost use Rattle.capi.specs.Exports.{nodeOf, MadeIn, lent, Exported};
-ghost use Rattle.capi.specs.Queue.{newQueue, QueueMadeIn, queueLent, QueueExported};
+ghost use Rattle.jambcopper.specs.Exports.{nodeOf, MadeIn, lent, Exported};
+ghost use Rattle.jambcopper.specs.Queue.{newQueue, QueueMadeIn, queueLent, QueueExported};
 
 // The node of a device, as the enum of its constructor has it.
 fn node_of(node_given: bool, node: u16) -> Node

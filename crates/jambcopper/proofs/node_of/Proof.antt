@@ -1,7 +1,7 @@
--- `capi::node_of` meets its contract. Assumes nothing.
+-- `jambcopper::node_of` meets its contract. Assumes nothing.
 use borrow.Author.Needs.{needs}
-use Rattle.capi.proofs.node_of.Statement.{statement}
-use Rattle.capi.proofs.node_of.Tie as tie
+use Rattle.jambcopper.proofs.node_of.Statement.{statement}
+use Rattle.jambcopper.proofs.node_of.Tie as tie
 
 returns : tie.Need-returns
 returns c = rw (c .if1 .taken)

@@ -1,12 +1,12 @@
--- `capi::jambcopper_serve` meets its contract: 12 where there is no record, or no queue; no head that is taken; or the device's request, and the head by its answer. Assumes nothing.
+-- `jambcopper::jambcopper_serve` meets its contract: 12 where there is no record, or no queue; no head that is taken; or the device's request, and the head by its answer. Assumes nothing.
 use native.Mathlib.Omega.{arith}
 use mathlib.Core.Path.{refl}
 use Rattle.step.proofs.Lengths.{served-short}
 use Rattle.queue.proofs.Turns.{told-as, walk-as}
-use Rattle.capi.proofs.QueueWays.{no-record, no-queue, unmoved-told, about-told}
+use Rattle.jambcopper.proofs.QueueWays.{no-record, no-queue, unmoved-told, about-told}
 use borrow.Author.Needs.{needs}
-use Rattle.capi.proofs.jambcopper_serve.Statement.{statement}
-use Rattle.capi.proofs.jambcopper_serve.Tie as tie
+use Rattle.jambcopper.proofs.jambcopper_serve.Statement.{statement}
+use Rattle.jambcopper.proofs.jambcopper_serve.Tie as tie
 
 decode-requires : tie.Need-decode-requires
 decode-requires c κs = search needs

@@ -1,14 +1,14 @@
--- `capi::jambcopper_serve_answer` meets its contract: 12 where there is no record, or no queue; a number of the queue's; or the device's answer, and the head that is out by it. Assumes nothing.
+-- `jambcopper::jambcopper_serve_answer` meets its contract: 12 where there is no record, or no queue; a number of the queue's; or the device's answer, and the head that is out by it. Assumes nothing.
 use native.Mathlib.Omega.{arith}
 use mathlib.Core.Path.{refl}
 use borrow.Author.Tests.{eq-eqb, ne-eqb}
 use Rattle.step.proofs.Lengths.{answered-short}
 use Rattle.queue.specs.Queue.{answers}
 use Rattle.queue.proofs.Turns.{refused-as, heard-as}
-use Rattle.capi.proofs.QueueWays.{no-record, no-queue, unmoved-told, aside-told, about-told}
+use Rattle.jambcopper.proofs.QueueWays.{no-record, no-queue, unmoved-told, aside-told, about-told}
 use borrow.Author.Needs.{needs}
-use Rattle.capi.proofs.jambcopper_serve_answer.Statement.{statement}
-use Rattle.capi.proofs.jambcopper_serve_answer.Tie as tie
+use Rattle.jambcopper.proofs.jambcopper_serve_answer.Statement.{statement}
+use Rattle.jambcopper.proofs.jambcopper_serve_answer.Tie as tie
 
 decode-requires : tie.Need-decode-requires
 decode-requires c κs = search needs
