@@ -49,7 +49,7 @@ pub record Entered (d : Device) (blocks rows : ℕ) (quiet : Bool) : Type 0 wher
   pub is-shaped : Parts d
   pub is-idle : isIdle (d .pending) ≡ quiet
   pub is-long : blocksIn (d .config .«block_size») (d .config .«region_size») ≤ blocks
-  pub has-rows : mapRegions (d .config .«region_size») (d .«multi_region») ≤ rows
+  pub has-rows : mapRegions (d .config .«region_size») (d .several) ≤ rows
 
 entered : (d : Device) (blocks rows : ℕ) (quiet : Bool) → shapedOf d ≡ true → isIdle (d .pending) ≡ quiet → tablesFit d blocks rows ≡ true → Entered d blocks rows quiet
 unfolding tablesFit

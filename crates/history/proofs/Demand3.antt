@@ -26,7 +26,7 @@ use Rattle.history.proofs.Calls.{Endings, each-call}
 use Rattle.history.proofs.KeepsShape.{is-shaped}
 
 -- a pending unplug lies in the region
-pub discard-ends : (w : World) (f c : ℕ) (status : GuestAddr) → pendingOk (Discard f c status) (blockSize w) (region w) (w .device .«multi_region») (plugged w) ≡ true → f + c ≤ regionBlocks w
+pub discard-ends : (w : World) (f c : ℕ) (status : GuestAddr) → pendingOk (Discard f c status) (blockSize w) (region w) (w .device .several) (plugged w) ≡ true → f + c ≤ regionBlocks w
 unfolding pendingOk
 discard-ends w f c status e = leb-true (f + c) (regionBlocks w) (and-left _ _ e)
 

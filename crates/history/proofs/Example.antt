@@ -40,7 +40,7 @@ device =
         «requested_size» = 16777216;
       };
       alignment = 134217728;
-      «multi_region» = false;
+      several = false;
       «avail_features» = 4294967296;
       placed = false;
       pending = Nothing;

@@ -43,9 +43,9 @@ block-is d s = eqb-true (d .config .«block_size») 4194304 (s .block)
 -- another start, other sizes and another pending call, each of the shape
 module _ (d : Device) (s : Parts d) where
   pub reshaped : (at u n r : ℕ) (pl : Bool) (p : Pending)
-      → startOk at (d .config .«region_size») (d .«multi_region») (d .alignment) ≡ true
+      → startOk at (d .config .«region_size») (d .several) (d .alignment) ≡ true
       → sizesOk (d .config) u ≡ true → sizesOk (d .config) n ≡ true → sizesOk (d .config) r ≡ true
-      → pendingOk p (d .config .«block_size») (d .config .«region_size») (d .«multi_region») n ≡ true
+      → pendingOk p (d .config .«block_size») (d .config .«region_size») (d .several) n ≡ true
       → Parts (deviceWith d (configWith (d .config) at u n r) pl p)
   reshaped at u n r pl p start-fits u-fits n-fits r-fits p-fits =
       record {
@@ -60,7 +60,7 @@ module _ (d : Device) (s : Parts d) where
       }
 
   -- another pending call alone
-  pub awaiting : (p : Pending) → pendingOk p (d .config .«block_size») (d .config .«region_size») (d .«multi_region») (d .config .«plugged_size») ≡ true → Parts (pendingTo p d)
+  pub awaiting : (p : Pending) → pendingOk p (d .config .«block_size») (d .config .«region_size») (d .several) (d .config .«plugged_size») ≡ true → Parts (pendingTo p d)
   awaiting p p-fits = reshaped _ _ _ _ (d .placed) p (s .start) (s .usable) (s .plugged) (s .requested) p-fits
 
 -- idle is: nothing is pending

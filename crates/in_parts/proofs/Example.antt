@@ -40,7 +40,7 @@ device requested =
           «requested_size» = requested;
         };
         alignment = 134217728;
-        «multi_region» = false;
+        several = false;
         «avail_features» = 4294967296;
         placed = true;
         pending = Nothing;

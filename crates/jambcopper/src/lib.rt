@@ -77,18 +77,18 @@ pub extern "C" fn jambcopper_make(
     words: &mut [u64],
     capacity_mib: u64,
     requested_mib: u64,
-    multi_region: bool,
+    several: bool,
     node_given: bool,
     node: u16,
     boot: u64,
 ) -> u64
-    ensures { λ r. ⌜ MadeIn (now (words .entry)) (made «capacity_mib» «requested_mib» «multi_region» (nodeOf «node_given» node) boot) r (now (words .exit)) ⌝ }
+    ensures { λ r. ⌜ MadeIn (now (words .entry)) (made «capacity_mib» «requested_mib» several (nodeOf «node_given» node) boot) r (now (words .exit)) ⌝ }
 {
     if words.len() < RECORD_WORDS {
         return 12;
     }
     let which = node_of(node_given, node);
-    match Mem::new(capacity_mib, requested_mib, multi_region, which, boot) {
+    match Mem::new(capacity_mib, requested_mib, several, which, boot) {
         Made::Refused(number) => number,
         Made::Device(d) => {
             encode(d, words);

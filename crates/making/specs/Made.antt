@@ -28,7 +28,7 @@ newDevice region requested alignment several node =
     record {
       config = newConfig 4194304 (nodeNumber node) region requested;
       alignment = alignment;
-      «multi_region» = several && ltb mapRegion region;
+      several = several && ltb mapRegion region;
       «avail_features» = featuresOf (isGiven node);
       placed = false;
       pending = Nothing;

@@ -74,7 +74,7 @@ fn new_device(region: u64, requested: u64, alignment: u64, several: bool, node: 
     Device {
         config: config,
         alignment: alignment,
-        multi_region: several & (MemTool::MAP_REGION_SIZE < region),
+        several: several & (MemTool::MAP_REGION_SIZE < region),
         avail_features: features(is_given(node)),
         placed: false,
         pending: pending,
@@ -89,11 +89,11 @@ impl Mem {
     pub fn new(
         capacity_mib: u64,
         requested_mib: u64,
-        multi_region: bool,
+        several: bool,
         node: Node,
         boot: u64,
     ) -> Made
-        ensures { λ r. ⌜ MadeAs (made «capacity_mib» «requested_mib» «multi_region» node boot) r ⌝ }
+        ensures { λ r. ⌜ MadeAs (made «capacity_mib» «requested_mib» several node boot) r ⌝ }
     {
         if MAX_CAPACITY_MIB < capacity_mib {
             return Made::Refused(2);
@@ -110,7 +110,7 @@ impl Mem {
             region,
             requested_mib * MemTool::MIB,
             alignment,
-            multi_region,
+            several,
             node,
         );
         Made::Device(device)

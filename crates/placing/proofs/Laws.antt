@@ -50,14 +50,14 @@ resizes-meets (Asks i last size) w s bm tb tb′ e m n =
     record { answered = ap (λ s. s .answer) e; told = ap (λ s. answerWords (s .answer)) e; recorded = ap (λ s. s .device) e; marked = m; mapped = n; left = refl }
 
 -- the map region of a creation starts at or below 2^64 - 1
-pub asked-within : (d : Device) → shapedOf d ≡ true → (usable new : ℕ) (rows : List MapRow) (i last size : ℕ) → growthOf (d .config .«region_size») (d .«multi_region») usable new rows ≡ Asks i last size → d .config .addr .0 + i * mapRegion ≤ top
+pub asked-within : (d : Device) → shapedOf d ≡ true → (usable new : ℕ) (rows : List MapRow) (i last size : ℕ) → growthOf (d .config .«region_size») (d .several) usable new rows ≡ Asks i last size → d .config .addr .0 + i * mapRegion ≤ top
 asked-within d e usable new rows i last size g =
     let region = d .config .«region_size» in
     let s = shaped-is d e in
-    let a = asking region (d .«multi_region») usable new rows i last size g in
+    let a = asking region (d .several) usable new rows i last size g in
     let f = a .search in
-    let p = span-several region (d .«multi_region») (rw (a .regions)) in
-    let m : mapRegions region (d .«multi_region») ≡ mapRegions region true = rw (a .regions) in
+    let p = span-several region (d .several) (rw (a .regions)) in
+    let m : mapRegions region (d .several) ≡ mapRegions region true = rw (a .regions) in
     omega (arith, s .start-span, s .rows-some, a .ends, f .to, p)
 
 -- ---- placing: what is asked first, of several regions and of a single one

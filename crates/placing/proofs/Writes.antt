@@ -23,12 +23,12 @@ use Rattle.step.specs.Step.{unless, place, placed, placing}
 use Rattle.placing.specs.Placing.{rangeRefusal}
 use Rattle.placing.proofs.Laws.{resizes-meets, placing-several, placing-single}
 
-pub start-good : (d : Device) (start size n : ℕ) → rangeRefusal d start size n ≡ 0 → startOk start (d .config .«region_size») (d .«multi_region») (d .alignment) ≡ true
+pub start-good : (d : Device) (start size n : ℕ) → rangeRefusal d start size n ≡ 0 → startOk start (d .config .«region_size») (d .several) (d .alignment) ≡ true
 unfolding rangeRefusal
 start-good d start size n e =
     let region = d .config .«region_size» in
-    by-test (startOk start region (d .«multi_region») (d .alignment)) (λ u. u)
-    (λ u. by-test (eqb n (mapRegions region (d .«multi_region»)) && eqb size region)
+    by-test (startOk start region (d .several) (d .alignment)) (λ u. u)
+    (λ u. by-test (eqb n (mapRegions region (d .several)) && eqb size region)
     (λ t. let z : 4 ≡ 0 = rw (t, u) at e in absurd (omega arith))
     (λ t. let z : 3 ≡ 0 = rw t at e in absurd (omega arith)))
 
@@ -37,8 +37,8 @@ module _ (d : Device) (bm tb : List ℕ) (start size : ℕ) (slots : List ℕ) w
   unfolding place rangeRefusal unless
   ranged =
       let region = d .config .«region_size» in
-      by-test (eqb (length slots) (mapRegions region (d .«multi_region»)) && eqb size region)
-      (λ t. by-test (startOk start region (d .«multi_region») (d .alignment)) (λ u. rw (t, u)) (λ u. rw (t, u)))
+      by-test (eqb (length slots) (mapRegions region (d .several)) && eqb size region)
+      (λ t. by-test (startOk start region (d .several) (d .alignment)) (λ u. rw (t, u)) (λ u. rw (t, u)))
       (λ t. rw t)
 
 module _ (d : Device) (bm tb : List ℕ) (start : ℕ) (slots : List ℕ) where
@@ -50,7 +50,7 @@ module _ (d : Device) (bm tb : List ℕ) (start : ℕ) (slots : List ℕ) where
       let back : rowsOf tb′ ≡ rows = rw m (read-back tb rows (laid-length (rowsOf tb) slots)) in
       let told : s ≡ answeredBy (placing w0) = rw back at a in
       let marked : blocks bm′ ≡ w .blocks = rw (← shaped-is d e .block-size) at (f .as-blocks) in
-      by-test (d .«multi_region»)
+      by-test (d .several)
       (λ t. rw (placing-several w t) (resizes-meets _ w s bm′ tb tb′ (told ∙ ap answeredBy (placing-several w0 t)) marked m))
       (λ t.
       let r = told ∙ ap answeredBy (placing-single w0 t) in

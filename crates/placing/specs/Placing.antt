@@ -10,5 +10,5 @@ use Rattle.record.specs.Shape.{startOk}
 unfoldable pub rangeRefusal : Device → (start size slots : ℕ) → ℕ
 rangeRefusal d start size slots =
     let region = d .config .«region_size» in
-    cond (not (eqb slots (mapRegions region (d .«multi_region»)) && eqb size region)) 3
-    (cond (not (startOk start region (d .«multi_region») (d .alignment))) 4 0)
+    cond (not (eqb slots (mapRegions region (d .several)) && eqb size region)) 3
+    (cond (not (startOk start region (d .several) (d .alignment))) 4 0)

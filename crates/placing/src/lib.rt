@@ -68,7 +68,7 @@ fn resize(d: Device, table: &[u64]) -> Answered
     let new = new_size(region, config.requested_size, d.alignment);
     let growth = growth_of(
         region,
-        d.multi_region,
+        d.several,
         config.usable_region_size,
         new,
         table,
@@ -110,7 +110,7 @@ fn range_refusal(d: Device, start: GuestAddr, size: u64, slots: u64) -> u64
     ensures { λ r. ⌜ r ≡ rangeRefusal d (start .0) size slots ⌝ }
 {
     let region = d.config.region_size;
-    let several = d.multi_region;
+    let several = d.several;
     if !((slots == map_regions(region, several)) & (size == region)) {
         return 3;
     }
@@ -126,7 +126,7 @@ fn ask_placing(d: Device, table: &[u64]) -> Answered
     requires { ⌜ shapedOf d ≡ true ⌝ }
     ensures { λ r. ⌜ r ≡ answeredBy (placing (worldOf d [] (now (table .entry)))) ⌝ }
 {
-    if d.multi_region {
+    if d.several {
         return resize(d, table);
     }
     ask_creation(d, table, 0, 0, d.config.region_size)

@@ -75,9 +75,9 @@ pub record Parts (d : Device) : Type 0 where
   pub requested : sizeOk (d .config .«block_size») (d .config .«requested_size») (d .config .«region_size») ≡ true
   pub usable : sizeOk (d .config .«block_size») (d .config .«usable_region_size») (d .config .«region_size») ≡ true
   pub plugged : sizeOk (d .config .«block_size») (d .config .«plugged_size») (d .config .«region_size») ≡ true
-  pub start : startOk (d .config .addr .0) (d .config .«region_size») (d .«multi_region») (d .alignment) ≡ true
-  pub several : severalOk (d .«multi_region») (d .config .«region_size») ≡ true
-  pub pending : pendingOk (d .pending) (d .config .«block_size») (d .config .«region_size») (d .«multi_region») (d .config .«plugged_size») ≡ true
+  pub start : startOk (d .config .addr .0) (d .config .«region_size») (d .several) (d .alignment) ≡ true
+  pub several : severalOk (d .several) (d .config .«region_size») ≡ true
+  pub pending : pendingOk (d .pending) (d .config .«block_size») (d .config .«region_size») (d .several) (d .config .«plugged_size») ≡ true
 
 pub parts : (d : Device) → shapedOf d ≡ true → Parts d
 unfolding shapedOf
@@ -88,8 +88,8 @@ parts d e =
     let q = sizeOk (c .«block_size») (c .«requested_size») (c .«region_size») in
     let u = sizeOk (c .«block_size») (c .«usable_region_size») (c .«region_size») in
     let p = sizeOk (c .«block_size») (c .«plugged_size») (c .«region_size») in
-    let s = startOk (c .addr .0) (c .«region_size») (d .«multi_region») (d .alignment) in
-    let m = severalOk (d .«multi_region») (c .«region_size») in
+    let s = startOk (c .addr .0) (c .«region_size») (d .several) (d .alignment) in
+    let m = severalOk (d .several) (c .«region_size») in
     let e1 = and-right b _ e in
     let e2 = and-right r _ e1 in
     let e3 = and-right q _ e2 in
@@ -126,11 +126,11 @@ pub record Shaped (d : Device) : Type 0 where
   pub plugged-blocks : d .config .«plugged_size» % 4194304 ≡ 0
   pub plugged-in : d .config .«plugged_size» ≤ d .config .«region_size»
   pub start-blocks : d .config .addr .0 % 4194304 ≡ 0
-  pub start-span : d .config .addr .0 + spanOf (d .config .«region_size») (d .«multi_region») ≤ top
+  pub start-span : d .config .addr .0 + spanOf (d .config .«region_size») (d .several) ≤ top
   pub start-region : d .config .addr .0 + d .config .«region_size» ≤ top
-  pub rows-some : 0 < mapRegions (d .config .«region_size») (d .«multi_region»)
-  pub rows-few : mapRegions (d .config .«region_size») (d .«multi_region») ≤ 512
-  pub several-large : d .«multi_region» ≡ true → mapRegion < d .config .«region_size»
+  pub rows-some : 0 < mapRegions (d .config .«region_size») (d .several)
+  pub rows-few : mapRegions (d .config .«region_size») (d .several) ≤ 512
+  pub several-large : d .several ≡ true → mapRegion < d .config .«region_size»
 
 size-is : (b n region : ℕ) → b ≡ 4194304 → sizeOk b n region ≡ true → (n % 4194304 ≡ 0) × (n ≤ region)
 unfolding sizeOk
@@ -185,8 +185,8 @@ shaped-is d e =
     let q = size-is (c .«block_size») (c .«requested_size») (c .«region_size») b (p .requested) in
     let u = size-is (c .«block_size») (c .«usable_region_size») (c .«region_size») b (p .usable) in
     let g = size-is (c .«block_size») (c .«plugged_size») (c .«region_size») b (p .plugged) in
-    let s = start-is (c .addr .0) (c .«region_size») (d .«multi_region») (d .alignment) (p .start) in
-    let m = spans (c .«region_size») (d .«multi_region») in
+    let s = start-is (c .addr .0) (c .«region_size») (d .several) (d .alignment) (p .start) in
+    let m = spans (c .«region_size») (d .several) in
     record {
       block-size = b;
       alignment = a;
@@ -205,7 +205,7 @@ shaped-is d e =
       start-region = omega (arith, s .1, m .covers);
       rows-some = m .rows (r .1);
       rows-few = m .few (r .3);
-      several-large = several-is (d .«multi_region») (c .«region_size») (p .several);
+      several-large = several-is (d .several) (c .«region_size») (p .several);
     }
 
 -- ---- the shape of a config alone
@@ -239,7 +239,7 @@ config-shaped-of d e =
     let p = parts d e in
     let n = shaped-is d e in
     let r = region-is (c .«region_size») (d .alignment) (p .region) in
-    let s = start-is (c .addr .0) (c .«region_size») (d .«multi_region») (d .alignment) (p .start) in
+    let s = start-is (c .addr .0) (c .«region_size») (d .several) (d .alignment) (p .start) in
     let l = least (d .alignment) (r .0) in
     whole (ofConfig c)
     (record {
@@ -277,7 +277,7 @@ tested d p =
       alignment = region-is (c .«region_size») (d .alignment) (p .region) .0;
       blocks = simp (q .0, u .0, g .0);
       inside = simp (le-leb _ _ (q .1), le-leb _ _ (u .1), le-leb _ _ (g .1));
-      start = start-is (c .addr .0) (c .«region_size») (d .«multi_region») (d .alignment) (p .start) .0;
+      start = start-is (c .addr .0) (c .«region_size») (d .several) (d .alignment) (p .start) .0;
     }
 
 -- one test that fails is enough
@@ -288,7 +288,7 @@ unshaped d t f e =
     (λ s. sym s)
 
 -- past the others, `restOk` is all that is left
-pub rest-is : (d : Device) → d .config .«block_size» ≡ 4194304 → regionOk (d .config .«region_size») (d .alignment) ≡ true → Tested d → shapedOf d ≡ restOk (d .config .addr .0) (d .config .«region_size») (d .«multi_region») (d .pending) (d .config .«plugged_size»)
+pub rest-is : (d : Device) → d .config .«block_size» ≡ 4194304 → regionOk (d .config .«region_size») (d .alignment) ≡ true → Tested d → shapedOf d ≡ restOk (d .config .addr .0) (d .config .«region_size») (d .several) (d .pending) (d .config .«plugged_size»)
 unfolding shapedOf startOk sizeOk restOk
 rest-is d b r t =
     let c = d .config in
@@ -316,14 +316,14 @@ single start region plugged true p e = absurd (let z : _≡_ {A = ℕ} 0 1 = cc 
 -- ---- the pending call in numbers
 pub record RowsInside (d : Device) (first last : ℕ) : Type 0 where
   pub ordered : first ≤ last
-  pub inside : last < mapRegions (d .config .«region_size») (d .«multi_region»)
+  pub inside : last < mapRegions (d .config .«region_size») (d .several)
 
 pub record UnplugInside (d : Device) (first count : ℕ) : Type 0 where
   pub inside : first + count ≤ blocksIn 4194304 (d .config .«region_size»)
   pub plugged : bytesOf 4194304 count ≤ d .config .«plugged_size»
 
 module _ (d : Device) (e : shapedOf d ≡ true) where
-  pub pending-is : (p : Pending) → d .pending ≡ p → pendingOk p 4194304 (d .config .«region_size») (d .«multi_region») (d .config .«plugged_size») ≡ true
+  pub pending-is : (p : Pending) → d .pending ≡ p → pendingOk p 4194304 (d .config .«region_size») (d .several) (d .config .«plugged_size») ≡ true
   pending-is p h =
       let b = eqb-true (d .config .«block_size») 4194304 (parts d e .block) in
       rw (h, b) at (parts d e .pending)
@@ -334,7 +334,7 @@ module _ (d : Device) (e : shapedOf d ≡ true) where
       let t = pending-is (Create first last) h in
       record {
         ordered = leb-true first last (and-left (leb first last) _ t);
-        inside = ltb-true last (mapRegions (d .config .«region_size») (d .«multi_region»)) (and-right (leb first last) _ t);
+        inside = ltb-true last (mapRegions (d .config .«region_size») (d .several)) (and-right (leb first last) _ t);
       }
 
   pub discard-is : (first count : ℕ) (status : GuestAddr) → d .pending ≡ Discard first count status → UnplugInside d first count
@@ -353,7 +353,7 @@ module _ (d : Device) (e : shapedOf d ≡ true) where
       ltb-true block (blocksIn 4194304 (d .config .«region_size»)) (pending-is (DiscardOne block status) h)
 
   -- ---- which changes keep the shape
-  pub changed-keeps : (start usable plugged requested : ℕ) (placed : Bool) (p : Pending) → startOk start (d .config .«region_size») (d .«multi_region») (d .alignment) ≡ true → sizeOk (d .config .«block_size») usable (d .config .«region_size») ≡ true → sizeOk (d .config .«block_size») plugged (d .config .«region_size») ≡ true → sizeOk (d .config .«block_size») requested (d .config .«region_size») ≡ true → pendingOk p (d .config .«block_size») (d .config .«region_size») (d .«multi_region») plugged ≡ true → shapedOf (deviceWith d (configWith (d .config) start usable plugged requested) placed p) ≡ true
+  pub changed-keeps : (start usable plugged requested : ℕ) (placed : Bool) (p : Pending) → startOk start (d .config .«region_size») (d .several) (d .alignment) ≡ true → sizeOk (d .config .«block_size») usable (d .config .«region_size») ≡ true → sizeOk (d .config .«block_size») plugged (d .config .«region_size») ≡ true → sizeOk (d .config .«block_size») requested (d .config .«region_size») ≡ true → pendingOk p (d .config .«block_size») (d .config .«region_size») (d .several) plugged ≡ true → shapedOf (deviceWith d (configWith (d .config) start usable plugged requested) placed p) ≡ true
   changed-keeps start usable plugged requested placed p s u g q t =
       let o = parts d e in
       whole (deviceWith d (configWith (d .config) start usable plugged requested) placed p)
@@ -365,7 +365,7 @@ module _ (d : Device) (e : shapedOf d ≡ true) where
       let o = parts d e in
       changed-keeps (c .addr .0) (c .«usable_region_size») (c .«plugged_size») (c .«requested_size») b (d .pending) (o .start) (o .usable) (o .plugged) (o .requested) (o .pending)
 
-  pub start-keeps : (start : ℕ) → startOk start (d .config .«region_size») (d .«multi_region») (d .alignment) ≡ true → shapedOf (startTo start d) ≡ true
+  pub start-keeps : (start : ℕ) → startOk start (d .config .«region_size») (d .several) (d .alignment) ≡ true → shapedOf (startTo start d) ≡ true
   start-keeps start s =
       let c = d .config in
       let o = parts d e in
@@ -388,7 +388,7 @@ module _ (d : Device) (e : shapedOf d ≡ true) where
         changed-keeps (c .addr .0) n (c .«plugged_size») (c .«requested_size») (d .placed) (d .pending) (o .start) fits-region (o .plugged) (o .requested) (o .pending)
 
     -- a pending unplug must still fit
-    pub plugged-keeps : pendingOk (d .pending) (d .config .«block_size») (d .config .«region_size») (d .«multi_region») n ≡ true → shapedOf (pluggedTo n d) ≡ true
+    pub plugged-keeps : pendingOk (d .pending) (d .config .«block_size») (d .config .«region_size») (d .several) n ≡ true → shapedOf (pluggedTo n d) ≡ true
     plugged-keeps t =
         let c = d .config in
         let o = parts d e in

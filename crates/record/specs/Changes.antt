@@ -24,7 +24,7 @@ deviceWith d config placed pending =
     record {
       config = config;
       alignment = d .alignment;
-      «multi_region» = d .«multi_region»;
+      several = d .several;
       «avail_features» = d .«avail_features»;
       placed = placed;
       pending = pending;

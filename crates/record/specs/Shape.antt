@@ -50,9 +50,9 @@ shapedOf d =
     && (sizeOk (c .«block_size») (c .«requested_size») (c .«region_size»)
     && (sizeOk (c .«block_size») (c .«usable_region_size») (c .«region_size»)
     && (sizeOk (c .«block_size») (c .«plugged_size») (c .«region_size»)
-    && (startOk (c .addr .0) (c .«region_size») (d .«multi_region») (d .alignment)
-    && (severalOk (d .«multi_region») (c .«region_size»)
-    && pendingOk (d .pending) (c .«block_size») (c .«region_size») (d .«multi_region») (c .«plugged_size»)))))))
+    && (startOk (c .addr .0) (c .«region_size») (d .several) (d .alignment)
+    && (severalOk (d .several) (c .«region_size»)
+    && pendingOk (d .pending) (c .«block_size») (c .«region_size») (d .several) (c .«plugged_size»)))))))
 
 -- the weakest record that a config can stand in: alignment 128 MiB, one region, nothing pending
 abbrev pub ofConfig : VirtioMemConfig → Device
@@ -60,7 +60,7 @@ ofConfig c =
     record {
       config = c;
       alignment = 134217728;
-      «multi_region» = false;
+      several = false;
       «avail_features» = 4294967296;
       placed = true;
       pending = Nothing;

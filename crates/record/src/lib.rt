@@ -67,7 +67,7 @@ pub enum HostCall {
 pub struct Device {
     pub config: VirtioMemConfig,
     pub alignment: u64,
-    pub multi_region: bool,
+    pub several: bool,
     pub avail_features: u64,
     pub placed: bool,
     pub pending: Pending,
@@ -182,7 +182,7 @@ pub fn shaped(d: Device) -> bool
     let usable = d.config.usable_region_size;
     let plugged = d.config.plugged_size;
     let start = d.config.addr.0;
-    let several = d.multi_region;
+    let several = d.several;
     if !alignment_ok(alignment) {
         return false;
     }
@@ -218,7 +218,7 @@ pub fn config_shaped(config: VirtioMemConfig) -> bool
     shaped(Device {
         config: config,
         alignment: MIN_ALIGNMENT,
-        multi_region: false,
+        several: false,
         avail_features: 1 << VIRTIO_F_VERSION_1,
         placed: true,
         pending: pending,

@@ -61,7 +61,7 @@ module _ (d : Device) (bitmap table : List ℕ) (shape : shapedOf d ≡ true) (a
       let e : ltb (d .config .«requested_size») (d .config .«plugged_size» + bytesOf (d .config .«block_size») count) ≡ true = rw (shaped-is d shape .block-size, ← size-is) (lt-ltb (d .config .«requested_size») (d .config .«plugged_size» + size) h) in
       rw e (serves (worldOf d bitmap table) bitmap table p refl refl)
 
-  module _ (t : not within ≡ false) (ch : Change) (ch-is : ch ≡ changeOf 4194304 (d .config .addr .0) (d .config .«usable_region_size») (d .«multi_region») addr count true (blocks bitmap) (rowsOf table)) where
+  module _ (t : not within ≡ false) (ch : Change) (ch-is : ch ≡ changeOf 4194304 (d .config .addr .0) (d .config .«usable_region_size») (d .several) addr count true (blocks bitmap) (rowsOf table)) where
     asks : plug (worldOf d bitmap table) addr count status g ≡ plugAs ch (worldOf d bitmap table) count status g
     unfolding plug
     asks =
@@ -93,7 +93,7 @@ one-error WrongState k w block status g = refl
 one-error (NoHost part) k w block status g = refl
 
 module _ (d : Device) (bitmap table : List ℕ) (shape : shapedOf d ≡ true) (status : ℕ) (g : Guest) (s : Answered) where
-  module _ (addr count : ℕ) (ch : Change) (ch-is : ch ≡ changeOf 4194304 (d .config .addr .0) (d .config .«usable_region_size») (d .«multi_region») addr count false (blocks bitmap) (rowsOf table)) where
+  module _ (addr count : ℕ) (ch : Change) (ch-is : ch ≡ changeOf 4194304 (d .config .addr .0) (d .config .«usable_region_size») (d .several) addr count false (blocks bitmap) (rowsOf table)) where
     same-change : changing (worldOf d bitmap table) addr count false ≡ ch
     same-change = rw (shaped-is d shape .block-size, ← ch-is)
 
@@ -118,7 +118,7 @@ module _ (d : Device) (bitmap table : List ℕ) (shape : shapedOf d ≡ true) (s
 
   -- one block of an unplug-all
   module _ (block : ℕ) (inside : block < blocksIn 4194304 (d .config .«region_size»)) (offset : RegionOffset) (offset-is : offset .0 ≡ held (bytesOf 4194304 block)) (addr : GuestAddr) (addr-is : addr .0 ≡ held (d .config .addr .0 + offset .0))
-      (ch : Change) (ch-is : ch ≡ changeOf 4194304 (d .config .addr .0) (d .config .«usable_region_size») (d .«multi_region») (addr .0) 1 false (blocks bitmap) (rowsOf table)) where
+      (ch : Change) (ch-is : ch ≡ changeOf 4194304 (d .config .addr .0) (d .config .«usable_region_size») (d .several) (addr .0) 1 false (blocks bitmap) (rowsOf table)) where
     same-block : changing (worldOf d bitmap table) (d .config .addr .0 + bytesOf (d .config .«block_size») block) 1 false ≡ ch
     same-block =
         let h = shaped-is d shape in

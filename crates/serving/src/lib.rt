@@ -116,7 +116,7 @@ fn plug(
     let Change::Legal(first, _, _) = change_of(
         start,
         usable,
-        d.multi_region,
+        d.several,
         addr,
         nb_blocks,
         true,
@@ -164,7 +164,7 @@ fn unplug(
     let Change::Legal(first, offset, host) = change_of(
         start,
         usable,
-        d.multi_region,
+        d.several,
         addr,
         nb_blocks,
         false,
@@ -207,7 +207,7 @@ fn unplug_one(
     let Change::Legal(_, offset, host) = change_of(
         start,
         usable,
-        d.multi_region,
+        d.several,
         addr,
         1,
         false,
@@ -408,7 +408,7 @@ fn covered_by(d: Device, first: u64, last: u64) -> u64
     requires { ⌜ (first ≤ last) × (last < 512) ⌝ }
     ensures { λ r. ⌜ r ≡ coveredBy (worldOf d [] []) first last ⌝ }
 {
-    if d.multi_region {
+    if d.several {
         return (last - first + 1) * MemTool::MAP_REGION_SIZE;
     }
     d.config.region_size

@@ -37,7 +37,7 @@ device region usable plugged requested several =
         «requested_size» = requested;
       };
       alignment = 134217728;
-      «multi_region» = several;
+      several = several;
       «avail_features» = 4294967296;
       placed = true;
       pending = Nothing;

@@ -55,7 +55,7 @@ abbrev pub start : World → ℕ
 start w = w .device .config .addr .0
 
 abbrev pub several : World → Bool
-several w = w .device .«multi_region»
+several w = w .device .several
 
 -- how many blocks, and how many map regions, the region has
 abbrev pub regionBlocks : World → ℕ
@@ -224,7 +224,7 @@ placed w at slots bs rows =
 unfoldable pub tablesFit : Device → (blocks rows : ℕ) → Bool
 tablesFit d blocks rows =
     leb (blocksIn (d .config .«block_size») (d .config .«region_size»)) blocks
-    && leb (mapRegions (d .config .«region_size») (d .«multi_region»)) rows
+    && leb (mapRegions (d .config .«region_size») (d .several)) rows
 
 -- a request and a size change: 12, 7, 5, 11
 unfoldable pub readyRefusal : Device → (blocks rows : ℕ) → ℕ

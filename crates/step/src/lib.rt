@@ -60,7 +60,7 @@ pub fn tables_fit(d: Device, bytes: usize, words: usize) -> bool
 {
     let region = d.config.region_size;
     let needed = bytes_for(region, d.config.block_size);
-    let rows = map_regions(region, d.multi_region);
+    let rows = map_regions(region, d.several);
     (needed <= bytes as u64) & (rows <= words as u64 / 3)
 }
 

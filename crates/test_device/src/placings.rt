@@ -74,7 +74,7 @@ fn show_made(made: Made) {
         Made::Device(d) => {
             let c = d.config;
             print(b" # # #", &[c.region_size, c.requested_size, d.alignment]);
-            flag(d.multi_region);
+            flag(d.several);
             print(b" # #", &[d.avail_features, c.node_id as u64]);
         }
         Made::Refused(n) => number(b" refused ", n),

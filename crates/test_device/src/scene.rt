@@ -22,7 +22,7 @@ pub struct Scene {
 fn device(
     block_size: u64,
     region_size: u64,
-    multi_region: bool,
+    several: bool,
     start: u64,
     requested_size: u64,
     usable_region_size: u64,
@@ -41,7 +41,7 @@ fn device(
     Device {
         config: config,
         alignment: 134217728,
-        multi_region: multi_region,
+        several: several,
         avail_features: 4294967296,
         placed: placed,
         pending: Pending::Nothing,

@@ -54,7 +54,7 @@ pub fn scene_of(v: Row) -> Scene {
     let device = Device {
         config: config,
         alignment: v[13],
-        multi_region: v[14] == 1,
+        several: v[14] == 1,
         avail_features: 4294967296,
         placed: v[15] == 1,
         pending: pending,

@@ -82,7 +82,7 @@ countedFrom slot (suc count) = slot ∷ countedFrom (suc slot) count
 abbrev pub placeOf : Device → FirstLine → Lent → Call
 placeOf d f l =
     let region = d .config .«region_size» in
-    Place (f .addr .0) region (countedFrom (f .slot) (mapRegions region (d .«multi_region»))) (l .blocks) (l .rows)
+    Place (f .addr .0) region (countedFrom (f .slot) (mapRegions region (d .several))) (l .blocks) (l .rows)
 
 -- "one in the first line ends the run"
 unfoldable pub placedAs : Answer → Device → Run

@@ -112,7 +112,7 @@ fn put_in_place(
     let mut slots = [0u32; 512];
     count_slots(&mut slots, first.slot);
     let region = d.config.region_size;
-    let rows = map_regions(region, d.multi_region) as usize;
+    let rows = map_regions(region, d.several) as usize;
     let start = first.addr;
     let placed = place(d, bitmap, table, start, region, &slots[..rows]);
     answer(after_placing(placed), placed, mem, out)

@@ -136,36 +136,36 @@ words-back d Nothing rest h =
     simp (
       le-leb _ _ (words-long d Nothing rest),
       le-leb _ 65535 h,
-      bit-flag (d .«multi_region»),
+      bit-flag (d .several),
       bit-flag (d .placed),
-      bit-back (d .«multi_region»),
+      bit-back (d .several),
       bit-back (d .placed),
     )
 words-back d (Create first last) rest h =
     simp (
       le-leb _ _ (words-long d (Create first last) rest),
       le-leb _ 65535 h,
-      bit-flag (d .«multi_region»),
+      bit-flag (d .several),
       bit-flag (d .placed),
-      bit-back (d .«multi_region»),
+      bit-back (d .several),
       bit-back (d .placed),
     )
 words-back d (Discard first count status) rest h =
     simp (
       le-leb _ _ (words-long d (Discard first count status) rest),
       le-leb _ 65535 h,
-      bit-flag (d .«multi_region»),
+      bit-flag (d .several),
       bit-flag (d .placed),
-      bit-back (d .«multi_region»),
+      bit-back (d .several),
       bit-back (d .placed),
     )
 words-back d (DiscardOne block status) rest h =
     simp (
       le-leb _ _ (words-long d (DiscardOne block status) rest),
       le-leb _ 65535 h,
-      bit-flag (d .«multi_region»),
+      bit-flag (d .several),
       bit-flag (d .placed),
-      bit-back (d .«multi_region»),
+      bit-back (d .several),
       bit-back (d .placed),
     )
 

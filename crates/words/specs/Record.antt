@@ -36,7 +36,7 @@ wordsOf d =
     ∷ c .«plugged_size»
     ∷ c .«requested_size»
     ∷ d .alignment
-    ∷ bit (d .«multi_region»)
+    ∷ bit (d .several)
     ∷ d .«avail_features»
     ∷ bit (d .placed)
     ∷ pendingWords (d .pending)
@@ -104,7 +104,7 @@ recordOf ws =
         «requested_size» = word ws 6;
       };
       alignment = word ws 7;
-      «multi_region» = eqb (word ws 8) 1;
+      several = eqb (word ws 8) 1;
       «avail_features» = word ws 9;
       placed = eqb (word ws 10) 1;
       pending = pendingOf (word ws 11) (word ws 12) (word ws 13) (word ws 14);

@@ -60,7 +60,7 @@ sum-within-requires : tie.Need-sum-within-requires
 sum-within-requires c κs = search needs
 
 -- past the six tests
-past-6 : (c : tie.Else6) → let d = c .before .before .before .before .before .before .before .before .before .before .before .args .d in shapedOf d ≡ restOk (d .config .addr .0) (d .config .«region_size») (d .«multi_region») (d .pending) (d .config .«plugged_size»)
+past-6 : (c : tie.Else6) → let d = c .before .before .before .before .before .before .before .before .before .before .before .args .d in shapedOf d ≡ restOk (d .config .addr .0) (d .config .«region_size») (d .several) (d .pending) (d .config .«plugged_size»)
 past-6 c =
     rest-is (c .before .before .before .before .before .before .before .before .before .before .before .args .d)
     (c .before .before .before .before .before .if3 .left)
@@ -77,7 +77,7 @@ returns-7 c =
     let d = c .before .before .before .before .before .before .before .before .before .before .before .before .before .before .args .d in
     let alone = rw (c .before .before .is-idle .ensures) at (c .before .if7 .taken) in
     c .sum-within .ensures
-    ∙ sym (past-6 (c .before .before .before) ∙ single (d .config .addr .0) (d .config .«region_size») (d .config .«plugged_size») (d .«multi_region») (d .pending) alone)
+    ∙ sym (past-6 (c .before .before .before) ∙ single (d .config .addr .0) (d .config .«region_size») (d .config .«plugged_size») (d .several) (d .pending) alone)
 
 rest-ok-requires : tie.Need-rest-ok-requires
 rest-ok-requires c κs = search needs

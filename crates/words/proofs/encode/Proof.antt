@@ -13,7 +13,7 @@ use Rattle.words.proofs.encode.Statement.{statement}
 use Rattle.words.proofs.encode.Tie as tie
 
 -- the words that the code lays side by side are the record's
-encoded : (d : Device) (ws : List ℕ) (several placed : ℕ) → ws ≡ pendingWords (d .pending) → several ≡ bit (d .«multi_region»)
+encoded : (d : Device) (ws : List ℕ) (several placed : ℕ) → ws ≡ pendingWords (d .pending) → several ≡ bit (d .several)
     → placed ≡ bit (d .placed)
     → (d .config .«block_size»
     ∷ d .config .«node_id»
