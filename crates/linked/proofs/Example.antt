@@ -6,7 +6,7 @@ use mathlib.Core.Bool.{true, false}
 use mathlib.Core.List.{List, [], _∷_, _++_}
 use native.Mathlib.Omega.{arith}
 use lib.ListN.{replicate}
-use Rattle.units.specs.Numbers.{mapRegions, alignmentOf, roundUp}
+use Rattle.units.specs.Numbers.{mapRegions, alignmentOf, nextMultiple}
 use Rattle.bitmap.specs.Blocks.{lowBits, blocks, every, fill, firstOf}
 use Rattle.little_endian.specs.Bytes.{value, littleEndian, part, put}
 use Rattle.wire.specs.Layout.{requestAt, responseBytes, configFields, configValues, laid as laidConfig, configBytes}
@@ -49,7 +49,7 @@ pub making : Making
 making = record { words = zeros 15; capacity = 256; requested = 16; several = false; given = false; node = 0; boot = 1073741824 }
 
 pub makes : Makes making (record-words 0 0 0 0 0)
-unfolding making record-words zeros madeNumber madeWords made alignmentOf roundUp wordsOf put
+unfolding making record-words zeros madeNumber madeWords made alignmentOf nextMultiple wordsOf put
 makes = record { promised = record { numbered = refl; recorded = refl }; node-fits = omega arith }
 
 pub uses : List Use

@@ -6,7 +6,7 @@ use native.Mathlib.Nat.{div-mul-le-self, zero-mod}
 use native.Mathlib.Omega.{arith}
 use lib.Dec.{ltb, eqb}
 use borrow.Author.Tests.{eq-eqb, eqb-true, eqb-false, le-leb, lt-ltb, ltb-false}
-use Rattle.units.specs.Numbers.{top, mapRegion, between, twos, alignmentOf, roundUp, capacityOf}
+use Rattle.units.specs.Numbers.{top, mapRegion, between, twos, alignmentOf, nextMultiple, capacityOf}
 use Rattle.units.proofs.Tests.{by-test}
 use Rattle.record.specs.declared.Device.{Device}
 use Rattle.record.specs.declared.Pending.the-variants.{Nothing}
@@ -39,8 +39,8 @@ alignment-ok boot =
     (λ t. rw t (power-ok (between (twos boot)) (omega arith) (omega arith)))
 
 -- ---- the region is the capacity rounded up
-pub round-within : (n to : ℕ) → roundUp n to ≤ n + (to - 1)
-unfolding roundUp
+pub round-within : (n to : ℕ) → nextMultiple n to ≤ n + (to - 1)
+unfolding nextMultiple
 round-within n to = div-mul-le-self (n + (to - 1)) to
 
 pub record Rounded (capacity a : ℕ) : Type 0 where
@@ -49,7 +49,7 @@ pub record Rounded (capacity a : ℕ) : Type 0 where
   pub twice : capacityOf capacity a % (2 * a) ≡ 0
 
 pub rounded : (capacity : ℕ) → 0 < capacity → capacity ≤ 1048576 → (a : ℕ) → alignmentOk a ≡ true → Rounded capacity a
-unfolding roundUp
+unfolding nextMultiple
 rounded capacity l h =
     by-alignment (Rounded capacity)
     (record { some = omega arith; high = omega arith; twice = omega arith })

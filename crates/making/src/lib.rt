@@ -6,7 +6,7 @@ use record::features;
 use units::MemTool;
 use units::alignment_of;
 use units::product_within;
-use units::round_up;
+use units::next_multiple_of;
 use wire::VirtioMemConfig;
 ghost use mathlib.Core.Path.{_≡_};
 ghost use Prim.Native.Nat.{_≤_};
@@ -52,7 +52,7 @@ fn region_of(capacity_mib: u64, alignment: u64) -> u64
     requires { ⌜ («capacity_mib» ≤ 1048576) × (alignment ≤ 2147483648) ⌝ }
     ensures { λ r. ⌜ r ≡ capacityOf «capacity_mib» alignment ⌝ }
 {
-    round_up(capacity_mib * MemTool::MIB, 2 * alignment)
+    next_multiple_of(capacity_mib * MemTool::MIB, 2 * alignment)
 }
 
 // Whether a requested size is refused as 1: above the region, or not whole blocks.

@@ -4,7 +4,7 @@ use bitmap::Found;
 use bitmap::next_clear;
 use bitmap::next_set;
 use forms::Place;
-use units::held_sum;
+use units::saturating_add;
 use units::sum_within;
 ghost use mathlib.Core.Path.{_≡_};
 ghost use Prim.Native.Nat.{_*_, _<_, min};
@@ -91,7 +91,7 @@ pub fn runs_length(bitmap: &[u8], end: usize) -> u64
         let NextRun::At { first, count } = next_run(bitmap, i, end) else {
             return sum;
         };
-        sum = held_sum(sum, line_length(first as u64, count as u64));
+        sum = saturating_add(sum, line_length(first as u64, count as u64));
         i = first + count;
     }
     sum

@@ -5,7 +5,7 @@ use mathlib.Core.Bool.{Bool, true, false}
 use mathlib.Core.List.{List, [], _∷_}
 use lib.Count.{trailingZeros}
 use lib.ListN.{replicate}
-use Rattle.units.specs.Numbers.{twos, alignmentOf, roundUp, capacityOf, mapRegions}
+use Rattle.units.specs.Numbers.{twos, alignmentOf, nextMultiple, capacityOf, mapRegions}
 use Rattle.bitmap.specs.Blocks.{every}
 use Rattle.rows.specs.declared.MapRow.{MapRow}
 use Rattle.rows.specs.Rows.{mappingOf, unmappedFrom}
@@ -112,5 +112,5 @@ said [] = []
 said (e ∷ es) = e .says ∷ said es
 
 pub edges-hold : given edges ≡ said edges
-unfolding given said edges device row world answerType plugged rowsOfCall sizeOfCall asked grows alignmentOf twos trailingZeros roundUp mapRegions every mappingOf unmappedFrom inside reaches alignmentOk regionOk sizeOk spanOf startOk severalOk pendingOk shapedOf newSize creationSize growthAt growthOf rangeOf insideOf hostOf hostIn hostSum legalAt changeIn plug plugAs tablesFit readyRefusal unless resizes setRequestedSize step
+unfolding given said edges device row world answerType plugged rowsOfCall sizeOfCall asked grows alignmentOf twos trailingZeros nextMultiple mapRegions every mappingOf unmappedFrom inside reaches alignmentOk regionOk sizeOk spanOf startOk severalOk pendingOk shapedOf newSize creationSize growthAt growthOf rangeOf insideOf hostOf hostIn hostSum legalAt changeIn plug plugAs tablesFit readyRefusal unless resizes setRequestedSize step
 edges-hold = refl

@@ -29,7 +29,7 @@ fn of_addresses(kind: u8, v: Numbers) -> u64 {
 fn of_numbers(kind: u8, v: Numbers) -> u64 {
     match kind {
         b'a' => units::alignment_of(v.0),
-        b'u' => units::round_up(v.0, v.1),
+        b'u' => units::next_multiple_of(v.0, v.1),
         b'm' => units::map_regions(v.0, v.1 == 1),
         b's' => units::sum_within(v.0, v.1, v.2) as u64,
         b'p' => units::product_within(v.0, v.1, v.2) as u64,

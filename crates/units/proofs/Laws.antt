@@ -8,7 +8,7 @@ use lib.Dec.{leb}
 use borrow.Author.Tests.{leb-true, leb-false}
 use lib.Arith.{digits-div}
 use lib.Count.{trailingZeros, under}
-use Rattle.units.specs.Numbers.{top, held, twos, roundUp}
+use Rattle.units.specs.Numbers.{top, held, twos, nextMultiple}
 
 -- ---- what a test said of a sum or a product n: within the limit, or past it
 pub within : {n limit : ℕ} (r : Bool) → r ≡ leb n limit → r ≡ true → n ≤ limit
@@ -22,21 +22,21 @@ pub held-fits : {n : ℕ} → n ≤ top → held n ≡ n
 held-fits h = omega arith
 
 -- ---- rounding up: a multiple stays, anything else goes to the next multiple
-pub round-multiple : (n to : ℕ) → 0 < to → n % to ≡ 0 → roundUp n to ≡ n
-unfolding roundUp
+pub round-multiple : (n to : ℕ) → 0 < to → n % to ≡ 0 → nextMultiple n to ≡ n
+unfolding nextMultiple
 round-multiple n to h e =
     let split : n / to * to + (to - 1) ≡ n + (to - 1) = omega (arith, div-add-mod' n to) in
     rw (← split, digits-div (n / to) {m = to} {r = to - 1} (omega arith)) (omega (arith, div-add-mod' n to))
 
-pub round-next : (n to : ℕ) → 0 < n % to → 0 < to → roundUp n to ≡ n + (to - n % to)
-unfolding roundUp
+pub round-next : (n to : ℕ) → 0 < n % to → 0 < to → nextMultiple n to ≡ n + (to - n % to)
+unfolding nextMultiple
 round-next n to r h =
     let small : n % to < to = mod-lt n h in
     let split : (n / to + 1) * to + (n % to - 1) ≡ n + (to - 1) = omega (arith, div-add-mod' n to, add-mul (n / to) 1 to) in
     rw (← split, digits-div (n / to + 1) {m = to} {r = n % to - 1} (omega arith)) (omega (arith, div-add-mod' n to, add-mul (n / to) 1 to))
 
-pub round-none : (n : ℕ) → roundUp n 0 ≡ 0
-unfolding roundUp
+pub round-none : (n : ℕ) → nextMultiple n 0 ≡ 0
+unfolding nextMultiple
 round-none n = mul-zero ((n + (0 - 1)) / 0)
 
 -- ---- the largest power of two that divides a number: it divides, and what it leaves is odd

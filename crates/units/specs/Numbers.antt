@@ -42,9 +42,9 @@ unfoldable pub alignmentOf : (boot : ℕ) → ℕ
 alignmentOf boot = cond (ltb boot 68719476736) 134217728 (2 ^ between (twos boot))
 
 -- n rounded up to a multiple of `to`
-unfoldable pub roundUp : (n to : ℕ) → ℕ
-roundUp n to = (n + (to - 1)) / to * to
+unfoldable pub nextMultiple : (n to : ℕ) → ℕ
+nextMultiple n to = (n + (to - 1)) / to * to
 
 -- "Capacity is rounded up to twice the alignment"
 abbrev pub capacityOf : (mib alignment : ℕ) → ℕ
-capacityOf mib alignment = roundUp (mib * 1048576) (2 * alignment)
+capacityOf mib alignment = nextMultiple (mib * 1048576) (2 * alignment)

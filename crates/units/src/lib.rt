@@ -3,7 +3,7 @@
 ghost use mathlib.Core.Path.{_≡_};
 ghost use Prim.Native.Nat.{_+_, _-_, _*_, _/_, _%_, min};
 ghost use lib.Dec.{leb};
-ghost use Rattle.units.specs.Numbers.{held, bytesOf, blocksIn, mapRegion, mapRegions, between, alignmentOf, roundUp};
+ghost use Rattle.units.specs.Numbers.{held, bytesOf, blocksIn, mapRegion, mapRegions, between, alignmentOf, nextMultiple};
 
 // An address as the guest sees it.
 pub struct GuestAddr(pub u64);
@@ -62,28 +62,28 @@ impl RegionOffset {
     pub fn of_block(block: u64) -> RegionOffset
         ensures { λ r. ⌜ r .0 ≡ held (bytesOf 4194304 block) ⌝ }
     {
-        RegionOffset(held_product(block, MemTool::BLOCK_SIZE))
+        RegionOffset(saturating_mul(block, MemTool::BLOCK_SIZE))
     }
 
     // Where a map region starts, saturating at 2^64 - 1.
     pub fn of_map_region(row: u64) -> RegionOffset
         ensures { λ r. ⌜ r .0 ≡ held (row * mapRegion) ⌝ }
     {
-        RegionOffset(held_product(row, MemTool::MAP_REGION_SIZE))
+        RegionOffset(saturating_mul(row, MemTool::MAP_REGION_SIZE))
     }
 
     // The guest's address of an offset, saturating at 2^64 - 1.
     pub fn guest_from(self, start: GuestAddr) -> GuestAddr
         ensures { λ r. ⌜ r .0 ≡ held (start .0 + self .0) ⌝ }
     {
-        GuestAddr(held_sum(start.0, self.0))
+        GuestAddr(saturating_add(start.0, self.0))
     }
 
     // The host's address of an offset from what is mapped at `host`, saturating at 2^64 - 1.
     pub fn host_from(self, host: HostAddr) -> HostAddr
         ensures { λ r. ⌜ r .0 ≡ held (host .0 + self .0) ⌝ }
     {
-        HostAddr(held_sum(host.0, self.0))
+        HostAddr(saturating_add(host.0, self.0))
     }
 
     // The map region in which an offset lies.
@@ -139,7 +139,7 @@ pub fn product_within(a: u64, b: u64, limit: u64) -> bool
 }
 
 // a + b, saturating at 2^64 - 1.
-pub fn held_sum(a: u64, b: u64) -> u64
+pub fn saturating_add(a: u64, b: u64) -> u64
     ensures { λ r. ⌜ r ≡ held (a + b) ⌝ }
 {
     if sum_within(a, b, MAX) {
@@ -149,7 +149,7 @@ pub fn held_sum(a: u64, b: u64) -> u64
 }
 
 // a * b, saturating at 2^64 - 1.
-fn held_product(a: u64, b: u64) -> u64
+fn saturating_mul(a: u64, b: u64) -> u64
     ensures { λ r. ⌜ r ≡ held (a * b) ⌝ }
 {
     if product_within(a, b, MAX) {
@@ -159,7 +159,7 @@ fn held_product(a: u64, b: u64) -> u64
 }
 
 // A number held between the exponents of 128 MiB and 2 GiB.
-fn held_between(n: u32) -> u32
+fn clamped(n: u32) -> u32
     ensures { λ r. ⌜ r ≡ between n ⌝ }
 {
     if n < 27 {
@@ -175,12 +175,12 @@ pub fn alignment_of(boot: u64) -> u64
     if boot < BOOT_MEM_SIZE_FOR_LARGE_BLOCK {
         return 134217728;
     }
-    1 << held_between(u64::trailing_zeros(boot))
+    1 << clamped(u64::trailing_zeros(boot))
 }
 
 // A number rounded up to a multiple of another, saturating at 2^64 - 1.
-pub fn round_up(n: u64, to: u64) -> u64
-    ensures { λ r. ⌜ r ≡ held (roundUp n to) ⌝ }
+pub fn next_multiple_of(n: u64, to: u64) -> u64
+    ensures { λ r. ⌜ r ≡ held (nextMultiple n to) ⌝ }
 {
     if to == 0 {
         return 0;
@@ -189,7 +189,7 @@ pub fn round_up(n: u64, to: u64) -> u64
     if over == 0 {
         return n;
     }
-    held_sum(n, to - over)
+    saturating_add(n, to - over)
 }
 
 // How many rows of the map table a region takes.

@@ -1,11 +1,11 @@
--- `units::held_product` meets its contract: where the product fits it is made, and otherwise 2^64 - 1 is the answer. Assumes nothing.
+-- `units::saturating_mul` meets its contract: where the product fits it is made, and otherwise 2^64 - 1 is the answer. Assumes nothing.
 use Prim.Native.Nat.{_*_, _≤_, _<_}
 use native.Mathlib.Omega.{arith}
 use borrow.Author.Needs.{needs}
 use Rattle.units.specs.Numbers.{top}
 use Rattle.units.proofs.Laws.{within, past}
-use Rattle.units.proofs.held_product.Statement.{statement}
-use Rattle.units.proofs.held_product.Tie as tie
+use Rattle.units.proofs.saturating_mul.Statement.{statement}
+use Rattle.units.proofs.saturating_mul.Tie as tie
 
 product-within-requires : tie.Need-product-within-requires
 product-within-requires c κs = search needs

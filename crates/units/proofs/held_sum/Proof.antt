@@ -1,11 +1,11 @@
--- `units::held_sum` meets its contract: where the sum fits it is made, and otherwise 2^64 - 1 is the answer. Assumes nothing.
+-- `units::saturating_add` meets its contract: where the sum fits it is made, and otherwise 2^64 - 1 is the answer. Assumes nothing.
 use Prim.Native.Nat.{_+_, _≤_, _<_}
 use native.Mathlib.Omega.{arith}
 use borrow.Author.Needs.{needs}
 use Rattle.units.specs.Numbers.{top}
 use Rattle.units.proofs.Laws.{within, past}
-use Rattle.units.proofs.held_sum.Statement.{statement}
-use Rattle.units.proofs.held_sum.Tie as tie
+use Rattle.units.proofs.saturating_add.Statement.{statement}
+use Rattle.units.proofs.saturating_add.Tie as tie
 
 sum-within-requires : tie.Need-sum-within-requires
 sum-within-requires c κs = search needs

@@ -1,11 +1,11 @@
--- `units::round_up` meets its contract: a multiple stays, and anything else goes to the next multiple. Assumes nothing.
+-- `units::next_multiple_of` meets its contract: a multiple stays, and anything else goes to the next multiple. Assumes nothing.
 use Prim.Native.Nat.{_<_, _%_}
 use native.Mathlib.Nat.{mod-lt}
 use native.Mathlib.Omega.{arith}
 use borrow.Author.Needs.{needs}
 use Rattle.units.proofs.Laws.{round-multiple, round-next, round-none}
-use Rattle.units.proofs.round_up.Statement.{statement}
-use Rattle.units.proofs.round_up.Tie as tie
+use Rattle.units.proofs.next_multiple_of.Statement.{statement}
+use Rattle.units.proofs.next_multiple_of.Tie as tie
 
 returns : tie.Need-returns
 returns c = rw (c .if1 .taken, round-none)
