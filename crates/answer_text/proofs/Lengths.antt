@@ -1,4 +1,4 @@
--- "lines up to 200 bytes": so is every answer, and a buffer of 200 bytes has room for it. Assumes nothing.
+-- "lines up to 200 bytes": so is every answer, and a buffer of 200 bytes has room for it.
 use Prim.Native.Nat.{ℕ, _+_, _*_, _≤_}
 use mathlib.Core.List.{List}
 use native.Mathlib.Omega.{arith}

@@ -1,4 +1,4 @@
--- Bytes read as one number: it tells whether their blocks are all in one state. Assumes nothing.
+-- Bytes read as one number: it tells whether their blocks are all in one state.
 use Prim.Native.Nat.{ℕ, zero, suc, _+_, _*_, _≤_, _<_}
 use mathlib.Core.Path.{_≡_, refl, sym, ap, _∙_}
 use mathlib.Core.Bool.{Bool, _&&_}

@@ -1,4 +1,4 @@
--- What the code knows on each way: past the test of a sum, and where a pattern did not fit. Assumes nothing.
+-- What the code knows on each way: past the test of a sum, and where a pattern did not fit.
 use Prim.Native.Nat.{ℕ, _≤_, _<_}
 use mathlib.Core.Path.{_≡_, refl}
 use mathlib.Core.Bool.{Bool, true, false, not}

@@ -1,4 +1,4 @@
--- The laws of `specs/Change.antt` that callers cite: what a range that passed its tests is, and what a decision depends on. Assumes nothing.
+-- The laws of `specs/Change.antt` that callers cite: what a range that passed its tests is, and what a decision depends on.
 use Prim.Native.Nat.{ℕ, zero, suc, _+_, _-_, _*_, _/_, _%_, min, _≤_, _<_}
 use mathlib.Core.Path.{_≡_, refl, sym, ap, _∙_}
 use mathlib.Core.Bool.{Bool, true, false, cond, not}

@@ -1,4 +1,4 @@
--- The laws of `specs/Text.antt` and `specs/Plan.antt`. Assumes nothing.
+-- The laws of `specs/Text.antt` and `specs/Plan.antt`.
 use Prim.Native.Nat.{ℕ, zero, suc, _+_, _-_, _*_, _/_, _%_, _^_, _≤_, _<_}
 use mathlib.Core.Path.{_≡_, refl, ap, _∙_, sym}
 use mathlib.Core.Bool.{Bool, true, false}

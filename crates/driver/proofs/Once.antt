@@ -1,4 +1,4 @@
--- Each promise of the bytes leaves one outcome. Assumes nothing.
+-- Each promise of the bytes leaves one outcome.
 use Prim.Native.Nat.{ℕ}
 use mathlib.Core.Path.{_≡_, refl, sym, ap, _∙_}
 use mathlib.Core.List.{List}

@@ -1,4 +1,4 @@
--- Reading what was written gives back the fields. Assumes nothing.
+-- Reading what was written gives back the fields.
 use Prim.Native.Nat.{ℕ, _+_, _≤_, _<_, _^_}
 use mathlib.Core.Path.{_≡_, ap, _∙_}
 use mathlib.Core.List.{List}

@@ -1,4 +1,4 @@
--- The ways that a call ends in: no room, a refusal, or the words of a value. Assumes nothing.
+-- The ways that a call ends in: no room, a refusal, or the words of a value.
 use Prim.Native.Nat.{ℕ, _≤_, _<_}
 use mathlib.Core.Path.{_≡_}
 use mathlib.Core.List.{List}

@@ -1,4 +1,4 @@
--- Each promise leaves one outcome. Assumes nothing.
+-- Each promise leaves one outcome.
 use Prim.Native.Nat.{ℕ}
 use mathlib.Core.Path.{_≡_, sym, _∙_}
 use mathlib.Core.Bool.{Bool}

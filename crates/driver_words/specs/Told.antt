@@ -1,4 +1,4 @@
--- What the calls of the guest's side leave in the words that they were lent. Assumes nothing.
+-- What the calls of the guest's side leave in the words that they were lent.
 use Prim.Native.Nat.{ℕ}
 use mathlib.Core.Path.{_≡_}
 use mathlib.Core.Bool.{Bool, cond}

@@ -1,4 +1,4 @@
--- What the planner proposes is legal on a device with sound rows. Assumes nothing.
+-- What the planner proposes is legal on a device with sound rows.
 use Prim.Native.Nat.{ℕ, zero, suc, _+_, _-_, _*_, _/_, _%_, _≤_, _<_}
 use mathlib.Core.Path.{_≡_, refl, ap, _∙_, sym}
 use mathlib.Core.Bool.{Bool, true, false}

@@ -1,4 +1,4 @@
--- Two forms that clash: the text of one does not scan as the other. Assumes nothing.
+-- Two forms that clash: the text of one does not scan as the other.
 use Prim.Native.Nat.{ℕ, zero, suc}
 use mathlib.Core.Path.{_≡_, refl}
 use mathlib.Core.Bool.{Bool, true, false, cond, not, _&&_}

@@ -1,4 +1,4 @@
--- For each tree of `Step`: what holds of every leaf that it can end in holds of its outcome, and each leaf gets what its tests tell. Assumes nothing.
+-- For each tree of `Step`: what holds of every leaf that it can end in holds of its outcome, and each leaf gets what its tests tell.
 use Prim.Native.Nat.{ℕ, _+_, _-_, _*_, _%_, _≤_, _<_}
 use mathlib.Core.Path.{_≡_, refl, ap, _∙_}
 use mathlib.Core.Bool.{Bool, true, false, cond, not, _&&_, _||_}

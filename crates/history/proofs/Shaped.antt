@@ -1,4 +1,4 @@
--- What a call may change in a record that has the shape. Assumes nothing.
+-- What a call may change in a record that has the shape.
 use Prim.Native.Nat.{ℕ, _%_, _≤_}
 use mathlib.Core.Path.{_≡_, refl}
 use mathlib.Core.Bool.{Bool, true, false}

@@ -1,4 +1,4 @@
--- One big plug or many small ones. Assumes nothing.
+-- One big plug or many small ones.
 use Prim.Native.Nat.{ℕ, _+_, _-_, _%_, _≤_, _<_}
 use mathlib.Core.Path.{_≡_, refl, sym, ap, _∙_}
 use mathlib.Core.Bool.{Bool, true, false, _||_}

@@ -1,4 +1,4 @@
--- A plug under a higher requested size. Assumes nothing.
+-- A plug under a higher requested size.
 use Prim.Native.Nat.{ℕ, _*_, max, _≤_}
 use mathlib.Core.Path.{_≡_, refl, sym}
 use mathlib.Core.Bool.{true, false}

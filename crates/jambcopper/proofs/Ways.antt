@@ -1,4 +1,4 @@
--- The two ways through every export: what the device's call promises, as words, and 12 where there is no record. Assumes nothing.
+-- The two ways through every export: what the device's call promises, as words, and 12 where there is no record.
 use Prim.Native.Nat.{ℕ, _≤_, _<_}
 use mathlib.Core.Path.{_≡_, refl, sym, ap, _∙_}
 use mathlib.Core.List.{List, []}

@@ -1,4 +1,4 @@
--- What an exported call leaves in the slices that it was lent: what the device's call ends in, as words. Assumes nothing.
+-- What an exported call leaves in the slices that it was lent: what the device's call ends in, as words.
 use Prim.Native.Nat.{ℕ}
 use mathlib.Core.Path.{_≡_}
 use mathlib.Core.Bool.{Bool, cond}

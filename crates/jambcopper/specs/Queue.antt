@@ -1,4 +1,4 @@
--- What an exported call on a queue leaves in the slices that it was lent: what the queue's call ends in, as words. Assumes nothing.
+-- What an exported call on a queue leaves in the slices that it was lent: what the queue's call ends in, as words.
 use Prim.Native.Nat.{ℕ}
 use mathlib.Core.Path.{_≡_}
 use mathlib.Core.Bool.{cond}

@@ -1,4 +1,4 @@
--- Numbers as bytes, lowest byte first, and bytes written at a place. Assumes nothing.
+-- Numbers as bytes, lowest byte first, and bytes written at a place.
 use Prim.Native.Nat.{ℕ, zero, suc, _+_, _*_, _/_, _%_}
 use mathlib.Core.List.{List, [], _∷_}
 use lib.ListN.{take, drop, set}

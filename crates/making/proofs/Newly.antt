@@ -1,4 +1,4 @@
--- What holds of a device that was just made: here every history begins. Assumes nothing.
+-- What holds of a device that was just made: here every history begins.
 use Prim.Native.Nat.{ℕ, _+_, _-_, _*_, _%_, _^_, _≤_, _<_}
 use mathlib.Core.Path.{_≡_, refl}
 use mathlib.Core.Bool.{Bool, true, false, _&&_}

@@ -5,8 +5,8 @@ use record::Pending;
 use record::features;
 use units::MemTool;
 use units::alignment_of;
-use units::product_within;
 use units::next_multiple_of;
+use units::product_within;
 use wire::VirtioMemConfig;
 ghost use mathlib.Core.Path.{_≡_};
 ghost use Prim.Native.Nat.{_≤_};
@@ -86,13 +86,7 @@ pub struct Mem {}
 
 impl Mem {
     // Makes a device from sizes in MiB, whose bytes may pass 2^64 - 1.
-    pub fn new(
-        capacity_mib: u64,
-        requested_mib: u64,
-        several: bool,
-        node: Node,
-        boot: u64,
-    ) -> Made
+    pub fn new(capacity_mib: u64, requested_mib: u64, several: bool, node: Node, boot: u64) -> Made
         ensures { λ r. ⌜ MadeAs (made «capacity_mib» «requested_mib» several node boot) r ⌝ }
     {
         if MAX_CAPACITY_MIB < capacity_mib {

@@ -1,4 +1,4 @@
--- Placing past its first tests: 3, 4, and what it writes and asks. Assumes nothing.
+-- Placing past its first tests: 3, 4, and what it writes and asks.
 use Prim.Native.Nat.{ℕ}
 use mathlib.Core.Path.{_≡_, refl, ap, _∙_}
 use mathlib.Core.Bool.{true, false, _&&_}

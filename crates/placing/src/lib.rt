@@ -66,13 +66,7 @@ fn resize(d: Device, table: &[u64]) -> Answered
     let config = d.config;
     let region = config.region_size;
     let new = new_size(region, config.requested_size, d.alignment);
-    let growth = growth_of(
-        region,
-        d.several,
-        config.usable_region_size,
-        new,
-        table,
-    );
+    let growth = growth_of(region, d.several, config.usable_region_size, new, table);
     let Growth::Asks(first, last, size) = growth else {
         return Answered {
             device: sized(d),

@@ -1,4 +1,4 @@
--- What the ways through a call of the queue come to: each lemma takes what the code knows on a way and shows the ending of `Queue.antt` there. Assumes nothing.
+-- What the ways through a call of the queue come to: each lemma takes what the code knows on a way and shows the ending of `Queue.antt` there.
 use Prim.Native.Nat.{ℕ, _*_, _/_}
 use mathlib.Core.Path.{_≡_, refl, sym, ap, _∙_}
 use mathlib.Core.Bool.{Bool, true, false, cond, not}

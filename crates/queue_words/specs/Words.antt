@@ -1,4 +1,4 @@
--- The queue as six words, and what words mean. Assumes nothing.
+-- The queue as six words, and what words mean.
 use Prim.Native.Nat.{ℕ, _+_, _-_}
 use mathlib.Core.Bool.{Bool, cond, _&&_}
 use mathlib.Core.List.{List, [], _∷_}

@@ -1,4 +1,4 @@
--- The laws of `specs/Shape.antt` and `specs/Changes.antt` that a caller cites: what the shape says in numbers, and which changes keep it. Assumes nothing.
+-- The laws of `specs/Shape.antt` and `specs/Changes.antt` that a caller cites: what the shape says in numbers, and which changes keep it.
 use Prim.Native.Nat.{ℕ, _+_, _-_, _*_, _%_, _≤_, _<_}
 use mathlib.Core.Path.{_≡_, refl, ap, _∙_, sym}
 use mathlib.Core.Bool.{Bool, true, false, not, _&&_, _||_}

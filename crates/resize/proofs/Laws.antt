@@ -1,4 +1,4 @@
--- The laws of `specs/Resize.antt` that callers cite. Assumes nothing.
+-- The laws of `specs/Resize.antt` that callers cite.
 use Prim.Native.Nat.{ℕ, _+_, _*_, _/_, _%_, _≤_, _<_, min}
 use mathlib.Core.Path.{_≡_, refl}
 use mathlib.Core.Bool.{Bool, true, false}

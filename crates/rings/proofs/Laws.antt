@@ -1,4 +1,4 @@
--- Laws on the rings, for callers: what a report leaves, whatever overlaps, and what indices that wrap come to. Assumes nothing.
+-- Laws on the rings, for callers: what a report leaves, whatever overlaps, and what indices that wrap come to.
 use Prim.Native.Nat.{ℕ, _+_, _-_, _*_, _%_, _≤_, _<_, _^_}
 use mathlib.Core.Path.{_≡_, ap, _∙_}
 use mathlib.Core.Bool.{true}

@@ -1,4 +1,4 @@
--- The laws of `specs/Rows.antt` that a caller cites. All are on lists of rows, and none speaks of words. Assumes nothing.
+-- The laws of `specs/Rows.antt` that a caller cites. All are on lists of rows, and none speaks of words.
 use Prim.Native.Nat.{ℕ, zero, suc, _+_, _-_, _*_, _≤_, _<_, min}
 use mathlib.Core.Path.{_≡_, refl, ap, _∙_}
 use mathlib.Core.Bool.{true, false}

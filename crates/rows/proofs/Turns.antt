@@ -1,4 +1,4 @@
--- What one turn of a loop over the rows does. Assumes nothing.
+-- What one turn of a loop over the rows does.
 use Prim.Native.Nat.{ℕ, zero, suc, _+_, _-_, _*_, _≤_, _<_, min}
 use mathlib.Core.Path.{_≡_, refl, ap, sym, _∙_}
 use mathlib.Core.List.{List, [], _∷_}

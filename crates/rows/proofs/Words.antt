@@ -1,4 +1,4 @@
--- How the words of a table and its rows go over into each other. Assumes nothing.
+-- How the words of a table and its rows go over into each other.
 use Prim.Native.Nat.{ℕ, zero, suc, _+_, _*_, _/_, _<_}
 use mathlib.Core.Path.{_≡_, refl, ap}
 use mathlib.Core.List.{List, [], _∷_, _++_, append-nil}

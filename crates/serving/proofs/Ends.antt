@@ -1,4 +1,4 @@
--- How an outcome is met: a response that was delivered, an answer that leaves all as it is. Assumes nothing.
+-- How an outcome is met: a response that was delivered, an answer that leaves all as it is.
 use Prim.Native.Nat.{ℕ}
 use mathlib.Core.Path.{_≡_, refl, ap, sym}
 use mathlib.Core.List.{List}

@@ -1,4 +1,4 @@
--- What the ways through a request come to: each lemma takes what the code knows on a way and shows the leaf of `Step.antt` there. Assumes nothing.
+-- What the ways through a request come to: each lemma takes what the code knows on a way and shows the leaf of `Step.antt` there.
 use Prim.Native.Nat.{ℕ, _+_, _≤_, _<_}
 use mathlib.Core.Path.{_≡_, refl, sym, _∙_}
 use mathlib.Core.Bool.{Bool, true, false, not}

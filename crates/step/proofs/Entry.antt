@@ -1,4 +1,4 @@
--- What a call that is not refused by its first tests stands on: a record of the stated shape, and tables of the length. Assumes nothing.
+-- What a call that is not refused by its first tests stands on: a record of the stated shape, and tables of the length.
 use Prim.Native.Nat.{ℕ, _≤_, _<_}
 use mathlib.Core.Path.{_≡_, refl}
 use mathlib.Core.Bool.{Bool, true, false, cond}

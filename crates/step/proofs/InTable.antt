@@ -1,4 +1,4 @@
--- Request 2/12: the row that test (d) looks at is in the table, so that (d) never looks past the table's end, where nothing is mapped (`rowAt`). Assumes nothing.
+-- Request 2/12: the row that test (d) looks at is in the table, so that (d) never looks past the table's end, where nothing is mapped (`rowAt`).
 use Prim.Native.Nat.{ℕ, _+_, _*_, _<_}
 use mathlib.Core.Path.{_≡_}
 use mathlib.Core.Bool.{Bool, true, false}

@@ -1,4 +1,4 @@
--- What a call may change of the record: a request the plugged size and the pending call; a host's answer those, the usable size and whether the device is placed. Assumes nothing.
+-- What a call may change of the record: a request the plugged size and the pending call; a host's answer those, the usable size and whether the device is placed.
 use Prim.Native.Nat.{ℕ, _+_}
 use mathlib.Core.Path.{_≡_, refl, ap}
 use mathlib.Core.Bool.{Bool, true, false, cond}

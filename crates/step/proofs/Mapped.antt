@@ -1,4 +1,4 @@
--- The usable size once it is worked out, and the rows below it: after a successful answer every one of them is mapped, on tables that nobody altered. Assumes nothing.
+-- The usable size once it is worked out, and the rows below it: after a successful answer every one of them is mapped, on tables that nobody altered.
 use Prim.Native.Nat.{ℕ, _+_, _-_, _*_, _/_, _%_, _≤_, _<_, min}
 use mathlib.Core.Path.{_≡_}
 use mathlib.Core.Bool.{true}

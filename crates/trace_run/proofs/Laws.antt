@@ -1,4 +1,4 @@
--- The laws of `specs/Run.antt`: slots that count up, and what a line of output comes to. Assumes nothing.
+-- The laws of `specs/Run.antt`: slots that count up, and what a line of output comes to.
 use Prim.Native.Nat.{ℕ, zero, suc, _+_, _≤_, _<_}
 use mathlib.Core.Path.{_≡_, refl, sym, ap, _∙_}
 use mathlib.Core.List.{List, [], _∷_, _++_}

@@ -1,4 +1,4 @@
--- A promise of `Serves` leaves one outcome only. Assumes nothing.
+-- A promise of `Serves` leaves one outcome only.
 use Prim.Native.Nat.{ℕ, _<_}
 use mathlib.Core.Path.{_≡_, sym, ap, _∙_}
 use mathlib.Core.List.{List}

@@ -1,4 +1,4 @@
--- The chain that a trace's op lays is good: in guest memory of 106 bytes or more every op is answered by a line. Assumes nothing.
+-- The chain that a trace's op lays is good: in guest memory of 106 bytes or more every op is answered by a line.
 use Prim.Native.Nat.{ℕ, _+_, _*_, _/_, _%_, _^_, _≤_, _<_}
 use mathlib.Core.Path.{_≡_, refl, ap, _∙_}
 use mathlib.Core.Bool.{Bool, true, false, cond, not, _||_}

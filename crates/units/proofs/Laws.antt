@@ -1,4 +1,4 @@
--- The laws of `specs/Numbers.antt` that the crates above cite. Assumes nothing.
+-- The laws of `specs/Numbers.antt` that the crates above cite.
 use Prim.Native.Nat.{ℕ, zero, suc, _+_, _-_, _*_, _/_, _%_, _^_, _≤_, _<_}
 use mathlib.Core.Path.{_≡_, refl, sym, _∙_}
 use native.Mathlib.Nat.{div-add-mod', mod-lt, mul-zero, add-mul, pow-succ', div-div-eq-div-mul, div-one}

@@ -1,4 +1,4 @@
--- Laws on tests: how an order, a flag and an ordered row of tests turn into each other. Every crate above cites them. Assumes nothing.
+-- Laws on tests: how an order, a flag and an ordered row of tests turn into each other. Every crate above cites them.
 use Prim.Native.Nat.{ℕ, _-_, _≤_, _<_}
 use mathlib.Core.Path.{_≡_, refl, sym, _∙_}
 use mathlib.Core.Bool.{Bool, true, false, not, cond, _&&_}

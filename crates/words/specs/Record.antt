@@ -1,4 +1,4 @@
--- The record as fifteen words, and what words mean. Assumes nothing.
+-- The record as fifteen words, and what words mean.
 use Prim.Native.Nat.{ℕ}
 use mathlib.Core.Bool.{Bool, true, false, cond, _&&_}
 use mathlib.Core.List.{List, [], _∷_}

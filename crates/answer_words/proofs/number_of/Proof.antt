@@ -1,4 +1,4 @@
--- `answer_words::number_of` meets its contract. Assumes nothing.
+-- `answer_words::number_of` meets its contract.
 use borrow.Author.Needs.{needs}
 use Rattle.answer_words.proofs.number_of.Statement.{statement}
 use Rattle.answer_words.proofs.number_of.Tie as tie

@@ -1,4 +1,4 @@
--- `answer_words::store_answer` meets its contract: nine stores write the nine words. Assumes nothing.
+-- `answer_words::store_answer` meets its contract: nine stores write the nine words.
 use Prim.Native.Nat.{ℕ}
 use mathlib.Core.Path.{_≡_, sym, _∙_}
 use mathlib.Core.List.{List}

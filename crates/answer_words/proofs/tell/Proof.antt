@@ -1,4 +1,4 @@
--- `answer_words::tell` meets its contract: both ways write the words of the answer. Assumes nothing.
+-- `answer_words::tell` meets its contract: both ways write the words of the answer.
 use mathlib.Core.Path.{ap, _∙_}
 use Rattle.little_endian.specs.Bytes.{put}
 use borrow.Author.Needs.{needs}

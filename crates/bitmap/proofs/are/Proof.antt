@@ -1,4 +1,4 @@
--- `bitmap::are` meets its contract. No loop. Assumes nothing.
+-- `bitmap::are` meets its contract. No loop.
 use borrow.Author.Needs.{needs}
 use Rattle.bitmap.proofs.Bits.{run-is}
 use Rattle.bitmap.proofs.Bytes.{are-run}

@@ -1,4 +1,4 @@
--- `bitmap::bit` meets its contract. No loop. Assumes nothing.
+-- `bitmap::bit` meets its contract. No loop.
 use borrow.Author.Needs.{needs}
 use mathlib.Core.Path.{sym}
 use Rattle.bitmap.proofs.Bits.{low-at}

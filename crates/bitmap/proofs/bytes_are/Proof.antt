@@ -1,5 +1,5 @@
 -- `bitmap::bytes_are` meets its contract. The invariant of both loops: the answer for the bytes from byte j on is the answer.
--- The measure is the number of bytes that are left. Assumes nothing.
+-- The measure is the number of bytes that are left.
 use Prim.Native.Nat.{ℕ, _+_, _-_, _≤_}
 use mathlib.Core.Path.{_≡_, refl}
 use mathlib.Core.Bool.{Bool, _&&_}

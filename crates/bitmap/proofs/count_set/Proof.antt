@@ -1,5 +1,5 @@
 -- `bitmap::count_set` meets its contract. The loop's invariant: what is counted so far and the set blocks of what is left are those of the range.
--- The measure is what is left. Assumes nothing.
+-- The measure is what is left.
 use Prim.Native.Nat.{_+_, _≤_, _<_}
 use mathlib.Core.Path.{_≡_}
 use mathlib.Core.Logic.{⊎-elim}

@@ -1,4 +1,4 @@
--- `bitmap::mask` meets its contract. No loop. Assumes nothing.
+-- `bitmap::mask` meets its contract. No loop.
 use Prim.Native.Nat.{_+_, _≤_}
 use native.Mathlib.Omega.{arith}
 use lib.Pow.{pow-pos, pow-mono}

@@ -1,4 +1,4 @@
--- `bitmap::next_clear` meets its contract. Assumes nothing.
+-- `bitmap::next_clear` meets its contract.
 use borrow.Author.Needs.{needs}
 use Rattle.bitmap.proofs.next_clear.Statement.{statement}
 use Rattle.bitmap.proofs.next_clear.Tie as tie

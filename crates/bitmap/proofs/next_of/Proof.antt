@@ -1,5 +1,5 @@
 -- `bitmap::next_of` meets its contract. The loop's invariant: `at` is the block at bit k of byte j, and the search from there gives the answer.
--- The measure is the number of blocks up to `end`. Assumes nothing.
+-- The measure is the number of blocks up to `end`.
 use Prim.Native.Nat.{ℕ, _-_, _<_, _+_, _≤_}
 use mathlib.Core.Path.{_≡_, sym, _∙_}
 use mathlib.Core.Bool.{Bool, not, _&&_}

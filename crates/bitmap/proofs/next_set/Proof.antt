@@ -1,4 +1,4 @@
--- `bitmap::next_set` meets its contract. Assumes nothing.
+-- `bitmap::next_set` meets its contract.
 use borrow.Author.Needs.{needs}
 use Rattle.bitmap.proofs.next_set.Statement.{statement}
 use Rattle.bitmap.proofs.next_set.Tie as tie

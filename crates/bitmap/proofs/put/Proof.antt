@@ -1,4 +1,4 @@
--- `bitmap::put` meets its contract. No loop. Assumes nothing.
+-- `bitmap::put` meets its contract. No loop.
 use borrow.Author.Needs.{needs}
 use Rattle.bitmap.proofs.Bits.{run-is, put-run}
 use Rattle.bitmap.proofs.put.Statement.{statement}

@@ -1,5 +1,5 @@
 -- `bitmap::put_bytes` meets its contract. The loop's invariant: the bytes before byte j are filled, and nothing else.
--- The measure is the number of bytes that are left. Assumes nothing.
+-- The measure is the number of bytes that are left.
 use Prim.Native.Nat.{_+_, _-_, _*_, _≤_}
 use mathlib.Core.Path.{_≡_}
 use native.Mathlib.Omega.{arith}

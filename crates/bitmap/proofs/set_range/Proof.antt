@@ -1,4 +1,4 @@
--- `bitmap::set_range` meets its contract: the three parts are filled, one after the other. No loop. Assumes nothing.
+-- `bitmap::set_range` meets its contract: the three parts are filled, one after the other. No loop.
 use Prim.Native.Nat.{_+_, _-_, _*_, _/_, _%_, min}
 use mathlib.Core.Path.{_≡_}
 use native.Mathlib.Omega.{arith}

@@ -1,4 +1,4 @@
--- `bitmap::whole_word` meets its contract. No loop. Assumes nothing.
+-- `bitmap::whole_word` meets its contract. No loop.
 use Rattle.bitmap.specs.Whole.{whole, wholes}
 use Rattle.bitmap.proofs.whole_word.Statement.{statement}
 use Rattle.bitmap.proofs.whole_word.Tie as tie

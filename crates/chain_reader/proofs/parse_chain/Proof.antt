@@ -1,6 +1,6 @@
 -- `chain_reader::parse_chain` meets its contract: a walk of its MIR, by hand. The reader that `new` returns is held in a local and passed to `request`. All that the proof knows of either is that it meets its contract.
 -- In a local of a body MIR erases the lifetime of the reader's type, so the value is shown to have the type at `erased`.
--- Assumes nothing.
+--
 use mathlib.Core.Path.{_≡_, refl, _∙_}
 use Prim.Native.Nat.{ℕ, _<_, _^_}
 use mathlib.Core.List.{List, [], _∷_}

@@ -1,6 +1,6 @@
 -- `chain_reader::second_link` meets its contract: a walk of its MIR, by hand. The reader that one call returns is held in a local and passed to the next. All that the proof knows of `new`, of `advanced` and of `current` is that each meets its contract.
 -- In a local of a body MIR erases the lifetime of the reader's type, so the value is shown to have the type at `erased`.
--- Assumes nothing.
+--
 use mathlib.Core.Path.{_≡_, refl, _∙_}
 use Prim.Native.Nat.{ℕ, _<_, _^_}
 use mathlib.Core.List.{List, [], _∷_}

@@ -1,4 +1,4 @@
--- `change::change_of` meets its contract: each `return` is one of the tests (b), (c), (d), in this order. Assumes nothing.
+-- `change::change_of` meets its contract: each `return` is one of the tests (b), (c), (d), in this order.
 use mathlib.Core.Path.{_≡_, sym, _∙_}
 use mathlib.Core.Bool.{true, not}
 use denote.Ref.{now}

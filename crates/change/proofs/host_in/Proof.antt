@@ -1,4 +1,4 @@
--- `change::host_in` meets its contract. Assumes nothing.
+-- `change::host_in` meets its contract.
 use Rattle.change.specs.Change.{hostIn}
 use borrow.Author.Needs.{needs}
 use Rattle.change.proofs.host_in.Statement.{statement}

@@ -1,4 +1,4 @@
--- `change::host_of` meets its contract: each `return` is one part of test (d). Assumes nothing.
+-- `change::host_of` meets its contract: each `return` is one part of test (d).
 use Prim.Native.Nat.{_+_, _%_}
 use native.Mathlib.Omega.{arith}
 use borrow.Author.Tests.{lt-ltb, le-ltb, not-true, not-false}

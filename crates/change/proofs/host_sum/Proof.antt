@@ -1,4 +1,4 @@
--- `change::host_sum` meets its contract: a sum that passes 2^64 - 1 before the size is added passes it after. Assumes nothing.
+-- `change::host_sum` meets its contract: a sum that passes 2^64 - 1 before the size is added passes it after.
 use Prim.Native.Nat.{_+_}
 use native.Mathlib.Omega.{arith}
 use borrow.Author.Tests.{lt-ltb, le-ltb}

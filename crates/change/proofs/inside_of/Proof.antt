@@ -1,4 +1,4 @@
--- `change::inside_of` meets its contract: from `start` on, a test of the offset is the same test of the address. Assumes nothing.
+-- `change::inside_of` meets its contract: from `start` on, a test of the offset is the same test of the address.
 use Prim.Native.Nat.{_+_}
 use native.Mathlib.Omega.{arith}
 use borrow.Author.Needs.{needs}

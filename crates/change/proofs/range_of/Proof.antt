@@ -1,4 +1,4 @@
--- `change::range_of` meets its contract: each `return` is one part of test (b). Assumes nothing.
+-- `change::range_of` meets its contract: each `return` is one part of test (b).
 use Prim.Native.Nat.{_+_}
 use native.Mathlib.Omega.{arith}
 use borrow.Author.Tests.{lt-ltb, le-ltb, eq-eqb, ne-eqb}

@@ -1,4 +1,4 @@
--- `change::state_in` meets its contract. Assumes nothing.
+-- `change::state_in` meets its contract.
 use Rattle.units.proofs.Tests.{flag}
 use Rattle.change.specs.Change.{stateIn}
 use borrow.Author.Needs.{needs}

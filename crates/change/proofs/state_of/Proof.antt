@@ -1,4 +1,4 @@
--- `change::state_of` meets its contract: the blocks that exist are those before the region's count, so the count is cut there. Assumes nothing.
+-- `change::state_of` meets its contract: the blocks that exist are those before the region's count, so the count is cut there.
 use native.Mathlib.Omega.{arith}
 use mathlib.Core.Path.{sym}
 use borrow.Author.Tests.{lt-ltb, le-ltb}

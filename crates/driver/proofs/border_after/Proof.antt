@@ -1,4 +1,4 @@
--- `border_after` meets its contract. Assumes nothing.
+-- `border_after` meets its contract.
 use Prim.Native.Nat.{_+_, _*_, _/_, _≤_}
 use native.Mathlib.Omega.{arith}
 use Rattle.units.specs.Numbers.{blocksIn, mapRegion}

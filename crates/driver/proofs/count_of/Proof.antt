@@ -1,4 +1,4 @@
--- `count_of` meets its contract. Assumes nothing.
+-- `count_of` meets its contract.
 use Prim.Native.Nat.{ℕ, _-_, _≤_, min}
 use mathlib.Core.Path.{_≡_, ap, _∙_}
 use native.Mathlib.Omega.{arith}

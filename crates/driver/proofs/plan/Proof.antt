@@ -1,4 +1,4 @@
--- `plan` meets its contract. Assumes nothing.
+-- `plan` meets its contract.
 use Prim.Native.Nat.{ℕ}
 use mathlib.Core.Path.{_≡_, refl, sym, _∙_}
 use mathlib.Core.Bool.{Bool, true, false}

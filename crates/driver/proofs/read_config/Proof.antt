@@ -1,4 +1,4 @@
--- `read_config` meets its contract. Assumes nothing.
+-- `read_config` meets its contract.
 use mathlib.Core.Path.{sym}
 use native.Mathlib.Omega.{arith}
 use Rattle.driver.proofs.Laws.{config-means, config-text, config-refused, config-read}

@@ -1,4 +1,4 @@
--- `read_response` meets its contract. Assumes nothing.
+-- `read_response` meets its contract.
 use mathlib.Core.Path.{sym}
 use native.Mathlib.Omega.{arith}
 use Rattle.driver.proofs.Laws.{response-means, response-text, response-refused, response-read}

@@ -1,4 +1,4 @@
--- `room_of` meets its contract. Assumes nothing.
+-- `room_of` meets its contract.
 use Rattle.units.specs.Numbers.{blocksIn}
 use mathlib.Core.Path.{ap}
 use borrow.Author.Needs.{needs}

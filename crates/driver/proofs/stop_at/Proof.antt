@@ -1,4 +1,4 @@
--- `stop_at` meets its contract. Assumes nothing.
+-- `stop_at` meets its contract.
 use mathlib.Core.Path.{ap, sym, _∙_}
 use Rattle.bitmap.specs.declared.Found.{Found}
 use Rattle.driver.specs.Plan.{stopAt}

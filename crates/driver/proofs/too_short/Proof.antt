@@ -1,4 +1,4 @@
--- `too_short` meets its contract. Assumes nothing.
+-- `too_short` meets its contract.
 use Prim.Native.Nat.{ℕ, _*_, _+_, _/_, _%_}
 use mathlib.Core.Path.{_≡_}
 use native.Mathlib.Omega.{arith}

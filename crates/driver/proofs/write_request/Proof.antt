@@ -1,4 +1,4 @@
--- `write_request` meets its contract. Assumes nothing.
+-- `write_request` meets its contract.
 use mathlib.Core.Path.{refl}
 use native.Mathlib.Omega.{arith}
 use Rattle.driver.proofs.Laws.{request-put}

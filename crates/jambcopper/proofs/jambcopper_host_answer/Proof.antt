@@ -1,4 +1,4 @@
--- `jambcopper::jambcopper_host_answer` meets its contract: 12 where there is no record, else the device's call. Assumes nothing.
+-- `jambcopper::jambcopper_host_answer` meets its contract: 12 where there is no record, else the device's call.
 use Rattle.jambcopper.proofs.Ways.{foreign, served, answer-written}
 use Rattle.step.proofs.Kept.{answer-changes}
 use borrow.Author.Needs.{needs}

@@ -1,4 +1,4 @@
--- `jambcopper::jambcopper_make` meets its contract: 12 where there is no room, else what was made. Assumes nothing.
+-- `jambcopper::jambcopper_make` meets its contract: 12 where there is no room, else what was made.
 use mathlib.Core.Path.{ap, _∙_}
 use Rattle.making.specs.declared.Node.{Node}
 use Rattle.making.specs.Made.{made}
@@ -30,7 +30,7 @@ returns-2 c =
     let a = c .before .before .before .before .before .before .before .args in
     made-refused _ _ _ (c .before .before .before .before .before .if1 .left) _
     (c .before .before .before .new .ensures .same
-    ∙ ap (λ (n : Node). made (a .capacity-mib) (a .requested-mib) (a .multi-region) n (a .boot)) (c .before .before .before .before .node-of .ensures))
+    ∙ ap (λ (n : Node). made (a .capacity-mib) (a .requested-mib) (a .several) n (a .boot)) (c .before .before .before .before .node-of .ensures))
     (c .before .number .given .1)
 
 same-length : tie.Need-same-length
@@ -41,7 +41,7 @@ returns-3 c =
     let a = c .before .before .before .before .before .before .before .before .before .before .before .args in
     made-device _ _ _ (c .before .before .before .before .before .before .before .before .before .if1 .left) _
     (c .before .before .before .before .before .before .before .new .ensures .same
-    ∙ ap (λ (n : Node). made (a .capacity-mib) (a .requested-mib) (a .multi-region) n (a .boot)) (c .before .before .before .before .before .before .before .before .node-of .ensures))
+    ∙ ap (λ (n : Node). made (a .capacity-mib) (a .requested-mib) (a .several) n (a .boot)) (c .before .before .before .before .before .before .before .before .node-of .ensures))
     (c .before .before .before .before .before .d .given .1)
     _
     (c .before .before .encode .ensures .0)

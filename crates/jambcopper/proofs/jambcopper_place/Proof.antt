@@ -1,4 +1,4 @@
--- `jambcopper::jambcopper_place` meets its contract: 12 where there is no record, else the device's call. Assumes nothing.
+-- `jambcopper::jambcopper_place` meets its contract: 12 where there is no record, else the device's call.
 use Rattle.jambcopper.proofs.Ways.{foreign, served}
 use borrow.Author.Needs.{needs}
 use Rattle.jambcopper.proofs.jambcopper_place.Statement.{statement}

@@ -1,4 +1,4 @@
--- `jambcopper::jambcopper_queue_make` meets its contract: 12 where there is no room, else the words of a new queue. Assumes nothing.
+-- `jambcopper::jambcopper_queue_make` meets its contract: 12 where there is no room, else the words of a new queue.
 use Rattle.jambcopper.proofs.QueueWays.{no-queue-room, queue-made}
 use borrow.Author.Needs.{needs}
 use Rattle.jambcopper.proofs.jambcopper_queue_make.Statement.{statement}

@@ -1,4 +1,4 @@
--- `jambcopper::jambcopper_serve` meets its contract: 12 where there is no record, or no queue; no head that is taken; or the device's request, and the head by its answer. Assumes nothing.
+-- `jambcopper::jambcopper_serve` meets its contract: 12 where there is no record, or no queue; no head that is taken; or the device's request, and the head by its answer.
 use native.Mathlib.Omega.{arith}
 use mathlib.Core.Path.{refl}
 use Rattle.step.proofs.Lengths.{served-short}

@@ -1,4 +1,4 @@
--- `jambcopper::node_of` meets its contract. Assumes nothing.
+-- `jambcopper::node_of` meets its contract.
 use borrow.Author.Needs.{needs}
 use Rattle.jambcopper.proofs.node_of.Statement.{statement}
 use Rattle.jambcopper.proofs.node_of.Tie as tie

@@ -1,5 +1,5 @@
 -- `copy` meets its contract. The loop's invariant: writing what is left of `what` from `i` on gives what writing all of it gives.
--- The measure is what is left of the count. Assumes nothing.
+-- The measure is what is left of the count.
 use Prim.Native.Nat.{ℕ, _+_, _-_, _≤_, _<_, min}
 use mathlib.Core.Path.{_≡_, refl, sym, _∙_}
 use mathlib.Core.Bool.{Bool, true, false}

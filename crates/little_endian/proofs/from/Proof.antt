@@ -1,4 +1,4 @@
--- `from` meets its contract: what stands from `at` on, and nothing where the slice ends before. Assumes nothing.
+-- `from` meets its contract: what stands from `at` on, and nothing where the slice ends before.
 use mathlib.Core.Path.{sym}
 use Prim.Native.Nat.{_-_}
 use native.Mathlib.Omega.{arith}

@@ -1,4 +1,4 @@
--- `put_two` meets its contract: two stores are the two lowest bytes. Assumes nothing.
+-- `put_two` meets its contract: two stores are the two lowest bytes.
 use native.Mathlib.Omega.{arith}
 use native.Mathlib.Numerals.{add-one}
 use lib.ListN.{length-set}

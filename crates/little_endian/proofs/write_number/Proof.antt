@@ -1,5 +1,5 @@
 -- `write_number` meets its contract. The loop's invariant: writing what is left of the number from `i` on gives what writing all of it from `at` on gives.
--- The measure is what is left of the buffer. Assumes nothing.
+-- The measure is what is left of the buffer.
 use Prim.Native.Nat.{ℕ, zero, suc, _+_, _-_, _/_, _%_}
 use mathlib.Core.Path.{_≡_, refl, sym, _∙_}
 use mathlib.Core.List.{List}

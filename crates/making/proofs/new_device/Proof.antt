@@ -1,4 +1,4 @@
--- `making::new_device` meets its contract. Assumes nothing.
+-- `making::new_device` meets its contract.
 use borrow.Author.Needs.{needs}
 use Rattle.making.proofs.new_device.Statement.{statement}
 use Rattle.making.proofs.new_device.Tie as tie

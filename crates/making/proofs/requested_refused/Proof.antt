@@ -1,4 +1,4 @@
--- `making::requested_refused` meets its contract: the product is made only where it is at most the region. Assumes nothing.
+-- `making::requested_refused` meets its contract: the product is made only where it is at most the region.
 use Prim.Native.Nat.{_*_}
 use native.Mathlib.Omega.{arith}
 use borrow.Author.Tests.{leb-true, leb-false, lt-ltb, le-ltb}

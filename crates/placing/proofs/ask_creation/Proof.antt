@@ -1,4 +1,4 @@
--- `placing::ask_creation` meets its contract: the sum of the guest address is not held. Assumes nothing.
+-- `placing::ask_creation` meets its contract: the sum of the guest address is not held.
 use Prim.Native.Nat.{ℕ, _+_, _*_}
 use mathlib.Core.Path.{_≡_, ap}
 use native.Mathlib.Omega.{arith}

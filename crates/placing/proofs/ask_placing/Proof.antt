@@ -1,4 +1,4 @@
--- `placing::ask_placing` meets its contract. Assumes nothing.
+-- `placing::ask_placing` meets its contract.
 use mathlib.Core.Path.{ap, sym, _∙_}
 use Rattle.step.specs.World.{answeredBy}
 use Rattle.placing.proofs.Laws.{placing-several, placing-single}

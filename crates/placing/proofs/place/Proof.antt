@@ -1,4 +1,4 @@
--- `placing::place` meets its contract: the refusals 12, 7, 6, 11, then 3, 4, and then the tables are written before the host is asked. Assumes nothing.
+-- `placing::place` meets its contract: the refusals 12, 7, 6, 11, then 3, 4, and then the tables are written before the host is asked.
 use mathlib.Core.Path.{_≡_, sym, _∙_}
 use mathlib.Core.Bool.{true}
 use Rattle.bitmap.proofs.Laws.{blocks-length}

@@ -1,4 +1,4 @@
--- `placing::range_refusal` meets its contract: 3 before 4. Assumes nothing.
+-- `placing::range_refusal` meets its contract: 3 before 4.
 use Rattle.placing.specs.Placing.{rangeRefusal}
 use borrow.Author.Needs.{needs}
 use Rattle.placing.proofs.range_refusal.Statement.{statement}

@@ -1,4 +1,4 @@
--- `placing::resize` meets its contract. Assumes nothing.
+-- `placing::resize` meets its contract.
 use mathlib.Core.Path.{sym, _∙_}
 use Rattle.record.proofs.Laws.{shaped-is}
 use Rattle.step.specs.Step.{resizes}

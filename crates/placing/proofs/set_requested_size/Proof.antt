@@ -1,4 +1,4 @@
--- `placing::set_requested_size` meets its contract: the refusals 12, 7, 5, 11 and then 1, and the new requested size before anything is worked out. Assumes nothing.
+-- `placing::set_requested_size` meets its contract: the refusals 12, 7, 5, 11 and then 1, and the new requested size before anything is worked out.
 use Prim.Native.Nat.{_*_, _%_}
 use mathlib.Core.Path.{_≡_, refl, sym, _∙_}
 use mathlib.Core.Bool.{true, false, not, _||_}

@@ -1,4 +1,4 @@
--- `queue::can_report` meets its contract: the rings are tested where a head is out. Assumes nothing.
+-- `queue::can_report` meets its contract: the rings are tested where a head is out.
 use Rattle.queue.specs.Queue.{canReport}
 use borrow.Author.Needs.{needs}
 use Rattle.queue.proofs.can_report.Statement.{statement}

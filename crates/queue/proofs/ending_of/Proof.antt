@@ -1,4 +1,4 @@
--- `queue::ending_of` meets its contract: each answer has its ending. Assumes nothing.
+-- `queue::ending_of` meets its contract: each answer has its ending.
 use borrow.Author.Needs.{needs}
 use Rattle.queue.proofs.ending_of.Statement.{statement}
 use Rattle.queue.proofs.ending_of.Tie as tie

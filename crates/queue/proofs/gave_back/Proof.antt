@@ -1,4 +1,4 @@
--- `queue::gave_back` meets its contract: the used index is one further, and no head is out. Assumes nothing.
+-- `queue::gave_back` meets its contract: the used index is one further, and no head is out.
 use borrow.Author.Needs.{needs}
 use Rattle.queue.proofs.gave_back.Statement.{statement}
 use Rattle.queue.proofs.gave_back.Tie as tie

@@ -1,4 +1,4 @@
--- `queue::none_told` meets its contract: the refusal comes first. Assumes nothing.
+-- `queue::none_told` meets its contract: the refusal comes first.
 use borrow.Author.Tests.{eq-eqb, ne-eqb}
 use Rattle.queue.specs.Queue.{nextUnless, noneTold}
 use borrow.Author.Needs.{needs}

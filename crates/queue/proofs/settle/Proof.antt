@@ -1,4 +1,4 @@
--- `queue::settle` meets its contract: the queue and the used ring are those of the ending. Assumes nothing.
+-- `queue::settle` meets its contract: the queue and the used ring are those of the ending.
 use mathlib.Core.Path.{refl}
 use Rattle.queue.specs.Queue.{queueBy, bytesBy}
 use borrow.Author.Needs.{needs}

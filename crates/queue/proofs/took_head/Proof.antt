@@ -1,4 +1,4 @@
--- `queue::took_head` meets its contract: the available index is one further, and the head is out. Assumes nothing.
+-- `queue::took_head` meets its contract: the available index is one further, and the head is out.
 use borrow.Author.Needs.{needs}
 use Rattle.queue.proofs.took_head.Statement.{statement}
 use Rattle.queue.proofs.took_head.Tie as tie

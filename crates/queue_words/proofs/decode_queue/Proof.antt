@@ -1,4 +1,4 @@
--- `queue_words::decode_queue` meets its contract, test by test and then field by field. Assumes nothing.
+-- `queue_words::decode_queue` meets its contract, test by test and then field by field.
 use mathlib.Core.Path.{refl}
 use mathlib.Core.Bool.{_&&_}
 use native.Mathlib.Omega.{arith}

@@ -1,4 +1,4 @@
--- `queue_words::encode_queue` meets its contract: both ways write the words of the queue. Assumes nothing.
+-- `queue_words::encode_queue` meets its contract: both ways write the words of the queue.
 use Prim.Native.Nat.{ℕ, _≤_}
 use mathlib.Core.Path.{_≡_, ap, _∙_}
 use mathlib.Core.Bool.{true}

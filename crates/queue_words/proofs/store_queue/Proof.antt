@@ -1,4 +1,4 @@
--- `queue_words::store_queue` meets its contract: six stores write the six words. Assumes nothing.
+-- `queue_words::store_queue` meets its contract: six stores write the six words.
 use Prim.Native.Nat.{ℕ}
 use mathlib.Core.Path.{_≡_, sym, _∙_}
 use mathlib.Core.List.{List}

@@ -1,4 +1,4 @@
--- `queue_words::taken_of` meets its contract. Assumes nothing.
+-- `queue_words::taken_of` meets its contract.
 use borrow.Author.Tests.{ne-eqb}
 use Rattle.queue_words.specs.Words.{takenOf}
 use borrow.Author.Needs.{needs}

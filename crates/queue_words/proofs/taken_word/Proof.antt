@@ -1,4 +1,4 @@
--- `queue_words::taken_word` meets its contract, case by case. Assumes nothing.
+-- `queue_words::taken_word` meets its contract, case by case.
 use native.Mathlib.Omega.{arith}
 use borrow.Author.Needs.{needs}
 use Rattle.queue_words.proofs.taken_word.Statement.{statement}

@@ -1,4 +1,4 @@
--- `config_shaped` meets its contract. Assumes nothing.
+-- `config_shaped` meets its contract.
 use Rattle.record.specs.Shape.{configShapedOf}
 use borrow.Author.Needs.{needs}
 use Rattle.record.proofs.config_shaped.Statement.{statement}

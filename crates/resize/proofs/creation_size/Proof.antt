@@ -1,4 +1,4 @@
--- `resize::creation_size` meets its contract: no row from i to last starts past the region's end, so nothing passes the region's size. Assumes nothing.
+-- `resize::creation_size` meets its contract: no row from i to last starts past the region's end, so nothing passes the region's size.
 use mathlib.Core.Path.{sym, _∙_}
 use native.Mathlib.Omega.{arith}
 use borrow.Author.Needs.{needs}

@@ -1,4 +1,4 @@
--- `resize::growth_of` meets its contract: each return is one leaf of `growthOf`. Assumes nothing.
+-- `resize::growth_of` meets its contract: each return is one leaf of `growthOf`.
 use mathlib.Core.Path.{_≡_}
 use mathlib.Core.Bool.{true}
 use native.Mathlib.Omega.{arith}

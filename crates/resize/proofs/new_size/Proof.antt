@@ -1,4 +1,4 @@
--- `resize::new_size` meets its contract. Assumes nothing.
+-- `resize::new_size` meets its contract.
 use borrow.Author.Needs.{needs}
 use borrow.Author.Tests.{eq-eqb, ne-eqb}
 use Rattle.resize.specs.Resize.{newSize}

@@ -1,4 +1,4 @@
--- `rings::rings_inside` meets its contract: both tests are made, and both hold. Assumes nothing.
+-- `rings::rings_inside` meets its contract: both tests are made, and both hold.
 use Rattle.rings.specs.Rings.{ringsInside}
 use borrow.Author.Needs.{needs}
 use Rattle.rings.proofs.rings_inside.Statement.{statement}

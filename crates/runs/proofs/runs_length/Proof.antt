@@ -32,8 +32,8 @@ returns c = measured-none (blocks (c .before .before .before .before .before .be
 line-length-requires : tie.Need-line-length-requires Inv-loop μ-loop
 line-length-requires c κs = tt
 
-held-sum-requires : tie.Need-held-sum-requires Inv-loop μ-loop
-held-sum-requires c κs = tt
+saturating-add-requires : tie.Need-saturating-add-requires Inv-loop μ-loop
+saturating-add-requires c κs = tt
 
 add-i : tie.Need-add-i Inv-loop μ-loop
 add-i c = let k = run-inside (blocks (c .before .before .before .before .before .before .before .before .before .args .bitmap .now)) (c .before .before .before .before .before .before .before .before .before .args .end) (c .before .before .before .before .before .before .before .loop .i) _ (c .before .before .before .before .before .next-run .ensures) _ _ (c .before .before .before .first .given .1) in let a = k .0 in omega arith
@@ -42,7 +42,7 @@ loop-less : tie.Need-loop-less Inv-loop μ-loop
 loop-less c = let k = run-inside (blocks (c .before .before .before .before .before .before .before .before .before .args .bitmap .now)) (c .before .before .before .before .before .before .before .before .before .args .end) (c .before .before .before .before .before .before .before .loop .i) _ (c .before .before .before .before .before .next-run .ensures) _ _ (c .before .before .before .first .given .1) in let a = k .0 in let b = k .1 in omega arith
 
 loop-again : tie.Need-loop-again Inv-loop μ-loop
-loop-again c = measured-run (blocks (c .before .before .before .before .before .before .before .before .before .args .bitmap .now)) (c .before .before .before .before .before .before .before .before .before .args .end) (c .before .before .before .before .before .before .before .loop .inv) _ (c .before .before .before .before .before .next-run .ensures) _ _ _ _ (c .before .before .before .first .given .1) (c .before .line-length .ensures) (c .held-sum .ensures)
+loop-again c = measured-run (blocks (c .before .before .before .before .before .before .before .before .before .args .bitmap .now)) (c .before .before .before .before .before .before .before .before .before .args .end) (c .before .before .before .before .before .before .before .loop .inv) _ (c .before .before .before .before .before .next-run .ensures) _ _ _ _ (c .before .before .before .first .given .1) (c .before .line-length .ensures) (c .saturating-add .ensures)
 
 returns-2 : tie.Need-returns-2 Inv-loop μ-loop
 returns-2 c = measured-end (blocks (c .before .before .before .args .bitmap .now)) (c .before .before .before .args .end) (c .before .loop .inv) (c .loop-test .left)
@@ -59,7 +59,7 @@ runs-length-spec =
     enum-told
     returns
     line-length-requires
-    held-sum-requires
+    saturating-add-requires
     add-i
     loop-less
     loop-again

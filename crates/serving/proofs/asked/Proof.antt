@@ -1,4 +1,4 @@
--- `serving::asked` meets its contract. Assumes nothing.
+-- `serving::asked` meets its contract.
 use borrow.Author.Needs.{needs}
 use Rattle.serving.proofs.asked.Statement.{statement}
 use Rattle.serving.proofs.asked.Tie as tie

@@ -1,4 +1,4 @@
--- `serving::one_answered` meets its contract: the block is clear when the search goes on behind it. Assumes nothing.
+-- `serving::one_answered` meets its contract: the block is clear when the search goes on behind it.
 use native.Mathlib.Omega.{arith}
 use Rattle.record.proofs.Laws.{shaped-is, discard-one-is}
 use Rattle.serving.proofs.Entries.{less-shaped, one-fails, one-done}

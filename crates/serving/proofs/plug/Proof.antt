@@ -1,4 +1,4 @@
--- `serving::plug` meets its contract: each `return` is a leaf, NACK before the tests of the range. Assumes nothing.
+-- `serving::plug` meets its contract: each `return` is a leaf, NACK before the tests of the range.
 use native.Mathlib.Omega.{arith}
 use Rattle.record.proofs.Laws.{shaped-is}
 use Rattle.serving.proofs.Ways.{plug-nacks, plug-errs, plug-acks}

@@ -1,4 +1,4 @@
--- `serving::request` meets its contract: 12, 7, 5 and 11, then the chain's reason, then the request. Assumes nothing.
+-- `serving::request` meets its contract: 12, 7, 5 and 11, then the chain's reason, then the request.
 use mathlib.Core.Path.{refl, sym, _∙_}
 use Rattle.step.proofs.Entry.{ready-is}
 use Rattle.serving.proofs.Ends.{as-met, answers}

@@ -1,4 +1,4 @@
--- `serving::serve` meets its contract, type by type. Assumes nothing.
+-- `serving::serve` meets its contract, type by type.
 use mathlib.Core.Path.{refl}
 use Rattle.serving.proofs.Ends.{as-met, answers}
 use Rattle.serving.proofs.Ways.{states, serve-plug, serve-unplug, serve-unplug-all, serve-unknown}

@@ -1,4 +1,4 @@
--- `serving::state` meets its contract. Assumes nothing.
+-- `serving::state` meets its contract.
 use borrow.Author.Needs.{needs}
 use Rattle.serving.proofs.state.Statement.{statement}
 use Rattle.serving.proofs.state.Tie as tie

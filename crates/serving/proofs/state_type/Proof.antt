@@ -1,4 +1,4 @@
--- `serving::state_type` meets its contract. Assumes nothing.
+-- `serving::state_type` meets its contract.
 use Rattle.step.specs.Step.{stateType}
 use Rattle.serving.proofs.Ways.{state-errs}
 use borrow.Author.Needs.{needs}

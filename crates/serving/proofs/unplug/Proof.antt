@@ -1,4 +1,4 @@
--- `serving::unplug` meets its contract: every ERROR comes before 12, and 12 before the question. Assumes nothing.
+-- `serving::unplug` meets its contract: every ERROR comes before 12, and 12 before the question.
 use Rattle.serving.proofs.Ways.{unplug-errs, unplug-refuses, unplug-asks}
 use mathlib.Core.Path.{refl}
 use borrow.Author.Needs.{needs}

@@ -1,4 +1,4 @@
--- `serving::unplug_all` meets its contract: the search goes on from `from`, and where it finds nothing the unplug-all ends. Assumes nothing.
+-- `serving::unplug_all` meets its contract: the search goes on from `from`, and where it finds nothing the unplug-all ends.
 use Rattle.serving.proofs.Ways.{block-inside, all-ends, all-goes-on}
 use borrow.Author.Needs.{needs}
 use Rattle.serving.proofs.unplug_all.Statement.{statement}

@@ -1,4 +1,4 @@
--- `serving::unplug_answered` meets its contract; by the record's shape the unplug is at most the plugged size. Assumes nothing.
+-- `serving::unplug_answered` meets its contract; by the record's shape the unplug is at most the plugged size.
 use native.Mathlib.Omega.{arith}
 use Rattle.record.proofs.Laws.{shaped-is, discard-is}
 use Rattle.serving.proofs.Entries.{unplug-fails, unplug-done}

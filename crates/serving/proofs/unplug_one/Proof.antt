@@ -1,4 +1,4 @@
--- `serving::unplug_one` meets its contract: neither sum is held, since the block lies in the region. Assumes nothing.
+-- `serving::unplug_one` meets its contract: neither sum is held, since the block lies in the region.
 use Rattle.serving.proofs.Ways.{one-errs, one-asks}
 use borrow.Author.Needs.{needs}
 use Rattle.serving.proofs.unplug_one.Statement.{statement}

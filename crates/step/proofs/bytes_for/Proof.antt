@@ -1,4 +1,4 @@
--- `step::bytes_for` meets its contract. Assumes nothing.
+-- `step::bytes_for` meets its contract.
 use native.Mathlib.Nat.{div-zero, div-le-self}
 use native.Mathlib.Omega.{arith}
 use borrow.Author.Needs.{needs}

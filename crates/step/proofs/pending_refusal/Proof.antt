@@ -1,4 +1,4 @@
--- `step::pending_refusal` meets its contract: its tests stand in the order 12, 8, 11, as in the definition. Assumes nothing.
+-- `step::pending_refusal` meets its contract: its tests stand in the order 12, 8, 11, as in the definition.
 use borrow.Author.Needs.{needs}
 use Rattle.units.proofs.Tests.{passed, refused, flag}
 use Rattle.step.specs.Step.{pendingRefusal}

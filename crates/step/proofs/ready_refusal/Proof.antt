@@ -1,4 +1,4 @@
--- `step::ready_refusal` meets its contract: its tests stand in the order 12, 7, 5, 11, as in the definition. Assumes nothing.
+-- `step::ready_refusal` meets its contract: its tests stand in the order 12, 7, 5, 11, as in the definition.
 use mathlib.Core.Path.{refl}
 use borrow.Author.Needs.{needs}
 use Rattle.units.proofs.Tests.{passed, refused}

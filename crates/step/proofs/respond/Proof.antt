@@ -1,4 +1,4 @@
--- `step::respond` meets its contract: the used length is 10 exactly if the response was delivered. Assumes nothing.
+-- `step::respond` meets its contract: the used length is 10 exactly if the response was delivered.
 use mathlib.Core.Path.{refl}
 use borrow.Author.Needs.{needs}
 use Rattle.step.proofs.respond.Statement.{statement}

@@ -1,4 +1,4 @@
--- `step::tables_fit` meets its contract: blocks fit in bytes exactly if their eighths, rounded up, do. Assumes nothing.
+-- `step::tables_fit` meets its contract: blocks fit in bytes exactly if their eighths, rounded up, do.
 use Prim.Native.Nat.{_+_, _*_, _/_}
 use mathlib.Core.Path.{_≡_}
 use lib.Dec.{leb}

@@ -1,4 +1,4 @@
--- `step::unplaced_refusal` meets its contract: its tests stand in the order 12, 7, 6, 11, as in the definition. Assumes nothing.
+-- `step::unplaced_refusal` meets its contract: its tests stand in the order 12, 7, 6, 11, as in the definition.
 use borrow.Author.Needs.{needs}
 use Rattle.units.proofs.Tests.{passed, refused}
 use Rattle.step.specs.Step.{unplacedRefusal}

@@ -1,5 +1,5 @@
 -- `test_trace::append` is safe and ends: invariant: the answers keep their room. The measure is what is left of what was printed.
--- Assumes nothing.
+--
 use Prim.Native.Nat.{_-_}
 use mathlib.Core.Path.{_≡_}
 use lib.ListN.{length}

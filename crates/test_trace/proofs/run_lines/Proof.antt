@@ -1,5 +1,5 @@
 -- `test_trace::run_lines` is safe and ends: invariant: the slices keep their lengths. The measure is what is left of the text.
--- Assumes nothing.
+--
 use Prim.Native.Nat.{_-_}
 use mathlib.Core.Path.{_≡_}
 use lib.ListN.{length}

@@ -1,4 +1,4 @@
--- `bytes` is safe and ends. The measure is what is left of the bytes. Assumes nothing.
+-- `bytes` is safe and ends. The measure is what is left of the bytes.
 use Prim.Native.Nat.{_-_}
 use borrow.Author.Needs.{needs}
 use lib.ListN.{length}

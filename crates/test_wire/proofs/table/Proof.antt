@@ -1,4 +1,4 @@
--- `table` is safe and ends. The measure is how many fields are left. Assumes nothing.
+-- `table` is safe and ends. The measure is how many fields are left.
 use Prim.Native.Nat.{_-_}
 use borrow.Author.Needs.{needs}
 use Rattle.test_wire.proofs.table.Statement.{statement}

@@ -1,4 +1,4 @@
--- `trace::replay` is safe and ends. Invariant: the slices keep their lengths. The measure is the number of turns that are left. Assumes nothing.
+-- `trace::replay` is safe and ends. Invariant: the slices keep their lengths. The measure is the number of turns that are left.
 use mathlib.Core.Path.{_≡_}
 use lib.ListN.{length}
 use borrow.Author.Needs.{needs}

@@ -1,5 +1,5 @@
 -- `trace::take_all` is safe and ends. Invariant: the slices keep their lengths, and `i` is within the input. The measure is what is left of it.
--- Assumes nothing.
+--
 use borrow.Author.Needs.{needs}
 use Prim.Native.Nat.{_≤_, _-_}
 use mathlib.Core.Path.{_≡_}

@@ -1,4 +1,4 @@
--- `trace_run::after_placing` meets its contract: each answer has its case. Assumes nothing.
+-- `trace_run::after_placing` meets its contract: each answer has its case.
 use Rattle.trace_run.specs.Run.{placedAs}
 use borrow.Author.Needs.{needs}
 use Rattle.trace_run.proofs.after_placing.Statement.{statement}

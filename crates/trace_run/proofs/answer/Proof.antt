@@ -1,4 +1,4 @@
--- `trace_run::answer` meets its contract: the newline is put after the answer. Assumes nothing.
+-- `trace_run::answer` meets its contract: the newline is put after the answer.
 use mathlib.Core.Path.{refl}
 use Rattle.text.proofs.Puts.{then}
 use borrow.Author.Needs.{needs}

@@ -1,4 +1,4 @@
--- `trace_run::begin` meets its contract: a device is made, which has the stated shape, or the line is refused. Assumes nothing.
+-- `trace_run::begin` meets its contract: a device is made, which has the stated shape, or the line is refused.
 use mathlib.Core.Path.{sym, _∙_}
 use Rattle.making.proofs.Newly.{made-new}
 use Rattle.trace_run.specs.Run.{begunOn}

@@ -1,4 +1,4 @@
--- `trace_run::count_slots` meets its contract. The invariant: the slots before `i` count up from the first. The measure is what is left of them. Assumes nothing.
+-- `trace_run::count_slots` meets its contract. The invariant: the slots before `i` count up from the first. The measure is what is left of them.
 use Prim.Native.Nat.{_≤_, _-_}
 use mathlib.Core.Path.{_≡_, refl}
 use native.Mathlib.Omega.{arith}

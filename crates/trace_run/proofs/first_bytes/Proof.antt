@@ -1,4 +1,4 @@
--- `trace_run::first_bytes` meets its contract. Assumes nothing.
+-- `trace_run::first_bytes` meets its contract.
 use mathlib.Core.Path.{sym}
 use native.Mathlib.Omega.{arith}
 use lib.Seq.{take-all, length-take-le}

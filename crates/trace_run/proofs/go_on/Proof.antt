@@ -1,4 +1,4 @@
--- `trace_run::go_on` meets its contract: the answer of the op is printed. Assumes nothing.
+-- `trace_run::go_on` meets its contract: the answer of the op is printed.
 use mathlib.Core.Path.{refl}
 use Rattle.step.specs.World.{worldOf}
 use Rattle.step.specs.Step.{step}

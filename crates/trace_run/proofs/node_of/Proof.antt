@@ -1,4 +1,4 @@
--- `trace_run::node_of` meets its contract. Assumes nothing.
+-- `trace_run::node_of` meets its contract.
 use borrow.Author.Needs.{needs}
 use Rattle.trace_run.proofs.node_of.Statement.{statement}
 use Rattle.trace_run.proofs.node_of.Tie as tie

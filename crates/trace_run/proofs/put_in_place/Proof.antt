@@ -1,4 +1,4 @@
--- `trace_run::put_in_place` meets its contract: the slots that it lends are as many as the map regions, and count up. Assumes nothing.
+-- `trace_run::put_in_place` meets its contract: the slots that it lends are as many as the map regions, and count up.
 use mathlib.Core.Path.{refl, sym, ap, _∙_}
 use native.Mathlib.Omega.{arith}
 use lib.ListN.{take}

@@ -1,4 +1,4 @@
--- `trace_run::refuse` meets its contract: the newline is put after the refusal. Assumes nothing.
+-- `trace_run::refuse` meets its contract: the newline is put after the refusal.
 use mathlib.Core.Path.{refl}
 use Rattle.text.proofs.Puts.{then}
 use borrow.Author.Needs.{needs}

@@ -1,4 +1,4 @@
--- `trace_run::serve` meets its contract: the line is read, and then served where the run stands. Assumes nothing.
+-- `trace_run::serve` meets its contract: the line is read, and then served where the run stands.
 use mathlib.Core.Path.{refl}
 use Rattle.trace_run.specs.Run.{turn}
 use Rattle.trace_run.proofs.Laws.{slot-fits, ended-comes}

@@ -1,4 +1,4 @@
--- `trace_step::ask` meets its contract: each write is one `put` of the definition. Assumes nothing.
+-- `trace_step::ask` meets its contract: each write is one `put` of the definition.
 use borrow.Author.Needs.{needs}
 use Rattle.trace_step.specs.Trace.{asked}
 use Rattle.trace_step.proofs.ask.Statement.{statement}

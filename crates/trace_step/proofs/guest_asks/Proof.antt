@@ -1,4 +1,4 @@
--- `trace_step::guest_asks` meets its contract: the memory that the device reads is the one that was laid. Assumes nothing.
+-- `trace_step::guest_asks` meets its contract: the memory that the device reads is the one that was laid.
 use borrow.Author.Needs.{needs}
 use Rattle.trace_step.proofs.guest_asks.Statement.{statement}
 use Rattle.trace_step.proofs.guest_asks.Tie as tie

@@ -1,4 +1,4 @@
--- `trace_step::lay_chain` meets its contract: each write is one `put` of the definition. Assumes nothing.
+-- `trace_step::lay_chain` meets its contract: each write is one `put` of the definition.
 use borrow.Author.Needs.{needs}
 use Rattle.trace_step.specs.Trace.{chained}
 use Rattle.trace_step.proofs.lay_chain.Statement.{statement}

@@ -1,4 +1,4 @@
--- `trace_step::put_answer` meets its contract: each answer has its own line. Assumes nothing.
+-- `trace_step::put_answer` meets its contract: each answer has its own line.
 use borrow.Author.Needs.{needs}
 use mathlib.Core.Path.{refl}
 use native.Mathlib.Omega.{arith}

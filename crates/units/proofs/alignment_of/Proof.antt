@@ -1,4 +1,4 @@
--- `units::alignment_of` meets its contract: a shift of 1 by at most 31 is a power of two. Assumes nothing.
+-- `units::alignment_of` meets its contract: a shift of 1 by at most 31 is a power of two.
 use Prim.Native.Nat.{ℕ, _*_, _%_, _^_, _<_}
 use mathlib.Core.Path.{_≡_}
 use native.Mathlib.Nat.{mod-eq-of-lt, one-mul}
@@ -18,8 +18,8 @@ returns : tie.Need-returns
 unfolding alignmentOf
 returns c = simp (lt-ltb _ _ (c .if1 .taken))
 
-held-between-requires : tie.Need-held-between-requires
-held-between-requires c κs = search needs
+clamped-requires : tie.Need-clamped-requires
+clamped-requires c κs = search needs
 
 cast-result : tie.Need-cast-result
 cast-result c = search needs
@@ -32,8 +32,8 @@ unfolding alignmentOf twos
 returns-2 c =
     let boot = c .before .before .args .boot in
     let small : between (twos boot) < 64 = omega arith in
-    rw (le-ltb boot 68719476736 (omega arith), c .held-between .ensures) (shifted (between (twos boot)) small)
+    rw (le-ltb boot 68719476736 (omega arith), c .clamped .ensures) (shifted (between (twos boot)) small)
 
 pub alignment-of-spec : {M : Type 1} → statement M
 alignment-of-spec =
-    tie.close (tie.spec returns held-between-requires cast-result shl-result returns-2)
+    tie.close (tie.spec returns clamped-requires cast-result shl-result returns-2)

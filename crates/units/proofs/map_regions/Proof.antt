@@ -1,4 +1,4 @@
--- `units::map_regions` meets its contract: the quotient is rounded up exactly if a remainder is left. Assumes nothing.
+-- `units::map_regions` meets its contract: the quotient is rounded up exactly if a remainder is left.
 use native.Mathlib.Omega.{arith}
 use borrow.Author.Needs.{needs}
 use borrow.Author.Tests.{not-true, not-false}

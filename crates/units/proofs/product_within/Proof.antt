@@ -1,4 +1,4 @@
--- `units::product_within` meets its contract: a product is within a limit exactly if one factor is within the limit over the other. Assumes nothing.
+-- `units::product_within` meets its contract: a product is within a limit exactly if one factor is within the limit over the other.
 use Prim.Native.Nat.{_*_, _/_}
 use mathlib.Core.Path.{sym}
 use native.Mathlib.Nat.{le-div-iff-mul-le, mul-zero}

@@ -1,4 +1,4 @@
--- `words::call_of` meets its contract, kind by kind. Assumes nothing.
+-- `words::call_of` meets its contract, kind by kind.
 use Prim.Native.Nat.{ℕ}
 use mathlib.Core.Path.{_≡_, refl}
 use mathlib.Core.Bool.{Bool, true, false, cond, _&&_}

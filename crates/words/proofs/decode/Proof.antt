@@ -1,4 +1,4 @@
--- `words::decode` meets its contract, test by test and then field by field. Assumes nothing.
+-- `words::decode` meets its contract, test by test and then field by field.
 use mathlib.Core.Path.{refl, sym, _∙_}
 use mathlib.Core.Bool.{_&&_}
 use native.Mathlib.Omega.{arith}

@@ -1,4 +1,4 @@
--- `words::encode` meets its contract, word by word. Assumes nothing.
+-- `words::encode` meets its contract, word by word.
 use Prim.Native.Nat.{ℕ}
 use mathlib.Core.Path.{_≡_, ap, _∙_}
 use mathlib.Core.List.{List, [], _∷_}

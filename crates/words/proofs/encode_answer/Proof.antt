@@ -1,4 +1,4 @@
--- `words::encode_answer` meets its contract: seven stores write what a host's answer may change. Assumes nothing.
+-- `words::encode_answer` meets its contract: seven stores write what a host's answer may change.
 use Prim.Native.Nat.{ℕ, _≤_, _<_}
 use mathlib.Core.Path.{_≡_}
 use mathlib.Core.List.{List}

@@ -1,4 +1,4 @@
--- `words::encode_request` meets its contract: five stores write what a request may change. Assumes nothing.
+-- `words::encode_request` meets its contract: five stores write what a request may change.
 use Prim.Native.Nat.{ℕ, _≤_, _<_}
 use mathlib.Core.Path.{_≡_}
 use mathlib.Core.List.{List}

@@ -1,5 +1,5 @@
 -- `words::write_words` meets its contract. The loop's invariant: writing what is left of `what` from `i` on gives what writing all of it from the first word on gives.
--- The measure is what is left of the words. Assumes nothing.
+-- The measure is what is left of the words.
 use Prim.Native.Nat.{_-_}
 use mathlib.Core.Path.{_≡_, refl, sym, _∙_}
 use native.Mathlib.Omega.{arith}

@@ -1,6 +1,6 @@
 -- `chain_reader::ChainReader::new` meets its contract: a walk of its MIR, by hand. A reader is made of the slice passed, the two addresses and the index, in the result's local.
 -- A `&[u8]` is Copy, so what it owns is had twice: once for mem at exit, and once inside the result, beside the facts of the other fields.
--- Assumes nothing.
+--
 use mathlib.Core.Path.{refl}
 use Prim.Native.Nat.{ℕ, _<_, _^_}
 use mathlib.Core.List.{List, [], _∷_}

@@ -1,4 +1,4 @@
--- `units::next_multiple_of` meets its contract: a multiple stays, and anything else goes to the next multiple. Assumes nothing.
+-- `units::next_multiple_of` meets its contract: a multiple stays, and anything else goes to the next multiple.
 use Prim.Native.Nat.{_<_, _%_}
 use native.Mathlib.Nat.{mod-lt}
 use native.Mathlib.Omega.{arith}
@@ -18,20 +18,20 @@ returns-2 c =
     let a = c .before .before .args in
     rw (round-multiple (a .n) (a .to) (omega arith) (c .if2 .taken)) (omega arith)
 
-sub-held-sum : tie.Need-sub-held-sum
-sub-held-sum c =
+sub-saturating-add : tie.Need-sub-saturating-add
+sub-saturating-add c =
     let a = c .before .before .args in
     let h : a .n % a .to < a .to = mod-lt (a .n) (omega arith) in
     omega arith
 
-held-sum-requires : tie.Need-held-sum-requires
-held-sum-requires c κs = search needs
+saturating-add-requires : tie.Need-saturating-add-requires
+saturating-add-requires c κs = search needs
 
 returns-3 : tie.Need-returns-3
 returns-3 c =
     let a = c .before .before .before .args in
-    rw (round-next (a .n) (a .to) (omega arith) (omega arith)) (c .held-sum .ensures)
+    rw (round-next (a .n) (a .to) (omega arith) (omega arith)) (c .saturating-add .ensures)
 
-pub round-up-spec : {M : Type 1} → statement M
-round-up-spec =
-    tie.close (tie.spec returns rem-over returns-2 sub-held-sum held-sum-requires returns-3)
+pub next-multiple-of-spec : {M : Type 1} → statement M
+next-multiple-of-spec =
+    tie.close (tie.spec returns rem-over returns-2 sub-saturating-add saturating-add-requires returns-3)

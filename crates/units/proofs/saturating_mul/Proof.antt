@@ -1,4 +1,4 @@
--- `units::saturating_mul` meets its contract: where the product fits it is made, and otherwise 2^64 - 1 is the answer. Assumes nothing.
+-- `units::saturating_mul` meets its contract: where the product fits it is made, and otherwise 2^64 - 1 is the answer.
 use Prim.Native.Nat.{_*_, _≤_, _<_}
 use native.Mathlib.Omega.{arith}
 use borrow.Author.Needs.{needs}
@@ -28,5 +28,5 @@ returns-2 c =
     let over : top < a .a * a .b = past _ (c .before .product-within .ensures) (c .if1 .left) in
     omega arith
 
-pub held-product-spec : {M : Type 1} → statement M
-held-product-spec = tie.close (tie.spec product-within-requires mul-result returns returns-2)
+pub saturating-mul-spec : {M : Type 1} → statement M
+saturating-mul-spec = tie.close (tie.spec product-within-requires mul-result returns returns-2)

@@ -1,4 +1,4 @@
--- `units::saturating_add` meets its contract: where the sum fits it is made, and otherwise 2^64 - 1 is the answer. Assumes nothing.
+-- `units::saturating_add` meets its contract: where the sum fits it is made, and otherwise 2^64 - 1 is the answer.
 use Prim.Native.Nat.{_+_, _≤_, _<_}
 use native.Mathlib.Omega.{arith}
 use borrow.Author.Needs.{needs}
@@ -28,5 +28,5 @@ returns-2 c =
     let over : top < a .a + a .b = past _ (c .before .sum-within .ensures) (c .if1 .left) in
     omega arith
 
-pub held-sum-spec : {M : Type 1} → statement M
-held-sum-spec = tie.close (tie.spec sum-within-requires add-result returns returns-2)
+pub saturating-add-spec : {M : Type 1} → statement M
+saturating-add-spec = tie.close (tie.spec sum-within-requires add-result returns returns-2)
