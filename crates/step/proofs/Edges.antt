@@ -51,7 +51,7 @@ world d blocks rows mapped = record { device = d; blocks = replicate blocks fals
 
 -- a plug, answered: the response's type
 answerType : Answer → ℕ
-answerType (Served resp used) = resp .«resp_type»
+answerType (Served reply) = reply .response .«resp_type»
 answerType (Refused n) = 100
 answerType (Wants call) = 100
 answerType Sized = 100
@@ -74,7 +74,7 @@ sizeOfCall (Wants (DiscardCall offset size host)) = []
 sizeOfCall (Refused n) = []
 sizeOfCall Sized = []
 sizeOfCall (Unserved reason) = []
-sizeOfCall (Served resp used) = []
+sizeOfCall (Served reply) = []
 sizeOfCall Done = []
 
 asked : Outcome → List ℕ

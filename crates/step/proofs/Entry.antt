@@ -1,7 +1,7 @@
 -- What a call that is not refused by its first tests stands on: a record of the stated shape, and tables of the length.
 use Prim.Native.Nat.{ℕ, _≤_, _<_}
 use mathlib.Core.Path.{_≡_, refl}
-use mathlib.Core.Bool.{Bool, true, false, cond}
+use mathlib.Core.Bool.{Bool, true, false, cond, not}
 use native.Mathlib.Omega.{arith}
 use lib.Dec.{leb}
 use borrow.Author.Tests.{leb-true, le-leb}
@@ -11,7 +11,7 @@ use Rattle.record.specs.Shape.{shapedOf, isIdle}
 use Rattle.step.specs.Step.{tablesFit, readyRefusal, unplacedRefusal, pendingRefusal}
 
 -- past a test that gives refusal k where it fails, and past one that gives it where it holds
-past : (t : Bool) (n k : ℕ) → 0 < k → cond t n k ≡ 0 → (t ≡ true) × (n ≡ 0)
+past : (t : Bool) (n k : ℕ) → 0 < k → cond (not t) k n ≡ 0 → (t ≡ true) × (n ≡ 0)
 past true n k h e = (refl, e)
 past false n k h e = absurd (omega arith)
 

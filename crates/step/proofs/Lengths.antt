@@ -27,7 +27,7 @@ Short (Refused n) = _≡_ {A = ℕ} 0 0
 Short (Wants call) = _≡_ {A = ℕ} 0 0
 Short Sized = _≡_ {A = ℕ} 0 0
 Short (Unserved reason) = _≡_ {A = ℕ} 0 0
-Short (Served resp len) = (t : Bool) × (len ≡ cond t 10 0)
+Short (Served reply) = (t : Bool) × (reply .used ≡ cond t 10 0)
 Short Done = _≡_ {A = ℕ} 0 0
 
 record IsShort (o : Outcome) : Type 0 where

@@ -22,7 +22,7 @@ use Rattle.record.specs.declared.Device.{Device}
 use Rattle.record.specs.declared.Pending.{Pending}
 use Rattle.record.specs.declared.Pending.the-variants.{Nothing, Create, Discard, DiscardOne}
 use Rattle.record.specs.declared.HostCall.the-variants.{Create as CreateCall, Discard as DiscardCall}
-use Rattle.record.specs.Shape.{shapedOf, isIdle, startOk}
+use Rattle.record.specs.Shape.{shapedOf, isIdle, sizeOk, startOk}
 use Rattle.record.specs.Changes.{pendingTo, pluggedTo, requestedTo, startTo, usableTo, placedTo}
 use Rattle.resize.specs.declared.Growth.{Growth}
 use Rattle.resize.specs.declared.Growth.the-variants.{Asks, Settled}
@@ -32,7 +32,8 @@ use Rattle.change.specs.declared.Range.the-variants.{Inside, Misaligned, NoBloc
 use Rattle.change.specs.declared.Change.{Change}
 use Rattle.change.specs.declared.Change.the-variants.{Legal, Outside, WrongState, NoHost}
 use Rattle.change.specs.Change.{rangeOf, changeOf, stateOf}
-use Rattle.step.specs.declared.Answer.the-variants.{Refused, Wants, Sized, Unserved, Served, Done}
+use Rattle.step.specs.declared.Answer.the-variants.{Refused, Wants, Sized, Unserved, Done}
+use Rattle.step.specs.Answers.{servedWith}
 use Rattle.step.specs.World.{World, Guest, Call, Place, SetRequestedSize, Request, HostAnswer, ReadConfig, WriteConfig, Outcome}
 
 -- ---- the record's numbers
@@ -101,7 +102,7 @@ abbrev pub served : VirtioMemResp → (status : ℕ) → World → Guest → Out
 served resp status w g =
     record {
       world = w;
-      answer = Served resp (cond (reaches (g .mem) (g .base) status) 10 0);
+      answer = servedWith resp (cond (reaches (g .mem) (g .base) status) 10 0);
       bytes = delivered (g .mem) (g .base) status resp;
     }
 
@@ -229,21 +230,32 @@ tablesFit d blocks rows =
 -- a request and a size change: 12, 7, 5, 11
 unfoldable pub readyRefusal : Device → (blocks rows : ℕ) → ℕ
 readyRefusal d blocks rows =
-    cond (shapedOf d)
-    (cond (isIdle (d .pending)) (cond (d .placed) (cond (tablesFit d blocks rows) 0 11) 5) 7)
-    12
+    cond (not (shapedOf d)) 12
+    (cond (not (isIdle (d .pending))) 7
+    (cond (not (d .placed)) 5
+    (cond (not (tablesFit d blocks rows)) 11 0)))
 
 -- placing: 12, 7, 6, 11
 unfoldable pub unplacedRefusal : Device → (blocks rows : ℕ) → ℕ
 unplacedRefusal d blocks rows =
-    cond (shapedOf d)
-    (cond (isIdle (d .pending)) (cond (d .placed) 6 (cond (tablesFit d blocks rows) 0 11)) 7)
-    12
+    cond (not (shapedOf d)) 12
+    (cond (not (isIdle (d .pending))) 7
+    (cond (d .placed) 6
+    (cond (not (tablesFit d blocks rows)) 11 0)))
 
 -- a host answer: 12, 8, 11
 unfoldable pub pendingRefusal : Device → (blocks rows : ℕ) → ℕ
 pendingRefusal d blocks rows =
-    cond (shapedOf d) (cond (isIdle (d .pending)) 8 (cond (tablesFit d blocks rows) 0 11)) 12
+    cond (not (shapedOf d)) 12
+    (cond (isIdle (d .pending)) 8
+    (cond (not (tablesFit d blocks rows)) 11 0))
+
+-- placing's own, of so many slots: 3 and 4
+unfoldable pub rangeRefusal : Device → (start size slots : ℕ) → ℕ
+rangeRefusal d start size slots =
+    let region = d .config .«region_size» in
+    cond (not (eqb slots (mapRegions region (d .several)) && eqb size region)) 3
+    (cond (not (startOk start region (d .several) (d .alignment))) 4 0)
 
 -- the outcome, unless the call is refused
 unfoldable pub unless : (n : ℕ) → World → List ℕ → Outcome → Outcome
@@ -276,6 +288,9 @@ unplugAs (Outside part) w count status g = served error status w g
 unplugAs WrongState w count status g = served error status w g
 unplugAs (NoHost part) w count status g = served error status w g
 
+abbrev pub unplug : World → (addr count status : ℕ) → Guest → Outcome
+unplug w addr count status g = unplugAs (changing w addr count false) w count status g
+
 -- "each as a one-block unplug"
 unfoldable pub oneAs : Change → World → (block status : ℕ) → Guest → Outcome
 oneAs (Legal first offset host) w block status g = asksOne w block (offset .0) (host .0) status g
@@ -283,9 +298,12 @@ oneAs (Outside part) w block status g = stops w status g
 oneAs WrongState w block status g = stops w status g
 oneAs (NoHost part) w block status g = stops w status g
 
+abbrev pub unplugOne : World → (block status : ℕ) → Guest → Outcome
+unplugOne w block status g = oneAs (changing w (start w + bytesOf (blockSize w) block) 1 false) w block status g
+
 unfoldable pub nextAs : Found → World → (status : ℕ) → Guest → Outcome
 nextAs NoneSet w status g = endsAll w status g
-nextAs (At block) w status g = oneAs (changing w (start w + bytesOf (blockSize w) block) 1 false) w block status g
+nextAs (At block) w status g = unplugOne w block status g
 
 -- "Unplug-all takes plugged blocks lowest first", from a block on
 abbrev pub unplugAll : World → (from status : ℕ) → Guest → Outcome
@@ -311,8 +329,7 @@ stateResp w addr count =
 unfoldable pub serve : World → VirtioMemReq → (status : ℕ) → Guest → Outcome
 serve w req status g =
     cond (eqb (req .«req_type») 0) (plug w (req .addr .0) (req .«nb_blocks») status g)
-    (cond (eqb (req .«req_type») 1)
-    (unplugAs (changing w (req .addr .0) (req .«nb_blocks») false) w (req .«nb_blocks») status g)
+    (cond (eqb (req .«req_type») 1) (unplug w (req .addr .0) (req .«nb_blocks») status g)
     (cond (eqb (req .«req_type») 2) (unplugAll w 0 status g)
     (cond (eqb (req .«req_type») 3) (served (stateResp w (req .addr .0) (req .«nb_blocks»)) status w g)
     (unserved 0 w g))))
@@ -338,14 +355,12 @@ placing w = cond (several w) (resized w) (asksCreate w 0 0 (region w))
 -- 3: "slot count wrong, or range size not the region size"; 4: "start not a multiple of the alignment, or start + region .. above 2^64 - 1"
 unfoldable pub place : World → (start size : ℕ) (slots : List ℕ) → List Bool → List MapRow → Outcome
 place w at size slots bs rows =
-    cond (not (eqb (length slots) (regionRows w) && eqb size (region w))) (refused 3 w [])
-    (cond (not (startOk at (region w) (several w) (w .device .alignment))) (refused 4 w [])
-    (placing (placed w at slots bs rows)))
+    unless (rangeRefusal (w .device) at size (length slots)) w [] (placing (placed w at slots bs rows))
 
 -- 1: "requested above the rounded capacity, or requested not a multiple of 4 MiB"
 unfoldable pub setRequestedSize : World → (mib : ℕ) → Outcome
 setRequestedSize w mib =
-    cond (ltb (region w) (mib * 1048576) || not (eqb (mib * 1048576 % blockSize w) 0)) (refused 1 w [])
+    cond (not (sizeOk (blockSize w) (mib * 1048576) (region w))) (refused 1 w [])
     (resized (deviceOf (requestedTo (mib * 1048576) (w .device)) w))
 
 -- 9: "a host address that, plus the size asked (several regions: 2 GiB x rows covered), passes 2^64 - 1"
@@ -380,9 +395,9 @@ step w (Place at size slots bs rows) =
     unless (unplacedRefusal (w .device) (length bs) (length rows)) w [] (place w at size slots bs rows)
 step w (SetRequestedSize mib) =
     unless (readyRefusal (w .device) (length (w .blocks)) (length (w .rows))) w [] (setRequestedSize w mib)
-step w (Request g table head) =
+step w (Request g descriptors head) =
     unless (readyRefusal (w .device) (length (w .blocks)) (length (w .rows))) w (g .mem)
-    (request (parsed (g .mem) (g .base) table head) w g)
+    (request (parsed (g .mem) (g .base) descriptors head) w g)
 step w (HostAnswer g ok host) =
     unless (pendingRefusal (w .device) (length (w .blocks)) (length (w .rows))) w (g .mem)
     (hostAnswer (w .device .pending) w g ok host)

@@ -14,8 +14,15 @@ ghost use mathlib.Core.Path.{_≡_};
 ghost use mathlib.Core.Bool.{cond};
 ghost use Prim.Native.Nat.{_+_, _*_, _/_};
 ghost use Rattle.units.specs.Numbers.{blocksIn};
-ghost use Rattle.step.specs.Step.{tablesFit, readyRefusal, unplacedRefusal, pendingRefusal, sizedBy};
-ghost use Rattle.step.specs.World.{guestOf, Responded};
+ghost use mathlib.Core.List.{[]};
+ghost use Rattle.step.specs.Step.{tablesFit, readyRefusal, unplacedRefusal, pendingRefusal, sizedBy, served};
+ghost use Rattle.step.specs.Promise.{lent, Does};
+
+// The end of a request: its response, also where it could not be delivered, and the used length.
+pub struct Reply {
+    pub response: VirtioMemResp,
+    pub used: u32,
+}
 
 // The answer of a call.
 pub enum Answer {
@@ -27,8 +34,8 @@ pub enum Answer {
     Sized,
     // A chain that is no request, used with length 0: its reason, 21 to 27, or 0 for an unknown type.
     Unserved(u64),
-    // A request that has ended: its response, also where it could not be delivered, and the used length.
-    Served(VirtioMemResp, u32),
+    // A request that has ended.
+    Served(Reply),
     // A config read or write.
     Done,
 }
@@ -149,11 +156,26 @@ pub fn respond(
     status: GuestAddr,
     resp: VirtioMemResp,
 ) -> Answered
-    ensures { λ r. ⌜ Responded (guestOf (now (mem .entry)) base) (status .0) resp d r (now (mem .exit)) ⌝ }
+    ensures { λ r. ⌜
+        Does (served resp (status .0)) d base (lent [] [] (now (mem .entry))) (lent [] [] (now (mem .exit))) r
+        ⌝ }
 {
-    let length = used_length(deliver(mem, base, status, resp));
+    let reply = Reply {
+        response: resp,
+        used: used_length(deliver(mem, base, status, resp)),
+    };
     Answered {
         device: d,
-        answer: Answer::Served(resp, length),
+        answer: Answer::Served(reply),
+    }
+}
+
+// A call that is refused changes nothing.
+pub fn refuse(d: Device, number: u64) -> Answered
+    ensures { λ r. ⌜ r ≡ record { device = d; answer = Answer.Refused number } ⌝ }
+{
+    Answered {
+        device: d,
+        answer: Answer::Refused(number),
     }
 }

@@ -1,6 +1,8 @@
 -- `step::respond` meets its contract: the used length is 10 exactly if the response was delivered.
-use mathlib.Core.Path.{refl}
+use mathlib.Core.Path.{refl, sym}
+use mathlib.Core.List.{[]}
 use borrow.Author.Needs.{needs}
+use Rattle.rows.proofs.Words.{whole}
 use Rattle.step.proofs.respond.Statement.{statement}
 use Rattle.step.proofs.respond.Tie as tie
 
@@ -18,8 +20,9 @@ returns c =
     let d = c .before .before .before .deliver in
     record {
       answered = rw (c .used-length .ensures, d .ensures .0);
+      told = rw (c .used-length .ensures, d .ensures .0);
       recorded = refl;
-      left = d .ensures .1;
+      leaves = record { marked = refl; mapped = sym (whole []); left = d .ensures .1 };
     }
 
 pub respond-spec : {M : Type 1} → statement M
