@@ -31,7 +31,8 @@ fn answer_words(answer: Answer) -> [u64; ANSWER_WORDS]
         Answer::Wants(call) => question_words(call),
         Answer::Sized => [3, 0, 0, 0, 0, 0, 0, 0, 0],
         Answer::Unserved(reason) => [4, 0, 0, 0, 0, 0, 0, 0, reason],
-        Answer::Served(resp, length) => {
+        Answer::Served(reply) => {
+            let resp = reply.response;
             [
                 5,
                 0,
@@ -40,7 +41,7 @@ fn answer_words(answer: Answer) -> [u64; ANSWER_WORDS]
                 0,
                 resp.resp_type as u64,
                 resp.state as u64,
-                length as u64,
+                reply.used as u64,
                 0,
             ]
         }

@@ -7,7 +7,7 @@ use Rattle.bitmap.proofs.Bytes.{blocks-tell}
 use Rattle.step.specs.declared.Answer.{Answer}
 use Rattle.step.specs.declared.Answered.{Answered}
 use Rattle.step.specs.World.{Outcome}
-use Rattle.step.specs.Promise.{Lent, lent, Leaves, Gives}
+use Rattle.step.specs.Promise.{Lent, lent, Meant, leftBy, Leaves, Gives}
 use Rattle.record.specs.declared.Device.{Device}
 
 -- an answer and a record are all of what is answered
@@ -18,7 +18,7 @@ same-answered : (s s′ : Answered) → s .answer ≡ s′ .answer → s .device
 same-answered s s′ p q = ap (λ (d : Device). answered d (s .answer)) q ∙ ap (answered (s′ .device)) p
 
 -- the bitmap, the map table and the bytes that are left; a bitmap's bytes are below 256, as its type says
-pub leaves-once : (o : Outcome) (before after after′ : Lent)
+pub leaves-once : (o : Meant) (before after after′ : Lent)
     → ((i : ℕ) → getD (after .bitmap) i 0 < 256) → ((i : ℕ) → getD (after′ .bitmap) i 0 < 256)
     → Leaves o before after → Leaves o before after′ → after ≡ after′
 leaves-once o before after after′ b b′ m m′ =
@@ -32,5 +32,5 @@ pub gives-once : (o : Outcome) (before after after′ : Lent) (s s′ : Answered
     → Gives o before after s → Gives o before after′ s′ → (s ≡ s′) × (after ≡ after′)
 gives-once o before after after′ s s′ b b′ m m′ = (
   same-answered s s′ (m .answered ∙ sym (m′ .answered)) (m .recorded ∙ sym (m′ .recorded)),
-  leaves-once o before after after′ b b′ (m .leaves) (m′ .leaves),
+  leaves-once (leftBy o) before after after′ b b′ (m .leaves) (m′ .leaves),
 )

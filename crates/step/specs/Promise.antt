@@ -4,6 +4,7 @@ use mathlib.Core.Bool.{Bool}
 use mathlib.Core.List.{List, []}
 use mathlib.Core.Path.{_≡_}
 use Rattle.bitmap.specs.Blocks.{blocks}
+use Rattle.rows.specs.declared.MapRow.{MapRow}
 use Rattle.rows.specs.Rows.{rowsOf, written}
 use Rattle.units.specs.declared.GuestAddr.{GuestAddr}
 use Rattle.record.specs.declared.Device.{Device}
@@ -28,18 +29,30 @@ on d l = worldOf d (l .bitmap) (l .table)
 abbrev pub guestIn : Lent → (base : ℕ) → Guest
 guestIn l base = record { mem = l .bytes; base = base }
 
--- what was lent comes back as an outcome leaves it: the bitmap means its blocks, the map table has its rows and is otherwise as it was, and the bytes are its bytes
-pub record Leaves (o : Outcome) (before after : Lent) : Type 0 where
-  pub marked : blocks (after .bitmap) ≡ o .world .blocks
-  pub mapped : after .table ≡ written (before .table) (o .world .rows)
-  pub left : after .bytes ≡ o .bytes
+-- what slices mean: the bitmap its blocks, the map table its rows, and bytes themselves
+pub record Meant : Type 0 where
+  pub blocks : List Bool
+  pub rows : List MapRow
+  pub bytes : List ℕ
+
+abbrev pub meant : Lent → Meant
+meant l = record { blocks = blocks (l .bitmap); rows = rowsOf (l .table); bytes = l .bytes }
+
+abbrev pub leftBy : Outcome → Meant
+leftBy o = record { blocks = o .world .blocks; rows = o .world .rows; bytes = o .bytes }
+
+-- what was lent comes back with this meaning; the map table is as it was but for its rows
+pub record Leaves (m : Meant) (before after : Lent) : Type 0 where
+  pub marked : blocks (after .bitmap) ≡ m .blocks
+  pub mapped : after .table ≡ written (before .table) (m .rows)
+  pub left : after .bytes ≡ m .bytes
 
 -- an outcome is given: its answer, with the law's number and values, its record, and what was lent as it leaves it
 pub record Gives (o : Outcome) (before after : Lent) (s : Answered) : Type 0 where
   pub answered : s .answer ≡ o .answer
   pub told : answerWords (s .answer) ≡ answerWords (o .answer)
   pub recorded : s .device ≡ o .world .device
-  pub leaves : Leaves o before after
+  pub leaves : Leaves (leftBy o) before after
 
 -- ---- the calls, of what is lent
 abbrev pub placeOn : (start size : ℕ) (slots : List ℕ) → Lent → Call
