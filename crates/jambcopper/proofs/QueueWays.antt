@@ -14,12 +14,14 @@ use Rattle.rings.specs.declared.Queue.{Queue}
 use Rattle.record.specs.declared.HostCall.the-variants.{Create, Discard}
 use Rattle.step.specs.declared.Answer.{Answer}
 use Rattle.step.specs.declared.Answer.the-variants.{Refused, Wants, Sized, Unserved, Served, Done}
-use Rattle.step.specs.World.{Outcome, worldOf}
+use Rattle.step.specs.World.{Outcome, Call}
+use Rattle.step.specs.Step.{step}
+use Rattle.step.specs.Promise.{Lent, lent, on, guestIn}
 use Rattle.step.specs.Answers.{answerWords}
 use Rattle.step.proofs.Lengths.{Short}
 use Rattle.queue.specs.declared.QueueAnswer.{QueueAnswer}
 use Rattle.queue.specs.declared.Ending.{Ending}
-use Rattle.queue.specs.Queue.{QueueOutcome, endingOf, queueBy, unmoved, aside, about, Settled, queueAnswerWords, queueNumberOf}
+use Rattle.queue.specs.Queue.{endingOf, queueBy, unmoved, aside, about, Settled, queueAnswerWords, queueNumberOf}
 use Rattle.words.specs.declared.Decoded.{Decoded}
 use Rattle.words.specs.declared.Decoded.the-variants.{Is, NoRecord}
 use Rattle.words.specs.Record.{wordsOf, decodedOf}
@@ -28,8 +30,8 @@ use Rattle.queue_words.specs.declared.DecodedQueue.{DecodedQueue}
 use Rattle.queue_words.specs.declared.DecodedQueue.the-variants.{Is as IsQueue, NoQueue}
 use Rattle.queue_words.specs.Words.{queueWords, decodedQueueOf, endingWords}
 use Rattle.queue_words.proofs.Laws.{decoded-long as queue-long, decoded-encodes as queue-encodes, ending-told}
-use Rattle.jambcopper.specs.Exports.{lent, Told, Called, Exported}
-use Rattle.jambcopper.specs.Queue.{QueueMadeIn, queueLent, QueueCalled, QueueExported}
+use Rattle.jambcopper.specs.Exports.{handed, Told, Called, Exported}
+use Rattle.jambcopper.specs.Queue.{QueueMadeIn, queueHanded, QueueCall, QueueCalled, QueueExported}
 
 -- ---- an answer's nine words
 nine : (a : Answer) → length (answerWords a) ≡ 9
@@ -38,7 +40,7 @@ nine (Wants (Create guest size slot)) = refl
 nine (Wants (Discard offset size host)) = refl
 nine Sized = refl
 nine (Unserved reason) = refl
-nine (Served resp used) = refl
+nine (Served reply) = refl
 nine Done = refl
 
 -- where there is just room for them, they are all that stands there
@@ -48,7 +50,7 @@ put-whole xs ys e =
     let sum : 0 + length ys ≡ length ys = omega arith in
     put-fits xs 0 ys (omega arith) ∙ rw (sum, none) (append-nil ys)
 
-module _ (call : Device → Queue → QueueOutcome) (words queue : List ℕ) (r : Decoded) (e : r ≡ decodedOf words) (d : Device) (f : r ≡ Is d)
+module _ (call : QueueCall) (base : ℕ) (words queue : List ℕ) (r : Decoded) (e : r ≡ decodedOf words) (d : Device) (f : r ≡ Is d)
     (x : DecodedQueue) (h : x ≡ decodedQueueOf queue) (q : Queue) (i : x ≡ IsQueue q) where
   is : decodedOf words ≡ Is d
   is = sym e ∙ f
@@ -57,11 +59,12 @@ module _ (call : Device → Queue → QueueOutcome) (words queue : List ℕ) (r 
   is-queue = sym h ∙ i
 
   -- a call that takes no head and changes nothing: only the answer is written
-  pub unmoved-told : (t : QueueAnswer) (answer answer′ bitmap table bytes : List ℕ) (number : ℕ) → call d q ≡ unmoved t (worldOf d bitmap table) q bytes
+  pub unmoved-told : (t : QueueAnswer) (answer answer′ : List ℕ) (l : Lent) (number : ℕ)
+      → call (on d l) q (guestIn l base) ≡ unmoved t (on d l) q (l .bytes)
       → (number ≡ queueNumberOf t) × (answer′ ≡ put answer 0 (queueAnswerWords t))
-      → QueueExported call (queueLent queue (lent words answer bitmap table bytes)) (queueLent queue (lent words answer′ bitmap table bytes)) number
+      → QueueExported call base (queueHanded queue (handed words answer l)) (queueHanded queue (handed words answer′ l)) number
   unfolding QueueCalled
-  unmoved-told t answer answer′ bitmap table bytes number same told =
+  unmoved-told t answer answer′ l number same told =
       rw (is, is-queue, same)
       (record {
         numbered = told .0;
@@ -70,21 +73,22 @@ module _ (call : Device → Queue → QueueOutcome) (words queue : List ℕ) (r 
         queued = sym (queue-encodes queue q is-queue);
         queue-decodes = is-queue;
         told = told .1;
-        marked = refl;
-        mapped = sym (whole table);
-        left = refl;
+        leaves = record { marked = refl; mapped = sym (whole (l .table)); left = refl };
       })
 
   -- a call of the device on the same words
-  module _ (device : Device → Outcome) (told told′ words′ bitmap bitmap′ table table′ bytes bytes′ : List ℕ) (number : ℕ)
-      (kept : Exported device (lent words told bitmap table bytes) (lent words′ told′ bitmap′ table′ bytes′) number) where
-    tells : Told (device d) (lent words told bitmap table bytes) (lent words′ told′ bitmap′ table′ bytes′) number
+  module _ (device : Lent → Call) (told told′ words′ : List ℕ) (before after : Lent) (number : ℕ)
+      (kept : Exported device (handed words told before) (handed words′ told′ after) number) where
+    outcome : Outcome
+    outcome = step (on d before) (device before)
+
+    tells : Told outcome (handed words told before) (handed words′ told′ after) number
     unfolding Called
     tells = rw is at kept
 
     -- that is about no head: its answer is the call's
-    pub aside-told : call d q ≡ aside q (device d)
-        → QueueExported call (queueLent queue (lent words told bitmap table bytes)) (queueLent queue (lent words′ told′ bitmap′ table′ bytes′)) number
+    pub aside-told : call (on d before) q (guestIn before base) ≡ aside q outcome
+        → QueueExported call base (queueHanded queue (handed words told before)) (queueHanded queue (handed words′ told′ after)) number
     unfolding QueueCalled
     aside-told same =
         rw (is, is-queue, same)
@@ -95,22 +99,21 @@ module _ (call : Device → Queue → QueueOutcome) (words queue : List ℕ) (r 
           queued = sym (queue-encodes queue q is-queue);
           queue-decodes = is-queue;
           told = tells .told;
-          marked = tells .marked;
-          mapped = tells .mapped;
-          left = tells .left;
+          leaves = record { marked = tells .leaves .marked; mapped = tells .leaves .mapped; left = tells .leaves .left };
         })
 
     -- that is about a head: its ending is read from its nine words, which are passed on
-    pub about-told : length told ≡ 9 → Short (device d .answer) → (head base : ℕ) (before out : Queue) → call d q ≡ about head base before out (device d)
-        → (ending : Ending) → ending ≡ endingWords told′ → (now : Queue) (queue′ answer answer′ bytes″ : List ℕ) → Settled ending head base before out bytes′ now bytes″
+    pub about-told : length told ≡ 9 → Short (outcome .answer) → (head : ℕ) (was out : Queue)
+        → call (on d before) q (guestIn before base) ≡ about head base was out outcome
+        → (ending : Ending) → ending ≡ endingWords told′ → (now : Queue) (queue′ answer answer′ bytes′ : List ℕ) → Settled ending head base was out (after .bytes) now bytes′
         → (queue′ ≡ put queue 0 (queueWords now)) × (6 ≤ length queue → decodedQueueOf queue′ ≡ IsQueue now) → answer′ ≡ put answer 0 told′
-        → QueueExported call (queueLent queue (lent words answer bitmap table bytes)) (queueLent queue′ (lent words′ answer′ bitmap′ table′ bytes″)) number
+        → QueueExported call base (queueHanded queue (handed words answer before)) (queueHanded queue′ (handed words′ answer′ (lent (after .bitmap) (after .table) bytes′))) number
     unfolding QueueCalled
-    about-told room short head base before out same ending ending-is now queue′ answer answer′ bytes″ settled written passed =
-        let a = device d .answer in
+    about-told room short head was out same ending ending-is now queue′ answer answer′ bytes′ settled written passed =
+        let a = outcome .answer in
         let said : told′ ≡ answerWords a = tells .told ∙ put-whole told (answerWords a) (room ∙ sym (nine a)) in
         let ends : ending ≡ endingOf a = ending-is ∙ ap endingWords said ∙ ending-told a short in
-        let now-is : now ≡ queueBy (endingOf a) before out = rw ends at (settled .queued) in
+        let now-is : now ≡ queueBy (endingOf a) was out = rw ends at (settled .queued) in
         rw (is, is-queue, same)
         (record {
           numbered = tells .numbered;
@@ -119,40 +122,30 @@ module _ (call : Device → Queue → QueueOutcome) (words queue : List ℕ) (r 
           queued = written .0 ∙ ap (λ (k : Queue). put queue 0 (queueWords k)) now-is;
           queue-decodes = written .1 (queue-long queue q is-queue) ∙ ap IsQueue now-is;
           told = passed ∙ ap (put answer 0) said;
-          marked = tells .marked;
-          mapped = tells .mapped;
-          left = rw (ends, tells .left) at (settled .left);
+          leaves = record { marked = tells .leaves .marked; mapped = tells .leaves .mapped; left = rw (ends, tells .leaves .left) at (settled .left) };
         })
 
 -- no record: only the answer is written
-pub no-record : (call : Device → Queue → QueueOutcome) (words queue : List ℕ) (r : Decoded) → r ≡ decodedOf words → r ≡ NoRecord
-    → (answer answer′ bitmap table bytes : List ℕ) (number : ℕ)
+pub no-record : (call : QueueCall) (base : ℕ) (words queue : List ℕ) (r : Decoded) → r ≡ decodedOf words → r ≡ NoRecord
+    → (answer answer′ : List ℕ) (l : Lent) (number : ℕ)
     → (number ≡ 12) × (answer′ ≡ put answer 0 (answerWords (Refused 12)))
-    → QueueExported call (queueLent queue (lent words answer bitmap table bytes)) (queueLent queue (lent words answer′ bitmap table bytes)) number
+    → QueueExported call base (queueHanded queue (handed words answer l)) (queueHanded queue (handed words answer′ l)) number
 unfolding QueueCalled
-no-record call words queue r e f answer answer′ bitmap table bytes number t =
+no-record call base words queue r e f answer answer′ l number t =
     let is : decodedOf words ≡ NoRecord = sym e ∙ f in
-    rw is
-    (record {
-      others = record { numbered = t .0; told = t .1; recorded = refl; marked = refl; mapped = refl; left = refl };
-      queued = refl;
-    })
+    rw is (record { others = record { numbered = t .0; told = t .1; recorded = refl; untouched = refl }; queued = refl })
 
 -- a record and no queue: so too
-pub no-queue : (call : Device → Queue → QueueOutcome) (words queue : List ℕ) (r : Decoded) → r ≡ decodedOf words → (d : Device) → r ≡ Is d
+pub no-queue : (call : QueueCall) (base : ℕ) (words queue : List ℕ) (r : Decoded) → r ≡ decodedOf words → (d : Device) → r ≡ Is d
     → (x : DecodedQueue) → x ≡ decodedQueueOf queue → x ≡ NoQueue
-    → (answer answer′ bitmap table bytes : List ℕ) (number : ℕ)
+    → (answer answer′ : List ℕ) (l : Lent) (number : ℕ)
     → (number ≡ 12) × (answer′ ≡ put answer 0 (answerWords (Refused 12)))
-    → QueueExported call (queueLent queue (lent words answer bitmap table bytes)) (queueLent queue (lent words answer′ bitmap table bytes)) number
+    → QueueExported call base (queueHanded queue (handed words answer l)) (queueHanded queue (handed words answer′ l)) number
 unfolding QueueCalled
-no-queue call words queue r e d f x h i answer answer′ bitmap table bytes number t =
+no-queue call base words queue r e d f x h i answer answer′ l number t =
     let is : decodedOf words ≡ Is d = sym e ∙ f in
     let is-none : decodedQueueOf queue ≡ NoQueue = sym h ∙ i in
-    rw (is, is-none)
-    (record {
-      others = record { numbered = t .0; told = t .1; recorded = refl; marked = refl; mapped = refl; left = refl };
-      queued = refl;
-    })
+    rw (is, is-none) (record { others = record { numbered = t .0; told = t .1; recorded = refl; untouched = refl }; queued = refl })
 
 -- ---- making
 pub no-queue-room : (words : List ℕ) (q : Queue) → length words < 6 → QueueMadeIn words q 12 words

@@ -12,7 +12,8 @@ use Rattle.record.specs.declared.Device.{Device}
 use Rattle.step.specs.declared.Answered.{Answered}
 use Rattle.step.specs.declared.Answer.{Answer}
 use Rattle.step.specs.declared.Answer.the-variants.{Refused}
-use Rattle.step.specs.World.{Outcome, Meets, worldOf, ReadConfig, WriteConfig}
+use Rattle.step.specs.World.{Call, worldOf, ReadConfig, WriteConfig}
+use Rattle.step.specs.Promise.{Lent, lent, Steps}
 use Rattle.step.specs.Step.{step, readConfig, writeConfig}
 use Rattle.record.specs.Shape.{shapedOf}
 use Rattle.record.specs.Changes.{pendingTo, placedTo, pluggedTo, usableTo}
@@ -24,17 +25,17 @@ use Rattle.words.specs.Record.{wordsOf, decodedOf, afterRequest, afterAnswer}
 use Rattle.step.specs.Answers.{answerWords, numberOf}
 use Rattle.words.proofs.Laws.{decoded-encodes, decoded-long, request-encodes, answer-encodes}
 use Rattle.making.specs.Made.{madeNumber}
-use Rattle.jambcopper.specs.Exports.{madeWords, MadeIn, lent, Called, Exported}
+use Rattle.jambcopper.specs.Exports.{madeWords, MadeIn, handed, Called, Exported}
 
 -- what the device's call promises, written out as words, is what the export promises
-pub served : (call : Device → Outcome) (words : List ℕ) (r : Decoded) → r ≡ decodedOf words → (d : Device) → r ≡ Is d
-    → (s : Answered) (words′ answer answer′ bitmap bitmap′ table table′ bytes bytes′ : List ℕ) (number : ℕ)
-    → Meets (call d) s bitmap′ table table′ bytes′
+pub served : (call : Lent → Call) (words : List ℕ) (r : Decoded) → r ≡ decodedOf words → (d : Device) → r ≡ Is d
+    → (s : Answered) (words′ answer answer′ : List ℕ) (before after : Lent) (number : ℕ)
+    → Steps d call before after s
     → (words′ ≡ put words 0 (wordsOf (s .device))) × (15 ≤ length words → decodedOf words′ ≡ Is (s .device))
     → (number ≡ numberOf (s .answer)) × (answer′ ≡ put answer 0 (answerWords (s .answer)))
-    → Exported call (lent words answer bitmap table bytes) (lent words′ answer′ bitmap′ table′ bytes′) number
+    → Exported call (handed words answer before) (handed words′ answer′ after) number
 unfolding Called
-served call words r e d f s words′ answer answer′ bitmap bitmap′ table table′ bytes bytes′ number m w t =
+served call words r e d f s words′ answer answer′ before after number m w t =
     let is : decodedOf words ≡ Is d = sym e ∙ f in
     let long = decoded-long words d is in
     rw is
@@ -43,20 +44,18 @@ served call words r e d f s words′ answer answer′ bitmap bitmap′ table tab
       recorded = w .0 ∙ ap (λ (d : Device). put words 0 (wordsOf d)) (m .recorded);
       decodes = w .1 long ∙ ap Is (m .recorded);
       told = t .1 ∙ ap (λ a. put answer 0 (answerWords a)) (m .answered);
-      marked = m .marked;
-      mapped = m .mapped;
-      left = m .left;
+      leaves = m .leaves;
     })
 
 -- no record: only the answer is written
-pub foreign : (call : Device → Outcome) (words : List ℕ) (r : Decoded) → r ≡ decodedOf words → r ≡ NoRecord
-    → (answer answer′ bitmap table bytes : List ℕ) (number : ℕ) → number ≡ 12
+pub foreign : (call : Lent → Call) (words : List ℕ) (r : Decoded) → r ≡ decodedOf words → r ≡ NoRecord
+    → (answer answer′ : List ℕ) (slices : Lent) (number : ℕ) → number ≡ 12
     → answer′ ≡ put answer 0 (answerWords (Refused 12))
-    → Exported call (lent words answer bitmap table bytes) (lent words answer′ bitmap table bytes) number
+    → Exported call (handed words answer slices) (handed words answer′ slices) number
 unfolding Called
-foreign call words r e f answer answer′ bitmap table bytes number n t =
+foreign call words r e f answer answer′ slices number n t =
     let is : decodedOf words ≡ NoRecord = sym e ∙ f in
-    rw is (record { numbered = n; told = t; recorded = refl; marked = refl; mapped = refl; left = refl })
+    rw is (record { numbered = n; told = t; recorded = refl; untouched = refl })
 
 -- a call that leaves the record as it is need not write it
 pub unwritten : (words : List ℕ) (r : Decoded) → r ≡ decodedOf words → (d : Device) → r ≡ Is d → (d′ : Device) → d′ ≡ d
@@ -97,9 +96,9 @@ pub untold : (answer : Answer) → [] ≡ put [] 0 (answerWords answer)
 untold answer = sym (put-past [] 0 (answerWords answer) (omega arith))
 
 -- no record, and no answer slice
-pub unserved : (call : Device → Outcome) (words : List ℕ) (r : Decoded) → r ≡ decodedOf words → r ≡ NoRecord
-    → (bytes : List ℕ) → Exported call (lent words [] [] [] bytes) (lent words [] [] [] bytes) 12
-unserved call words r e f bytes = foreign call words r e f [] [] [] [] bytes 12 refl (untold (Refused 12))
+pub unserved : (call : Lent → Call) (words : List ℕ) (r : Decoded) → r ≡ decodedOf words → r ≡ NoRecord
+    → (bytes : List ℕ) → Exported call (handed words [] (lent [] [] bytes)) (handed words [] (lent [] [] bytes)) 12
+unserved call words r e f bytes = foreign call words r e f [] [] (lent [] [] bytes) 12 refl (untold (Refused 12))
 
 -- the config's calls leave the record as it is
 pub read-keeps : (d : Device) (offset : ℕ) (buffer : List ℕ) → step (worldOf d [] []) (ReadConfig offset buffer) .world .device ≡ d

@@ -49,16 +49,14 @@ use words::encode_request;
 ghost use mathlib.Core.Path.{_≡_};
 ghost use mathlib.Core.List.{[]};
 ghost use Rattle.bitmap.specs.Blocks.{blocks};
-ghost use Rattle.rows.specs.Rows.{rowsOf};
 ghost use Rattle.making.specs.Made.{made};
-ghost use Rattle.step.specs.World.{worldOf, Place, SetRequestedSize, Request, HostAnswer, ReadConfig, WriteConfig};
-ghost use Rattle.step.specs.Step.{step};
+ghost use Rattle.step.specs.Promise.{lent, placeOn, resizeOn, requestOn, answerOn, readOn, writeOn};
 ghost use Rattle.queue.specs.Queue.{serveNext, hostAnswers};
 ghost use Rattle.driver.specs.Text.{Wrote};
 ghost use Rattle.driver_words.specs.Told.{ResponseTold, ConfigTold, PlanTold};
 ghost use Rattle.save_words.specs.Told.{lengthFrom, WroteTold, SaveTold, RestoreTold, ToNewTold, ToOldTold};
-ghost use Rattle.jambcopper.specs.Exports.{nodeOf, MadeIn, lent, Exported};
-ghost use Rattle.jambcopper.specs.Queue.{newQueue, QueueMadeIn, queueLent, QueueExported};
+ghost use Rattle.jambcopper.specs.Exports.{nodeOf, MadeIn, handed, Exported};
+ghost use Rattle.jambcopper.specs.Queue.{newQueue, QueueMadeIn, queueHanded, QueueExported};
 
 // The node of a device, as the enum of its constructor has it.
 fn node_of(node_given: bool, node: u16) -> Node
@@ -82,7 +80,10 @@ pub extern "C" fn jambcopper_make(
     node: u16,
     boot: u64,
 ) -> u64
-    ensures { λ r. ⌜ MadeIn (now (words .entry)) (made «capacity_mib» «requested_mib» several (nodeOf «node_given» node) boot) r (now (words .exit)) ⌝ }
+    ensures { λ r. ⌜
+        MadeIn (now (words .entry)) (made «capacity_mib» «requested_mib» several (nodeOf «node_given» node) boot) r
+        (now (words .exit))
+        ⌝ }
 {
     if words.len() < RECORD_WORDS {
         return 12;
@@ -109,9 +110,9 @@ pub extern "C" fn jambcopper_place(
     answer: &mut [u64],
 ) -> u64
     ensures { λ r. ⌜
-        Exported (λ d. step (worldOf d (now (bitmap .entry)) (now (table .entry))) (Place start size (now (slots .entry)) (blocks (now (bitmap .entry))) (rowsOf (now (table .entry)))))
-        (lent (now (words .entry)) (now (answer .entry)) (now (bitmap .entry)) (now (table .entry)) [])
-        (lent (now (words .exit)) (now (answer .exit)) (now (bitmap .exit)) (now (table .exit)) []) r
+        Exported (placeOn start size (now (slots .entry)))
+        (handed (now (words .entry)) (now (answer .entry)) (lent (now (bitmap .entry)) (now (table .entry)) []))
+        (handed (now (words .exit)) (now (answer .exit)) (lent (now (bitmap .exit)) (now (table .exit)) [])) r
         ⌝ }
 {
     let Decoded::Is(d) = decode(&words[..]) else {
@@ -134,9 +135,9 @@ pub extern "C" fn jambcopper_set_requested_size(
     answer: &mut [u64],
 ) -> u64
     ensures { λ r. ⌜
-        Exported (λ d. step (worldOf d (now (bitmap .entry)) (now (table .entry))) (SetRequestedSize «requested_mib»))
-        (lent (now (words .entry)) (now (answer .entry)) (now (bitmap .entry)) (now (table .entry)) [])
-        (lent (now (words .exit)) (now (answer .exit)) (now (bitmap .entry)) (now (table .entry)) []) r
+        Exported (resizeOn «requested_mib»)
+        (handed (now (words .entry)) (now (answer .entry)) (lent (now (bitmap .entry)) (now (table .entry)) []))
+        (handed (now (words .exit)) (now (answer .exit)) (lent (now (bitmap .entry)) (now (table .entry)) [])) r
         ⌝ }
 {
     let Decoded::Is(d) = decode(&words[..]) else {
@@ -162,9 +163,11 @@ pub extern "C" fn jambcopper_request(
     answer: &mut [u64],
 ) -> u64
     ensures { λ r. ⌜
-        Exported (λ d. step (worldOf d (now (bitmap .entry)) (now (table .entry))) (Request (record { mem = now (mem .entry); base = base }) descriptors head))
-        (lent (now (words .entry)) (now (answer .entry)) (now (bitmap .entry)) (now (table .entry)) (now (mem .entry)))
-        (lent (now (words .exit)) (now (answer .exit)) (now (bitmap .exit)) (now (table .entry)) (now (mem .exit))) r
+        Exported (requestOn base descriptors head)
+        (handed (now (words .entry)) (now (answer .entry))
+        (lent (now (bitmap .entry)) (now (table .entry)) (now (mem .entry))))
+        (handed (now (words .exit)) (now (answer .exit))
+        (lent (now (bitmap .exit)) (now (table .entry)) (now (mem .exit)))) r
         ⌝ }
 {
     let Decoded::Is(d) = decode(&words[..]) else {
@@ -198,9 +201,11 @@ pub extern "C" fn jambcopper_host_answer(
     answer: &mut [u64],
 ) -> u64
     ensures { λ r. ⌜
-        Exported (λ d. step (worldOf d (now (bitmap .entry)) (now (table .entry))) (HostAnswer (record { mem = now (mem .entry); base = base }) ok host))
-        (lent (now (words .entry)) (now (answer .entry)) (now (bitmap .entry)) (now (table .entry)) (now (mem .entry)))
-        (lent (now (words .exit)) (now (answer .exit)) (now (bitmap .exit)) (now (table .exit)) (now (mem .exit))) r
+        Exported (answerOn base ok host)
+        (handed (now (words .entry)) (now (answer .entry))
+        (lent (now (bitmap .entry)) (now (table .entry)) (now (mem .entry))))
+        (handed (now (words .exit)) (now (answer .exit))
+        (lent (now (bitmap .exit)) (now (table .exit)) (now (mem .exit)))) r
         ⌝ }
 {
     let Decoded::Is(d) = decode(&words[..]) else {
@@ -221,7 +226,9 @@ pub extern "C" fn jambcopper_queue_make(
     available: u64,
     used: u64,
 ) -> u64
-    ensures { λ r. ⌜ QueueMadeIn (now (queue .entry)) (newQueue descriptors available used) r (now (queue .exit)) ⌝ }
+    ensures { λ r. ⌜
+        QueueMadeIn (now (queue .entry)) (newQueue descriptors available used) r (now (queue .exit))
+        ⌝ }
 {
     if queue.len() < QUEUE_WORDS {
         return 12;
@@ -251,9 +258,11 @@ pub extern "C" fn jambcopper_serve(
     answer: &mut [u64],
 ) -> u64
     ensures { λ r. ⌜
-        QueueExported (λ d q. serveNext (worldOf d (now (bitmap .entry)) (now (table .entry))) q (record { mem = now (mem .entry); base = base }))
-        (queueLent (now (queue .entry)) (lent (now (words .entry)) (now (answer .entry)) (now (bitmap .entry)) (now (table .entry)) (now (mem .entry))))
-        (queueLent (now (queue .exit)) (lent (now (words .exit)) (now (answer .exit)) (now (bitmap .exit)) (now (table .entry)) (now (mem .exit)))) r
+        QueueExported serveNext base
+        (queueHanded (now (queue .entry)) (handed (now (words .entry)) (now (answer .entry))
+        (lent (now (bitmap .entry)) (now (table .entry)) (now (mem .entry)))))
+        (queueHanded (now (queue .exit)) (handed (now (words .exit)) (now (answer .exit))
+        (lent (now (bitmap .exit)) (now (table .entry)) (now (mem .exit))))) r
         ⌝ }
 {
     let Decoded::Is(d) = decode(&words[..]) else {
@@ -300,9 +309,11 @@ pub extern "C" fn jambcopper_serve_answer(
     answer: &mut [u64],
 ) -> u64
     ensures { λ r. ⌜
-        QueueExported (λ d q. hostAnswers (worldOf d (now (bitmap .entry)) (now (table .entry))) q (record { mem = now (mem .entry); base = base }) ok host)
-        (queueLent (now (queue .entry)) (lent (now (words .entry)) (now (answer .entry)) (now (bitmap .entry)) (now (table .entry)) (now (mem .entry))))
-        (queueLent (now (queue .exit)) (lent (now (words .exit)) (now (answer .exit)) (now (bitmap .exit)) (now (table .exit)) (now (mem .exit)))) r
+        QueueExported (λ w q g. hostAnswers w q g ok host) base
+        (queueHanded (now (queue .entry)) (handed (now (words .entry)) (now (answer .entry))
+        (lent (now (bitmap .entry)) (now (table .entry)) (now (mem .entry)))))
+        (queueHanded (now (queue .exit)) (handed (now (words .exit)) (now (answer .exit))
+        (lent (now (bitmap .exit)) (now (table .exit)) (now (mem .exit))))) r
         ⌝ }
 {
     let Decoded::Is(d) = decode(&words[..]) else {
@@ -332,9 +343,9 @@ pub extern "C" fn jambcopper_serve_answer(
 #[no_mangle]
 pub extern "C" fn jambcopper_read_config(words: &[u64], offset: u64, data: &mut [u8]) -> u64
     ensures { λ r. ⌜
-        Exported (λ d. step (worldOf d [] []) (ReadConfig offset (now («data» .entry))))
-        (lent (now (words .entry)) [] [] [] (now («data» .entry)))
-        (lent (now (words .entry)) [] [] [] (now («data» .exit))) r
+        Exported (readOn offset)
+        (handed (now (words .entry)) [] (lent [] [] (now («data» .entry))))
+        (handed (now (words .entry)) [] (lent [] [] (now («data» .exit)))) r
         ⌝ }
 {
     let Decoded::Is(d) = decode(words) else {
@@ -349,9 +360,9 @@ pub extern "C" fn jambcopper_read_config(words: &[u64], offset: u64, data: &mut 
 #[no_mangle]
 pub extern "C" fn jambcopper_write_config(words: &[u64], offset: u64, data: &[u8]) -> u64
     ensures { λ r. ⌜
-        Exported (λ d. step (worldOf d [] []) (WriteConfig offset (now («data» .entry))))
-        (lent (now (words .entry)) [] [] [] (now («data» .entry)))
-        (lent (now (words .entry)) [] [] [] (now («data» .entry))) r
+        Exported (writeOn offset)
+        (handed (now (words .entry)) [] (lent [] [] (now («data» .entry))))
+        (handed (now (words .entry)) [] (lent [] [] (now («data» .entry)))) r
         ⌝ }
 {
     let Decoded::Is(d) = decode(words) else {
@@ -414,7 +425,10 @@ pub extern "C" fn jambcopper_driver_plan(config: &[u8], bitmap: &[u8], plug: &mu
 // How long the device's text is.
 #[no_mangle]
 pub extern "C" fn jambcopper_save_length(words: &[u64], bitmap: &[u8], length: &mut [u64]) -> u64
-    ensures { λ r. ⌜ WroteTold (lengthFrom (now (words .entry)) (now (bitmap .entry)) (now (length .entry))) (now (length .entry)) (now (length .exit)) r ⌝ }
+    ensures { λ r. ⌜
+        WroteTold (lengthFrom (now (words .entry)) (now (bitmap .entry)) (now (length .entry)))
+        (now (length .entry)) (now (length .exit)) r
+        ⌝ }
 {
     tell_save_length(words, bitmap, length)
 }
@@ -427,7 +441,10 @@ pub extern "C" fn jambcopper_save(
     text: &mut [u8],
     length: &mut [u64],
 ) -> u64
-    ensures { λ r. ⌜ SaveTold (now (words .entry)) (now (bitmap .entry)) (now (text .entry)) (now (text .exit)) (now (length .entry)) (now (length .exit)) r ⌝ }
+    ensures { λ r. ⌜
+        SaveTold (now (words .entry)) (now (bitmap .entry))
+        (now (text .entry)) (now (text .exit)) (now (length .entry)) (now (length .exit)) r
+        ⌝ }
 {
     tell_save(words, bitmap, text, length)
 }
@@ -435,7 +452,10 @@ pub extern "C" fn jambcopper_save(
 // Restores the state of a text onto the device.
 #[no_mangle]
 pub extern "C" fn jambcopper_restore(words: &mut [u64], bitmap: &mut [u8], text: &[u8]) -> u64
-    ensures { λ r. ⌜ RestoreTold (now (text .entry)) (now (words .entry)) (now (words .exit)) (now (bitmap .entry)) (now (bitmap .exit)) r ⌝ }
+    ensures { λ r. ⌜
+        RestoreTold (now (text .entry)) (now (words .entry)) (now (words .exit))
+        (now (bitmap .entry)) (now (bitmap .exit)) r
+        ⌝ }
 {
     tell_restore(words, bitmap, text)
 }

@@ -24,7 +24,7 @@ same-length-2 : tie.Need-same-length-2
 same-length-2 c = search needs
 
 returns : tie.Need-returns
-returns c = foreign _ _ _ (c .before .before .before .before .before .before .decode .ensures) (c .before .before .before .before .enum-told .given .1) _ _ _ _ _ _ (c .before .before .tell .ensures .0) (c .before .before .tell .ensures .1)
+returns c = foreign _ _ _ (c .before .before .before .before .before .before .decode .ensures) (c .before .before .before .before .enum-told .given .1) _ _ _ _ (c .before .before .tell .ensures .0) (c .before .before .tell .ensures .1)
 
 host-answer-requires : tie.Need-host-answer-requires
 host-answer-requires c κs = search needs
@@ -55,7 +55,7 @@ returns-2 c =
     let is = c .before .before .before .before .before .before .before .before .before .before .before .before .before .before .before .before .before .before .before .before .before .before .decode .ensures in
     let known = c .before .before .before .before .before .before .before .before .before .before .before .before .before .before .before .before .before .before .before .before .d .given .1 in
     let met = c .before .before .before .before .before .before .before .before .before .before .before .before .before .before .before .host-answer .ensures in
-    served _ _ _ is _ known _ _ _ _ _ _ _ _ _ _ _
+    served _ _ _ is _ known _ _ _ _ _ _ _
     met
     (answer-written _ _ is _ known _ _ (met .recorded) _ (answer-changes _ _ _ _) (c .before .before .before .before .before .before .encode-answer .ensures))
     (c .before .before .tell2 .ensures)

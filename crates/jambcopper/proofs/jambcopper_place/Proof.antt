@@ -23,7 +23,7 @@ same-length-2 : tie.Need-same-length-2
 same-length-2 c = search needs
 
 returns : tie.Need-returns
-returns c = foreign _ _ _ (c .before .before .before .before .before .before .decode .ensures) (c .before .before .before .before .enum-told .given .1) _ _ _ _ _ _ (c .before .before .tell .ensures .0) (c .before .before .tell .ensures .1)
+returns c = foreign _ _ _ (c .before .before .before .before .before .before .decode .ensures) (c .before .before .before .before .enum-told .given .1) _ _ _ _ (c .before .before .tell .ensures .0) (c .before .before .tell .ensures .1)
 
 place-requires : tie.Need-place-requires
 place-requires c κs = search needs
@@ -48,7 +48,7 @@ same-length-6 c = search needs
 
 returns-2 : tie.Need-returns-2
 returns-2 c =
-    served _ _ _ (c .before .before .before .before .before .before .before .before .before .before .before .before .before .before .before .before .before .before .before .decode .ensures) _ (c .before .before .before .before .before .before .before .before .before .before .before .before .before .before .before .before .before .d .given .1) _ _ _ _ _ _ _ _ _ _ _
+    served _ _ _ (c .before .before .before .before .before .before .before .before .before .before .before .before .before .before .before .before .before .before .before .decode .ensures) _ (c .before .before .before .before .before .before .before .before .before .before .before .before .before .before .before .before .before .d .given .1) _ _ _ _ _ _ _
     (c .before .before .before .before .before .before .before .before .before .before .before .before .before .place .ensures)
     (c .before .before .before .before .before .before .encode .ensures)
     (c .before .before .tell2 .ensures)

@@ -24,7 +24,7 @@ same-length-2 : tie.Need-same-length-2
 same-length-2 c = search needs
 
 returns : tie.Need-returns
-returns c = foreign _ _ _ (c .before .before .before .before .before .before .decode .ensures) (c .before .before .before .before .enum-told .given .1) _ _ _ _ _ _ (c .before .before .tell .ensures .0) (c .before .before .tell .ensures .1)
+returns c = foreign _ _ _ (c .before .before .before .before .before .before .decode .ensures) (c .before .before .before .before .enum-told .given .1) _ _ _ _ (c .before .before .tell .ensures .0) (c .before .before .tell .ensures .1)
 
 request-requires : tie.Need-request-requires
 request-requires c κs = search needs
@@ -52,7 +52,7 @@ returns-2 c =
     let is = c .before .before .before .before .before .before .before .before .before .before .before .before .before .before .before .before .before .before .before .decode .ensures in
     let known = c .before .before .before .before .before .before .before .before .before .before .before .before .before .before .before .before .before .d .given .1 in
     let met = c .before .before .before .before .before .before .before .before .before .before .before .before .before .request .ensures in
-    served _ _ _ is _ known _ _ _ _ _ _ _ _ _ _ _
+    served _ _ _ is _ known _ _ _ _ _ _ _
     met
     (request-written _ _ is _ known _ _ (met .recorded) _ (request-changes _ _ _ _) (c .before .before .before .before .before .before .encode-request .ensures))
     (c .before .before .tell2 .ensures)

@@ -23,7 +23,7 @@ same-length-2 : tie.Need-same-length-2
 same-length-2 c = search needs
 
 returns : tie.Need-returns
-returns c = foreign _ _ _ (c .before .before .before .before .before .before .decode .ensures) (c .before .before .before .before .enum-told .given .1) _ _ _ _ _ _ (c .before .before .tell .ensures .0) (c .before .before .tell .ensures .1)
+returns c = foreign _ _ _ (c .before .before .before .before .before .before .decode .ensures) (c .before .before .before .before .enum-told .given .1) _ _ _ _ (c .before .before .tell .ensures .0) (c .before .before .tell .ensures .1)
 
 set-requested-size-requires : tie.Need-set-requested-size-requires
 set-requested-size-requires c κs = search needs
@@ -42,7 +42,7 @@ same-length-4 c = search needs
 
 returns-2 : tie.Need-returns-2
 returns-2 c =
-    served _ _ _ (c .before .before .before .before .before .before .before .before .before .before .before .before .before .decode .ensures) _ (c .before .before .before .before .before .before .before .before .before .before .before .d .given .1) _ _ _ _ _ _ _ _ _ _ _
+    served _ _ _ (c .before .before .before .before .before .before .before .before .before .before .before .before .before .decode .ensures) _ (c .before .before .before .before .before .before .before .before .before .before .before .d .given .1) _ _ _ _ _ _ _
     (c .before .before .before .before .before .before .before .before .before .set-requested-size .ensures)
     (c .before .before .before .before .before .before .encode .ensures)
     (c .before .before .tell2 .ensures)
