@@ -12,14 +12,15 @@ use Rattle.rows.specs.Rows.{written}
 use Rattle.rows.proofs.Words.{whole}
 use Rattle.step.specs.declared.Answered.{Answered}
 use Rattle.step.specs.World.{Outcome}
+use Rattle.step.specs.Promise.{Lent, meant, Leaves}
 use Rattle.trace_text.specs.declared.Line.{Line}
 use Rattle.trace_text.specs.declared.Line.the-variants.{First, Later, Bad}
 use Rattle.trace_text.specs.Lines.{Reads}
-use Rattle.trace_step.specs.Trace.{textOf}
+use Rattle.trace_run.specs.Ops.{textOf}
 use Rattle.trace_run.specs.declared.Run.{Run}
 use Rattle.trace_run.specs.declared.Run.the-variants.{On, Ended}
 use Rattle.trace_run.specs.declared.Shown.{Shown}
-use Rattle.trace_run.specs.Run.{lentOf, asLine, answeredAs, countedFrom, placedAs, placedOn, Prints, Comes, SlotFits}
+use Rattle.trace_run.specs.Run.{asLine, answeredAs, countedFrom, placedAs, placedOn, Prints, Comes, SlotFits}
 
 -- ---- the slots
 
@@ -51,27 +52,28 @@ slot-fits s Bad h = tt
 -- ---- a line of output
 
 -- a line that comes to no call leaves all that is lent
-pub printed-comes : (bitmap table mem : List ℕ) {run : Run} {text out : List ℕ} {r : Shown} {out′ : List ℕ}
-    → Prints run text out r out′
-    → Comes (record { run = run; lent = lentOf bitmap table mem; printed = asLine text }) table out r bitmap table mem out′
-printed-comes bitmap table mem p =
-    record { stands = p .stands; marked = refl; mapped = sym (whole table); left = refl; printed = p .printed }
+unchanged : (l : Lent) → Leaves (meant l) l l
+unchanged l = record { marked = refl; mapped = sym (whole (l .table)); left = refl }
 
-pub ended-comes : (bitmap table mem out : List ℕ) (r : Shown) → r .run ≡ Ended → r .length ≡ 0
-    → Comes (record { run = Ended; lent = lentOf bitmap table mem; printed = [] }) table out r bitmap table mem out
-ended-comes bitmap table mem out r e z =
-    record { stands = e; marked = refl; mapped = sym (whole table); left = refl; printed = record { held = refl; next = omega arith } }
+pub printed-comes : (l : Lent) {run : Run} {text out out′ : List ℕ} {r : Shown}
+    → Prints run text out r out′ → Comes (record { run = run; left = meant l; printed = asLine text }) l l out out′ r
+printed-comes l p = record { stands = p .stands; leaves = unchanged l; printed = p .printed }
 
--- a call that was answered
-module _ (o : Outcome) (mem : List ℕ) {s : Answered} {run : Run} {bitmap′ table table′ mem′ out : List ℕ} {r : Shown} {out′ : List ℕ}
-    (a : s .answer ≡ o .answer) (d : s .device ≡ o .world .device) (m : blocks bitmap′ ≡ o .world .blocks)
-    (t : table′ ≡ written table (o .world .rows)) (l : mem′ ≡ mem) (p : Prints run (textOf (s .answer) (s .device) mem′) out r out′) where
-  comes : (to : Run) → run ≡ to → Comes (answeredAs to o mem) table out r bitmap′ table′ mem′ out′
+pub ended-comes : (l : Lent) (out : List ℕ) (r : Shown) → r .run ≡ Ended → r .length ≡ 0
+    → Comes (record { run = Ended; left = meant l; printed = [] }) l l out out r
+ended-comes l out r e z = record { stands = e; leaves = unchanged l; printed = record { held = refl; next = omega arith } }
+
+-- a call that was answered, with `mem` for the bytes of guest memory then
+module _ (o : Outcome) (mem : List ℕ) {s : Answered} {run : Run} {before after : Lent} {out out′ : List ℕ} {r : Shown}
+    (a : s .answer ≡ o .answer) (d : s .device ≡ o .world .device) (m : blocks (after .bitmap) ≡ o .world .blocks)
+    (t : after .table ≡ written (before .table) (o .world .rows)) (l : after .bytes ≡ mem)
+    (p : Prints run (textOf (s .answer) (s .device) (after .bytes)) out r out′) where
+  comes : (to : Run) → run ≡ to → Comes (answeredAs to o mem) before after out out′ r
   comes to e =
-      record { stands = p .stands ∙ e; marked = m; mapped = t; left = l; printed = rw (a, d, l) at (p .printed) }
+      record { stands = p .stands ∙ e; leaves = record { marked = m; mapped = t; left = l }; printed = rw (a, d, l) at (p .printed) }
 
-  pub placed-comes : run ≡ placedAs (s .answer) (s .device) → Comes (placedOn o mem) table out r bitmap′ table′ mem′ out′
+  pub placed-comes : run ≡ placedAs (s .answer) (s .device) → Comes (placedOn o mem) before after out out′ r
   placed-comes e = comes _ (rw (a, d) at e)
 
-  pub applied-comes : run ≡ On (s .device) → Comes (answeredAs (On (o .world .device)) o mem) table out r bitmap′ table′ mem′ out′
+  pub applied-comes : run ≡ On (s .device) → Comes (answeredAs (On (o .world .device)) o mem) before after out out′ r
   applied-comes e = comes _ (e ∙ ap On d)

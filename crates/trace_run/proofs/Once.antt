@@ -3,7 +3,8 @@ use Prim.Native.Nat.{ℕ, _<_}
 use mathlib.Core.Path.{_≡_, sym, ap, _∙_}
 use mathlib.Core.List.{List}
 use lib.ListN.{getD}
-use Rattle.bitmap.proofs.Bytes.{blocks-tell}
+use Rattle.step.specs.Promise.{Lent}
+use Rattle.step.proofs.Once.{leaves-once}
 use Rattle.trace_text.proofs.Laws.{reads-once}
 use Rattle.trace_run.specs.declared.Run.{Run}
 use Rattle.trace_run.specs.declared.Shown.{Shown}
@@ -15,19 +16,16 @@ shown-same r r₂ e l = ap (λ (run : Run). shown run (r .length)) e ∙ ap (sho
     shown : Run → ℕ → Shown
     shown run length = record { run = run; length = length }
 
-module _ {table₀ out₀ : List ℕ} {r r₂ : Shown} {bitmap bitmap₂ table table₂ mem mem₂ out out₂ : List ℕ}
-    (p : (i : ℕ) → getD bitmap i 0 < 256) (q : (i : ℕ) → getD bitmap₂ i 0 < 256) where
-  comes-once : (t : Turn) → Comes t table₀ out₀ r bitmap table mem out → Comes t table₀ out₀ r₂ bitmap₂ table₂ mem₂ out₂
-      → (r ≡ r₂) × (bitmap ≡ bitmap₂) × (table ≡ table₂) × (mem ≡ mem₂) × (out ≡ out₂)
+module _ {before after after₂ : Lent} {out₀ out out₂ : List ℕ} {r r₂ : Shown}
+    (p : (i : ℕ) → getD (after .bitmap) i 0 < 256) (q : (i : ℕ) → getD (after₂ .bitmap) i 0 < 256) where
+  comes-once : (t : Turn) → Comes t before after out₀ out r → Comes t before after₂ out₀ out₂ r₂
+      → (r ≡ r₂) × (after ≡ after₂) × (out ≡ out₂)
   comes-once t f g = (
     shown-same r r₂ (f .stands ∙ sym (g .stands)) (f .printed .next ∙ sym (g .printed .next)),
-    blocks-tell bitmap bitmap₂ p q (f .marked ∙ sym (g .marked)),
-    f .mapped ∙ sym (g .mapped),
-    f .left ∙ sym (g .left),
+    leaves-once (t .left) before after after₂ p q (f .leaves) (g .leaves),
     f .printed .held ∙ sym (g .printed .held),
   )
 
-  pub serves-once : {run : Run} {bitmap₀ mem₀ s : List ℕ} → Serves run bitmap₀ table₀ mem₀ s out₀ r bitmap table mem out
-      → Serves run bitmap₀ table₀ mem₀ s out₀ r₂ bitmap₂ table₂ mem₂ out₂
-      → (r ≡ r₂) × (bitmap ≡ bitmap₂) × (table ≡ table₂) × (mem ≡ mem₂) × (out ≡ out₂)
+  pub serves-once : {run : Run} {s : List ℕ} → Serves run s before after out₀ out r → Serves run s before after₂ out₀ out₂ r₂
+      → (r ≡ r₂) × (after ≡ after₂) × (out ≡ out₂)
   serves-once {s = s} f g = comes-once _ (f .comes) (rw (reads-once s (g .line) (f .line) (g .reads) (f .reads)) at (g .comes))

@@ -1,1 +1,2 @@
+pub mod Ops
 pub mod Run

@@ -1,17 +1,14 @@
 -- A run of a trace, line by line (01, "Trace lines"): the first line makes the device and places it, and each later one is an op on it.
 use Prim.Native.Nat.{ℕ, zero, suc, _≤_}
-use mathlib.Core.Bool.{Bool}
 use mathlib.Core.List.{List, [], _∷_, _++_}
 use mathlib.Core.Path.{_≡_}
 use Rattle.units.specs.Numbers.{mapRegions}
-use Rattle.bitmap.specs.Blocks.{blocks}
-use Rattle.rows.specs.declared.MapRow.{MapRow}
-use Rattle.rows.specs.Rows.{rowsOf, written}
 use Rattle.record.specs.declared.Device.{Device}
 use Rattle.step.specs.declared.Answer.{Answer}
 use Rattle.step.specs.declared.Answer.the-variants.{Refused, Wants, Sized, Unserved, Served, Done}
 use Rattle.step.specs.World.{World, Call, Place, Outcome}
 use Rattle.step.specs.Step.{step}
+use Rattle.step.specs.Promise.{Lent, Meant, meant, Leaves}
 use Rattle.making.specs.declared.Node.{Node}
 use Rattle.making.specs.declared.Node.the-variants.{None, Number}
 use Rattle.making.specs.declared.Made.{Made}
@@ -26,28 +23,19 @@ use Rattle.trace_text.specs.declared.Line.{Line}
 use Rattle.trace_text.specs.declared.Line.the-variants.{First, Later, Bad}
 use Rattle.answer_text.specs.Texts.{refusalText}
 use Rattle.trace_text.specs.Lines.{Reads}
-use Rattle.trace_step.specs.Trace.{callOf, bytesAfter, textOf}
+use Rattle.trace_run.specs.Ops.{callOf, bytesAfter, textOf}
 use Rattle.trace_run.specs.declared.Run.{Run}
 use Rattle.trace_run.specs.declared.Run.the-variants.{Before, On, Ended}
 use Rattle.trace_run.specs.declared.Shown.{Shown}
 
--- what a run is lent: the bitmap as its blocks, the map table as its rows, and guest memory
-pub record Lent : Type 0 where
-  pub blocks : List Bool
-  pub rows : List MapRow
-  pub mem : List ℕ
+-- the world of a device on what slices mean
+abbrev pub worldOn : Device → Meant → World
+worldOn d m = record { device = d; blocks = m .blocks; rows = m .rows }
 
-abbrev pub lentOf : (bitmap table mem : List ℕ) → Lent
-lentOf bitmap table mem = record { blocks = blocks bitmap; rows = rowsOf table; mem = mem }
-
--- the world of a device on what is lent
-abbrev pub worldOn : Device → Lent → World
-worldOn d l = record { device = d; blocks = l .blocks; rows = l .rows }
-
--- what a line comes to: where the run stands then, what is lent as it is left, and what is printed
+-- what a line comes to: where the run stands then, what is left in the lent slices, and what is printed
 pub record Turn : Type 0 where
   pub run : Run
-  pub lent : Lent
+  pub left : Meant
   pub printed : List ℕ
 
 -- a text as a line of output
@@ -55,15 +43,15 @@ abbrev pub asLine : List ℕ → List ℕ
 asLine text = text ++ 10 ∷ []
 
 -- "A refusal, 10 too, prints `refuse=N`": here of a line that comes to no call, so nothing that is lent changes
-abbrev pub refusedAs : Run → ℕ → Lent → Turn
-refusedAs run n l = record { run = run; lent = l; printed = asLine (refusalText n) }
+abbrev pub refusedAs : Run → ℕ → Meant → Turn
+refusedAs run n m = record { run = run; left = m; printed = asLine (refusalText n) }
 
 -- a call of the device prints its answer
 abbrev pub answeredAs : Run → Outcome → List ℕ → Turn
 answeredAs run o mem =
     record {
       run = run;
-      lent = record { blocks = o .world .blocks; rows = o .world .rows; mem = mem };
+      left = record { blocks = o .world .blocks; rows = o .world .rows; bytes = mem };
       printed = asLine (textOf (o .answer) (o .world .device) mem);
     }
 
@@ -79,10 +67,10 @@ countedFrom slot zero = []
 countedFrom slot (suc count) = slot ∷ countedFrom (suc slot) count
 
 -- the device is placed at `addr`, all of its region, with a slot for each map region
-abbrev pub placeOf : Device → FirstLine → Lent → Call
-placeOf d f l =
+abbrev pub placeOf : Device → FirstLine → Meant → Call
+placeOf d f m =
     let region = d .config .«region_size» in
-    Place (f .addr .0) region (countedFrom (f .slot) (mapRegions region (d .several))) (l .blocks) (l .rows)
+    Place (f .addr .0) region (countedFrom (f .slot) (mapRegions region (d .several))) (m .blocks) (m .rows)
 
 -- "one in the first line ends the run"
 unfoldable pub placedAs : Answer → Device → Run
@@ -90,38 +78,38 @@ placedAs (Refused n) d = Ended
 placedAs (Wants call) d = On d
 placedAs Sized d = On d
 placedAs (Unserved reason) d = On d
-placedAs (Served resp used) d = On d
+placedAs (Served reply) d = On d
 placedAs Done d = On d
 
 -- placing a device leaves guest memory as it is
 abbrev pub placedOn : Outcome → List ℕ → Turn
 placedOn o mem = answeredAs (placedAs (o .answer) (o .world .device)) o mem
 
-unfoldable pub begunOn : Made → FirstLine → Lent → Turn
-begunOn (NotMade n) f l = refusedAs Ended n l
-begunOn (MadeDevice d) f l = placedOn (step (worldOn d l) (placeOf d f l)) (l .mem)
+unfoldable pub begunOn : Made → FirstLine → Meant → Turn
+begunOn (NotMade n) f m = refusedAs Ended n m
+begunOn (MadeDevice d) f m = placedOn (step (worldOn d m) (placeOf d f m)) (m .bytes)
 
 -- the first line makes the device, and places it
-abbrev pub begun : FirstLine → Lent → Turn
-begun f l = begunOn (made (f .«capacity_mib») (f .«requested_mib») (f .multi) (nodeOf (f .node)) (f .boot)) f l
+abbrev pub begun : FirstLine → Meant → Turn
+begun f m = begunOn (made (f .«capacity_mib») (f .«requested_mib») (f .multi) (nodeOf (f .node)) (f .boot)) f m
 
 -- ---- every line
 
 -- a later line is an op on the device, and the run goes on whatever its answer
-abbrev pub goneOn : Device → Op → Lent → Turn
-goneOn d op l =
-    let o = step (worldOn d l) (callOf op (l .mem)) in
-    answeredAs (On (o .world .device)) o (bytesAfter op (l .mem) o)
+abbrev pub goneOn : Device → Op → Meant → Turn
+goneOn d op m =
+    let o = step (worldOn d m) (callOf op (m .bytes)) in
+    answeredAs (On (o .world .device)) o (bytesAfter op (m .bytes) o)
 
 -- a line where another is due is a bad line: 13. A bad first line ends the run, and after a bad later one it goes on. Nothing comes of a line after the end
-unfoldable pub turn : Run → Line → Lent → Turn
-turn Before (First f) l = begun f l
-turn Before (Later op) l = refusedAs Ended 13 l
-turn Before Bad l = refusedAs Ended 13 l
-turn (On d) (First f) l = refusedAs (On d) 13 l
-turn (On d) (Later op) l = goneOn d op l
-turn (On d) Bad l = refusedAs (On d) 13 l
-turn Ended line l = record { run = Ended; lent = l; printed = [] }
+unfoldable pub turn : Run → Line → Meant → Turn
+turn Before (First f) m = begun f m
+turn Before (Later op) m = refusedAs Ended 13 m
+turn Before Bad m = refusedAs Ended 13 m
+turn (On d) (First f) m = refusedAs (On d) 13 m
+turn (On d) (Later op) m = goneOn d op m
+turn (On d) Bad m = refusedAs (On d) 13 m
+turn Ended line m = record { run = Ended; left = m; printed = [] }
 
 -- ---- what the code promises
 
@@ -130,19 +118,17 @@ pub record Prints (run : Run) (text out : List ℕ) (r : Shown) (out′ : List �
   pub stands : r .run ≡ run
   pub printed : Put out 0 (asLine text) out′ (r .length)
 
--- all that is left is what the line comes to
-pub record Comes (t : Turn) (table out : List ℕ) (r : Shown) (bitmap′ table′ mem′ out′ : List ℕ) : Type 0 where
+-- what a line comes to is given: where the run stands, what was lent, and what is printed
+pub record Comes (t : Turn) (before after : Lent) (out out′ : List ℕ) (r : Shown) : Type 0 where
   pub stands : r .run ≡ t .run
-  pub marked : blocks bitmap′ ≡ t .lent .blocks
-  pub mapped : table′ ≡ written table (t .lent .rows)
-  pub left : mem′ ≡ t .lent .mem
+  pub leaves : Leaves (t .left) before after
   pub printed : Put out 0 (t .printed) out′ (r .length)
 
--- the bytes s read as one line, and all that is left is what that line comes to
-pub record Serves (run : Run) (bitmap table mem s out : List ℕ) (r : Shown) (bitmap′ table′ mem′ out′ : List ℕ) : Type 0 where
+-- the bytes s read as one line, and what that line comes to is given
+pub record Serves (run : Run) (s : List ℕ) (before after : Lent) (out out′ : List ℕ) (r : Shown) : Type 0 where
   pub line : Line
   pub reads : Reads s line
-  pub comes : Comes (turn run line (lentOf bitmap table mem)) table out r bitmap′ table′ mem′ out′
+  pub comes : Comes (turn run line (meant before)) before after out out′ r
 
 -- the slots of a line that was read stay below 2^32: "above 4,294,966,000 it is 13"
 abbrev pub SlotFits : Line → Type 0

@@ -1,29 +1,46 @@
-// A run of a trace, a line at a time: the first makes the device and places it, and each later one is an op on it.
+// SPDX-License-Identifier: Apache-2.0 AND BSD-3-Clause
+// A run of a trace, a line at a time: the first makes the device and places it, and each later one is an op on it. Ops go
+// through real chains in a guest memory, and each line prints the answer.
+use answer_text::put_create;
+use answer_text::put_discard;
 use answer_text::put_refusal;
+use answer_text::put_response;
+use answer_text::put_sized;
+use little_endian::read_u16;
+use little_endian::write_u16;
+use little_endian::write_u32;
+use little_endian::write_u64;
 use making::Made;
 use making::Mem;
 use making::Node;
 use placing::place;
+use placing::set_requested_size;
 use record::Device;
+use record::HostCall;
+use serving::host_answer;
+use serving::request;
 use step::Answer;
 use step::Answered;
 use text::put;
-use trace_step::apply;
-use trace_step::put_answer;
 use trace_text::FirstLine;
 use trace_text::Line;
 use trace_text::Op;
 use trace_text::read_line;
+use units::GuestAddr;
 use units::map_regions;
 ghost use mathlib.Core.Path.{_≡_};
+ghost use Rattle.text.specs.Putting.{Put};
+ghost use Rattle.step.specs.World.{worldOf};
+ghost use Rattle.step.specs.Promise.{lent, meant, Gives};
+ghost use Rattle.step.specs.Step.{step};
+ghost use Rattle.trace_run.specs.Ops.{chained, asked, requestOf, applied, textOf};
 ghost use mathlib.Core.Bool.{true};
 ghost use Prim.Native.Nat.{_+_, _≤_};
 ghost use lib.ListN.{length, take};
 ghost use Rattle.record.specs.Shape.{shapedOf};
 ghost use Rattle.making.specs.declared.Made.the-variants as made;
 ghost use Rattle.answer_text.specs.Texts.{refusalText};
-ghost use Rattle.trace_step.specs.Trace.{textOf};
-ghost use Rattle.trace_run.specs.Run.{lentOf, nodeOf, countedFrom, placedAs, begunOn, begun, goneOn, turn, Prints, Comes, Serves, SlotFits};
+ghost use Rattle.trace_run.specs.Run.{nodeOf, countedFrom, placedAs, begunOn, begun, goneOn, turn, Prints, Comes, Serves, SlotFits};
 
 // Where a run stands: before its first line, on a device, or ended.
 pub enum Run {
@@ -36,6 +53,96 @@ pub enum Run {
 pub struct Shown {
     pub run: Run,
     pub length: usize,
+}
+
+// Lays the two descriptors of every chain.
+fn lay_chain(mem: &mut [u8])
+    ensures { λ _. ⌜ now (mem .exit) ≡ chained (now (mem .entry)) ⌝ }
+{
+    write_u64(mem, 0, 64);
+    write_u32(mem, 8, 24);
+    write_u16(mem, 12, 1);
+    write_u16(mem, 14, 1);
+    write_u64(mem, 16, 96);
+    write_u32(mem, 24, 10);
+    write_u16(mem, 28, 2);
+    write_u16(mem, 30, 0);
+}
+
+// Lays a request, as a guest would.
+fn ask(mem: &mut [u8], req_type: u16, addr: GuestAddr, nb_blocks: u16)
+    ensures { λ _. ⌜ now (mem .exit) ≡ asked (now (mem .entry)) «req_type» (addr .0) «nb_blocks» ⌝ }
+{
+    lay_chain(mem);
+    write_u64(mem, 64, req_type as u64);
+    write_u64(mem, 72, addr.0);
+    write_u64(mem, 80, nb_blocks as u64);
+}
+
+// A request, as a guest makes it: the chain is laid, and the device reads it.
+fn guest_asks(
+    d: Device,
+    bitmap: &mut [u8],
+    table: &[u64],
+    mem: &mut [u8],
+    req_type: u16,
+    addr: GuestAddr,
+    nb_blocks: u16,
+) -> Answered
+    ensures { λ r. ⌜
+        Gives (step (worldOf d (now (bitmap .entry)) (now (table .entry))) (requestOf (now (mem .entry)) «req_type» (addr .0) «nb_blocks»))
+        (lent (now (bitmap .entry)) (now (table .entry)) (now (mem .entry))) (lent (now (bitmap .exit)) (now (table .entry)) (now (mem .exit))) r
+        ⌝ }
+{
+    ask(mem, req_type, addr, nb_blocks);
+    request(d, bitmap, table, mem, GuestAddr(0), GuestAddr(0), 0)
+}
+
+// Applies an op to the device.
+fn apply(d: Device, bitmap: &mut [u8], table: &mut [u64], mem: &mut [u8], op: Op) -> Answered
+    ensures { λ r. ⌜
+        Gives (applied op (worldOf d (now (bitmap .entry)) (now (table .entry))) (now (mem .entry)))
+        (lent (now (bitmap .entry)) (now (table .entry)) (now (mem .entry))) (lent (now (bitmap .exit)) (now (table .exit)) (now (mem .exit))) r
+        ⌝ }
+{
+    match op {
+        Op::Host { ok, addr } => host_answer(d, bitmap, table, mem, GuestAddr(0), ok, addr),
+        Op::Plug { addr, blocks } => guest_asks(d, bitmap, &table[..], mem, 0, addr, blocks),
+        Op::Unplug { addr, blocks } => guest_asks(d, bitmap, &table[..], mem, 1, addr, blocks),
+        Op::State { addr, blocks } => guest_asks(d, bitmap, &table[..], mem, 3, addr, blocks),
+        Op::UnplugAll => guest_asks(d, bitmap, &table[..], mem, 2, GuestAddr(0), 0),
+        Op::Size { mib } => set_requested_size(d, &bitmap[..], &table[..], mib),
+    }
+}
+
+// Puts the line of an answer at the start of a buffer, and answers its length; no line has more than 200 bytes.
+fn put_answer(out: &mut [u8], s: Answered, mem: &[u8]) -> usize
+    ensures { λ r. ⌜
+        Put (now (out .entry)) 0 (textOf (s .answer) (s .device) (now (mem .entry))) (now (out .exit)) r
+        ⌝ }
+{
+    let answer = s.answer;
+    match answer {
+        Answer::Refused(number) => put_refusal(out, number),
+        Answer::Wants(call) => match call {
+            HostCall::Create { guest, size, slot } => put_create(out, guest, size, slot),
+            HostCall::Discard { offset, size, host } => put_discard(out, offset, size, host),
+        },
+        Answer::Sized => put_sized(
+            out,
+            s.device.config.requested_size,
+            s.device.config.usable_region_size,
+        ),
+        Answer::Served(_) => put_response(
+            out,
+            read_u16(mem, 96),
+            read_u16(mem, 104),
+            s.device.config.plugged_size,
+            s.device.config.usable_region_size,
+        ),
+        Answer::Unserved(_) => 0,
+        Answer::Done => 0,
+    }
 }
 
 // Prints a refusal.
@@ -51,7 +158,9 @@ fn refuse(run: Run, out: &mut [u8], number: u64) -> Shown
 
 // Prints an answer.
 fn answer(run: Run, s: Answered, mem: &[u8], out: &mut [u8]) -> Shown
-    ensures { λ r. ⌜ Prints run (textOf (s .answer) (s .device) (now (mem .entry))) (now (out .entry)) r (now (out .exit)) ⌝ }
+    ensures { λ r. ⌜
+        Prints run (textOf (s .answer) (s .device) (now (mem .entry))) (now (out .entry)) r (now (out .exit))
+        ⌝ }
 {
     let end = put_answer(out, s, mem);
     Shown {
@@ -92,7 +201,7 @@ fn after_placing(s: Answered) -> Run
         Answer::Wants(_) => Run::On(device),
         Answer::Sized => Run::On(device),
         Answer::Unserved(_) => Run::On(device),
-        Answer::Served(_, _) => Run::On(device),
+        Answer::Served(_) => Run::On(device),
         Answer::Done => Run::On(device),
     }
 }
@@ -107,7 +216,11 @@ fn put_in_place(
     out: &mut [u8],
 ) -> Shown
     requires { ⌜ (shapedOf d ≡ true) × (first .slot ≤ 4294966000) ⌝ }
-    ensures { λ r. ⌜ Comes (begunOn (made.Device d) first (lentOf (now (bitmap .entry)) (now (table .entry)) (now (mem .entry)))) (now (table .entry)) (now (out .entry)) r (now (bitmap .exit)) (now (table .exit)) (now (mem .entry)) (now (out .exit)) ⌝ }
+    ensures { λ r. ⌜
+        Comes (begunOn (made.Device d) first (meant (lent (now (bitmap .entry)) (now (table .entry)) (now (mem .entry)))))
+        (lent (now (bitmap .entry)) (now (table .entry)) (now (mem .entry))) (lent (now (bitmap .exit)) (now (table .exit)) (now (mem .entry)))
+        (now (out .entry)) (now (out .exit)) r
+        ⌝ }
 {
     let mut slots = [0u32; 512];
     count_slots(&mut slots, first.slot);
@@ -127,7 +240,11 @@ fn begin(
     out: &mut [u8],
 ) -> Shown
     requires { ⌜ first .slot ≤ 4294966000 ⌝ }
-    ensures { λ r. ⌜ Comes (begun first (lentOf (now (bitmap .entry)) (now (table .entry)) (now (mem .entry)))) (now (table .entry)) (now (out .entry)) r (now (bitmap .exit)) (now (table .exit)) (now (mem .entry)) (now (out .exit)) ⌝ }
+    ensures { λ r. ⌜
+        Comes (begun first (meant (lent (now (bitmap .entry)) (now (table .entry)) (now (mem .entry)))))
+        (lent (now (bitmap .entry)) (now (table .entry)) (now (mem .entry))) (lent (now (bitmap .exit)) (now (table .exit)) (now (mem .entry)))
+        (now (out .entry)) (now (out .exit)) r
+        ⌝ }
 {
     let node = first.node;
     let made = Mem::new(
@@ -146,7 +263,11 @@ fn begin(
 // A line of a run that has not begun.
 fn first_line(line: Line, bitmap: &mut [u8], table: &mut [u64], mem: &[u8], out: &mut [u8]) -> Shown
     requires { ⌜ SlotFits line ⌝ }
-    ensures { λ r. ⌜ Comes (turn Run.Before line (lentOf (now (bitmap .entry)) (now (table .entry)) (now (mem .entry)))) (now (table .entry)) (now (out .entry)) r (now (bitmap .exit)) (now (table .exit)) (now (mem .entry)) (now (out .exit)) ⌝ }
+    ensures { λ r. ⌜
+        Comes (turn Run.Before line (meant (lent (now (bitmap .entry)) (now (table .entry)) (now (mem .entry)))))
+        (lent (now (bitmap .entry)) (now (table .entry)) (now (mem .entry))) (lent (now (bitmap .exit)) (now (table .exit)) (now (mem .entry)))
+        (now (out .entry)) (now (out .exit)) r
+        ⌝ }
 {
     match line {
         Line::First(first) => begin(first, bitmap, table, mem, out),
@@ -164,7 +285,11 @@ fn go_on(
     mem: &mut [u8],
     out: &mut [u8],
 ) -> Shown
-    ensures { λ r. ⌜ Comes (goneOn d op (lentOf (now (bitmap .entry)) (now (table .entry)) (now (mem .entry)))) (now (table .entry)) (now (out .entry)) r (now (bitmap .exit)) (now (table .exit)) (now (mem .exit)) (now (out .exit)) ⌝ }
+    ensures { λ r. ⌜
+        Comes (goneOn d op (meant (lent (now (bitmap .entry)) (now (table .entry)) (now (mem .entry)))))
+        (lent (now (bitmap .entry)) (now (table .entry)) (now (mem .entry))) (lent (now (bitmap .exit)) (now (table .exit)) (now (mem .exit)))
+        (now (out .entry)) (now (out .exit)) r
+        ⌝ }
 {
     let s = apply(d, bitmap, table, mem, op);
     let device = s.device;
@@ -181,7 +306,11 @@ fn later_line(
     mem: &mut [u8],
     out: &mut [u8],
 ) -> Shown
-    ensures { λ r. ⌜ Comes (turn (Run.On d) line (lentOf (now (bitmap .entry)) (now (table .entry)) (now (mem .entry)))) (now (table .entry)) (now (out .entry)) r (now (bitmap .exit)) (now (table .exit)) (now (mem .exit)) (now (out .exit)) ⌝ }
+    ensures { λ r. ⌜
+        Comes (turn (Run.On d) line (meant (lent (now (bitmap .entry)) (now (table .entry)) (now (mem .entry)))))
+        (lent (now (bitmap .entry)) (now (table .entry)) (now (mem .entry))) (lent (now (bitmap .exit)) (now (table .exit)) (now (mem .exit)))
+        (now (out .entry)) (now (out .exit)) r
+        ⌝ }
 {
     match line {
         Line::First(_) => refuse(Run::On(d), out, 13),
@@ -200,7 +329,11 @@ pub fn serve(
     line: &[u8],
     out: &mut [u8],
 ) -> Shown
-    ensures { λ r. ⌜ Serves run (now (bitmap .entry)) (now (table .entry)) (now (mem .entry)) (now (line .entry)) (now (out .entry)) r (now (bitmap .exit)) (now (table .exit)) (now (mem .exit)) (now (out .exit)) ⌝ }
+    ensures { λ r. ⌜
+        Serves run (now (line .entry))
+        (lent (now (bitmap .entry)) (now (table .entry)) (now (mem .entry))) (lent (now (bitmap .exit)) (now (table .exit)) (now (mem .exit)))
+        (now (out .entry)) (now (out .exit)) r
+        ⌝ }
 {
     let read = read_line(line);
     match run {

@@ -30,7 +30,7 @@ same-length c = search needs
 
 returns : tie.Need-returns
 unfolding begunOn
-returns c = rw (← c .before .before .before .before .before .before .before .before .node-of .ensures, ← c .before .before .before .before .before .before .before .new .ensures .same, c .before .before .before .before .before .made .given .1) (printed-comes _ _ _ (c .before .before .refuse .ensures))
+returns c = rw (← c .before .before .before .before .before .before .before .before .node-of .ensures, ← c .before .before .before .before .before .before .before .new .ensures .same, c .before .before .before .before .before .made .given .1) (printed-comes _ (c .before .before .refuse .ensures))
 
 same-length-2 : tie.Need-same-length-2
 same-length-2 c = search needs

@@ -41,14 +41,14 @@ same-length-4 c = search needs
 
 returns-2 : tie.Need-returns-2
 unfolding turn
-returns-2 c = rw (c .before .before .before .before .enum-told .given .1) (printed-comes _ _ _ (c .before .before .refuse .ensures))
+returns-2 c = rw (c .before .before .before .before .enum-told .given .1) (printed-comes _ (c .before .before .refuse .ensures))
 
 same-length-5 : tie.Need-same-length-5
 same-length-5 c = search needs
 
 returns-3 : tie.Need-returns-3
 unfolding turn
-returns-3 c = rw (c .before .before .before .before .enum-told2 .given .1) (printed-comes _ _ _ (c .before .before .refuse2 .ensures))
+returns-3 c = rw (c .before .before .before .before .enum-told2 .given .1) (printed-comes _ (c .before .before .refuse2 .ensures))
 
 pub first-line-spec : {M : Type 1} → statement M
 first-line-spec =

@@ -28,7 +28,7 @@ same-length c = search needs
 
 returns : tie.Need-returns
 unfolding turn
-returns c = rw (c .before .before .before .before .enum-told .given .1) (printed-comes _ _ _ (c .before .before .refuse .ensures))
+returns c = rw (c .before .before .before .before .enum-told .given .1) (printed-comes _ (c .before .before .refuse .ensures))
 
 same-length-2 : tie.Need-same-length-2
 same-length-2 c = search needs
@@ -51,7 +51,7 @@ same-length-6 c = search needs
 
 returns-3 : tie.Need-returns-3
 unfolding turn
-returns-3 c = rw (c .before .before .before .before .enum-told2 .given .1) (printed-comes _ _ _ (c .before .before .refuse2 .ensures))
+returns-3 c = rw (c .before .before .before .before .enum-told2 .given .1) (printed-comes _ (c .before .before .refuse2 .ensures))
 
 pub later-line-spec : {M : Type 1} → statement M
 later-line-spec =

@@ -62,8 +62,8 @@ returns c =
     let counted = k .before .before .count-slots .ensures in
     let up = ap (take (k .map-regions .result)) counted ∙ counted-take _ 512 _ (omega arith) ∙ ap (countedFrom (a .first .slot)) rows in
     let m = rw up at (c .before .before .before .before .before .before .before .before .before .place .ensures) in
-    placed-comes (step (worldOf (a .d) (a .bitmap .now) (a .table .now)) (placeOf (a .d) (a .first) (lentOf (a .bitmap .now) (a .table .now) (a .mem .now)))) _
-    (m .answered) (m .recorded) (m .marked) (m .mapped) refl (c .before .before .answer .ensures) (c .before .before .before .before .after-placing .ensures)
+    placed-comes (step (worldOf (a .d) (a .bitmap .now) (a .table .now)) (placeOf (a .d) (a .first) (meant (lent (a .bitmap .now) (a .table .now) (a .mem .now))))) _
+    (m .answered) (m .recorded) (m .leaves .marked) (m .leaves .mapped) refl (c .before .before .answer .ensures) (c .before .before .before .before .after-placing .ensures)
 
 pub put-in-place-spec : {M : Type 1} → statement M
 put-in-place-spec =

@@ -1,8 +1,8 @@
--- `trace_step::ask` meets its contract: each write is one `put` of the definition.
+-- `trace_run::ask` meets its contract: each write is one `put` of the definition.
 use borrow.Author.Needs.{needs}
-use Rattle.trace_step.specs.Trace.{asked}
-use Rattle.trace_step.proofs.ask.Statement.{statement}
-use Rattle.trace_step.proofs.ask.Tie as tie
+use Rattle.trace_run.specs.Ops.{asked}
+use Rattle.trace_run.proofs.ask.Statement.{statement}
+use Rattle.trace_run.proofs.ask.Tie as tie
 
 lay-chain-requires : tie.Need-lay-chain-requires
 lay-chain-requires c κs = search needs

@@ -1,10 +1,10 @@
--- `trace_step::put_answer` meets its contract: each answer has its own line.
+-- `trace_run::put_answer` meets its contract: each answer has its own line.
 use borrow.Author.Needs.{needs}
 use mathlib.Core.Path.{refl}
 use native.Mathlib.Omega.{arith}
-use Rattle.trace_step.specs.Trace.{textOf}
-use Rattle.trace_step.proofs.put_answer.Statement.{statement}
-use Rattle.trace_step.proofs.put_answer.Tie as tie
+use Rattle.trace_run.specs.Ops.{textOf}
+use Rattle.trace_run.proofs.put_answer.Statement.{statement}
+use Rattle.trace_run.proofs.put_answer.Tie as tie
 
 enum-known-answer : tie.Need-enum-known-answer
 enum-known-answer c = search needs

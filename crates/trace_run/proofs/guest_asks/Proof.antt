@@ -1,7 +1,7 @@
--- `trace_step::guest_asks` meets its contract: the memory that the device reads is the one that was laid.
+-- `trace_run::guest_asks` meets its contract: the memory that the device reads is the one that was laid.
 use borrow.Author.Needs.{needs}
-use Rattle.trace_step.proofs.guest_asks.Statement.{statement}
-use Rattle.trace_step.proofs.guest_asks.Tie as tie
+use Rattle.trace_run.proofs.guest_asks.Statement.{statement}
+use Rattle.trace_run.proofs.guest_asks.Tie as tie
 
 ask-requires : tie.Need-ask-requires
 ask-requires c κs = search needs

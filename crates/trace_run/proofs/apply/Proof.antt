@@ -1,9 +1,9 @@
--- `trace_step::apply` meets its contract: each op is one call, and its promise is the call's.
+-- `trace_run::apply` meets its contract: each op is one call, and its promise is the call's.
 use mathlib.Core.Path.{refl}
-use Rattle.trace_step.specs.Trace.{callOf, bytesAfter}
+use Rattle.trace_run.specs.Ops.{callOf, bytesAfter}
 use borrow.Author.Needs.{needs}
-use Rattle.trace_step.proofs.apply.Statement.{statement}
-use Rattle.trace_step.proofs.apply.Tie as tie
+use Rattle.trace_run.proofs.apply.Statement.{statement}
+use Rattle.trace_run.proofs.apply.Tie as tie
 
 enum-known-op : tie.Need-enum-known-op
 enum-known-op c = search needs

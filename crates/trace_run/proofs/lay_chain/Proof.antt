@@ -1,8 +1,8 @@
--- `trace_step::lay_chain` meets its contract: each write is one `put` of the definition.
+-- `trace_run::lay_chain` meets its contract: each write is one `put` of the definition.
 use borrow.Author.Needs.{needs}
-use Rattle.trace_step.specs.Trace.{chained}
-use Rattle.trace_step.proofs.lay_chain.Statement.{statement}
-use Rattle.trace_step.proofs.lay_chain.Tie as tie
+use Rattle.trace_run.specs.Ops.{chained}
+use Rattle.trace_run.proofs.lay_chain.Statement.{statement}
+use Rattle.trace_run.proofs.lay_chain.Tie as tie
 
 write-u64-requires : tie.Need-write-u64-requires
 write-u64-requires c κs = search needs
@@ -32,7 +32,7 @@ same-length : tie.Need-same-length
 same-length c = search needs
 
 returns : tie.Need-returns
-unfolding chained
+unfolding chained laid
 returns c = cc
 
 pub lay-chain-spec : {M : Type 1} → statement M

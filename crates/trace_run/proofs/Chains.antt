@@ -37,7 +37,7 @@ use Rattle.step.specs.Step.{blockSize, region, requested, plugged, coveredBy, u
 use Rattle.trace_text.specs.declared.Op.{Op}
 use Rattle.trace_text.specs.declared.Op.the-variants.{Host, Plug, Unplug, State, UnplugAll, Size}
 use Rattle.trace_text.specs.Lines.{opInRange}
-use Rattle.trace_step.specs.Trace.{chained, asked, callOf}
+use Rattle.trace_run.specs.Ops.{chained, asked, callOf}
 
 -- ---- the bytes
 

@@ -1,6 +1,6 @@
 -- A trace's ops as calls of the device, and its answers as house lines (01, "Trace lines").
-use Prim.Native.Nat.{ℕ}
-use mathlib.Core.List.{List, []}
+use Prim.Native.Nat.{ℕ, _+_}
+use mathlib.Core.List.{List, [], _∷_}
 use Rattle.little_endian.specs.Bytes.{value, part, put, littleEndian}
 use Rattle.record.specs.declared.Device.{Device}
 use Rattle.record.specs.declared.HostCall.the-variants.{Create, Discard}
@@ -12,16 +12,32 @@ use Rattle.trace_text.specs.declared.Op.{Op}
 use Rattle.trace_text.specs.declared.Op.the-variants.{Host, Plug, Unplug, State, UnplugAll, Size}
 use Rattle.answer_text.specs.Texts.{createText, discardText, sizedText, responseText, refusalText}
 
+-- a number of so many bytes at a place, and numbers laid one after the other
+pub record Number : Type 0 where
+  pub at : ℕ
+  pub width : ℕ
+  pub is : ℕ
+
+abbrev pub number : (at width is : ℕ) → Number
+number at width is = record { at = at; width = width; is = is }
+
+unfoldable pub laid : List ℕ → List Number → List ℕ
+laid mem [] = mem
+laid mem (n ∷ ns) = laid (put mem (n .at) (littleEndian (n .width) (n .is))) ns
+
+-- a descriptor at a place: address, length, flags and next
+abbrev pub descriptor : (at addr len flags next : ℕ) → List Number → List Number
+descriptor at addr len flags next more =
+    number at 8 addr ∷ number (at + 8) 4 len ∷ number (at + 12) 2 flags ∷ number (at + 14) 2 next ∷ more
+
 -- the guest's chain, in memory that starts at guest address 0: descriptor 0 names the request, 24 bytes at 64, and goes on with descriptor 1, which names 10 writable bytes at 96
 unfoldable pub chained : List ℕ → List ℕ
-chained mem =
-    put (put (put (put (put (put (put (put mem 0 (littleEndian 8 64)) 8 (littleEndian 4 24)) 12 (littleEndian 2 1)) 14 (littleEndian 2 1))
-    16 (littleEndian 8 96)) 24 (littleEndian 4 10)) 28 (littleEndian 2 2)) 30 (littleEndian 2 0)
+chained mem = laid mem (descriptor 0 64 24 1 1 (descriptor 16 96 10 2 0 []))
 
 -- the request: type at 0, address at 8, blocks at 16, and zeros between
 unfoldable pub asked : List ℕ → (type addr blocks : ℕ) → List ℕ
 asked mem type addr blocks =
-    put (put (put (chained mem) 64 (littleEndian 8 type)) 72 (littleEndian 8 addr)) 80 (littleEndian 8 blocks)
+    laid (chained mem) (number 64 8 type ∷ number 72 8 addr ∷ number 80 8 blocks ∷ [])
 
 abbrev pub requestOf : List ℕ → (type addr blocks : ℕ) → Call
 requestOf mem type addr blocks = Request (record { mem = asked mem type addr blocks; base = 0 }) 0 0
@@ -57,6 +73,6 @@ textOf (Wants (Create guest size slot)) d mem = createText guest size slot
 textOf (Wants (Discard offset size host)) d mem = discardText offset size host
 textOf Sized d mem = sizedText (d .config .«requested_size») (d .config .«usable_region_size»)
 textOf (Unserved reason) d mem = []
-textOf (Served resp used) d mem =
+textOf (Served reply) d mem =
     responseText (value (part mem 96 2)) (value (part mem 104 2)) (d .config .«plugged_size») (d .config .«usable_region_size»)
 textOf Done d mem = []
