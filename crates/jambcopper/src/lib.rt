@@ -1,6 +1,6 @@
 // SPDX-License-Identifier: Apache-2.0 AND BSD-3-Clause
-// The static library: each call of the device and of its queue for C and Rust, the record and the queue as words, and the guest's
-// side, and save records. Words that are no record, or no queue, are refused with 12.
+// The static library: for C and Rust each call of the device and of its queue, with the record and the queue as words,
+// the guest's side, and save records. Words that are no record, or no queue, are refused with 12.
 use answer_words::ANSWER_WORDS;
 use answer_words::number_of;
 use answer_words::pass_on;

@@ -7,7 +7,9 @@ use Rattle.record.specs.declared.HostCall.the-variants.{Create, Discard}
 use Rattle.step.specs.declared.Answer.{Answer}
 use Rattle.step.specs.declared.Answer.the-variants.{Refused, Wants, Sized, Unserved, Served, Done}
 use Rattle.step.specs.World.{World, Call, SetRequestedSize, Request, HostAnswer, Outcome}
+use Rattle.step.specs.declared.Answered.{Answered}
 use Rattle.step.specs.Step.{step}
+use Rattle.step.specs.Promise.{Lent, on, Gives}
 use Rattle.trace_text.specs.declared.Op.{Op}
 use Rattle.trace_text.specs.declared.Op.the-variants.{Host, Plug, Unplug, State, UnplugAll, Size}
 use Rattle.answer_text.specs.Texts.{createText, discardText, sizedText, responseText, refusalText}
@@ -65,6 +67,10 @@ abbrev pub applied : Op → World → (mem : List ℕ) → Outcome
 applied op w mem =
     let o = step w (callOf op mem) in
     record { world = o .world; answer = o .answer; bytes = bytesAfter op mem o }
+
+-- what applying an op promises
+abbrev pub Applies : Op → Device → (before after : Lent) → Answered → Type 0
+Applies op d before after s = Gives (applied op (on d before) (before .bytes)) before after s
 
 -- the line of an answer: resp and state are read out of the response bytes
 unfoldable pub textOf : Answer → Device → List ℕ → List ℕ

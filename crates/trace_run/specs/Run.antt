@@ -124,11 +124,14 @@ pub record Comes (t : Turn) (before after : Lent) (out out′ : List ℕ) (r : S
   pub leaves : Leaves (t .left) before after
   pub printed : Put out 0 (t .printed) out′ (r .length)
 
+abbrev pub ComesTo : (Meant → Turn) → (before after : Lent) (out out′ : List ℕ) → Shown → Type 0
+ComesTo turns before after out out′ r = Comes (turns (meant before)) before after out out′ r
+
 -- the bytes s read as one line, and what that line comes to is given
 pub record Serves (run : Run) (s : List ℕ) (before after : Lent) (out out′ : List ℕ) (r : Shown) : Type 0 where
   pub line : Line
   pub reads : Reads s line
-  pub comes : Comes (turn run line (meant before)) before after out out′ r
+  pub comes : ComesTo (turn run line) before after out out′ r
 
 -- the slots of a line that was read stay below 2^32: "above 4,294,966,000 it is 13"
 abbrev pub SlotFits : Line → Type 0

@@ -1,6 +1,6 @@
 // SPDX-License-Identifier: Apache-2.0 AND BSD-3-Clause
-// A run of a trace, a line at a time: the first makes the device and places it, and each later one is an op on it. Ops go
-// through real chains in a guest memory, and each line prints the answer.
+// A run of a trace, a line at a time: the first makes the device and places it, and each later one is an op on it.
+// Ops go through real chains in a guest memory, and each line prints the answer.
 use answer_text::put_create;
 use answer_text::put_discard;
 use answer_text::put_refusal;
@@ -30,17 +30,16 @@ use units::GuestAddr;
 use units::map_regions;
 ghost use mathlib.Core.Path.{_≡_};
 ghost use Rattle.text.specs.Putting.{Put};
-ghost use Rattle.step.specs.World.{worldOf};
-ghost use Rattle.step.specs.Promise.{lent, meant, Gives};
-ghost use Rattle.step.specs.Step.{step};
-ghost use Rattle.trace_run.specs.Ops.{chained, asked, requestOf, applied, textOf};
+ghost use Rattle.step.specs.Promise.{lent, Steps};
+ghost use Rattle.trace_run.specs.Ops.{chained, asked, requestOf, textOf, Applies};
 ghost use mathlib.Core.Bool.{true};
 ghost use Prim.Native.Nat.{_+_, _≤_};
 ghost use lib.ListN.{length, take};
 ghost use Rattle.record.specs.Shape.{shapedOf};
 ghost use Rattle.making.specs.declared.Made.the-variants as made;
 ghost use Rattle.answer_text.specs.Texts.{refusalText};
-ghost use Rattle.trace_run.specs.Run.{nodeOf, countedFrom, placedAs, begunOn, begun, goneOn, turn, Prints, Comes, Serves, SlotFits};
+ghost use Rattle.trace_run.specs.Run.{nodeOf, countedFrom, placedAs, begunOn, begun, goneOn, turn};
+ghost use Rattle.trace_run.specs.Run.{Prints, ComesTo, Serves, SlotFits};
 
 // Where a run stands: before its first line, on a device, or ended.
 pub enum Run {
@@ -90,8 +89,9 @@ fn guest_asks(
     nb_blocks: u16,
 ) -> Answered
     ensures { λ r. ⌜
-        Gives (step (worldOf d (now (bitmap .entry)) (now (table .entry))) (requestOf (now (mem .entry)) «req_type» (addr .0) «nb_blocks»))
-        (lent (now (bitmap .entry)) (now (table .entry)) (now (mem .entry))) (lent (now (bitmap .exit)) (now (table .entry)) (now (mem .exit))) r
+        Steps d (λ l. requestOf (l .bytes) «req_type» (addr .0) «nb_blocks»)
+        (lent (now (bitmap .entry)) (now (table .entry)) (now (mem .entry)))
+        (lent (now (bitmap .exit)) (now (table .entry)) (now (mem .exit))) r
         ⌝ }
 {
     ask(mem, req_type, addr, nb_blocks);
@@ -101,8 +101,9 @@ fn guest_asks(
 // Applies an op to the device.
 fn apply(d: Device, bitmap: &mut [u8], table: &mut [u64], mem: &mut [u8], op: Op) -> Answered
     ensures { λ r. ⌜
-        Gives (applied op (worldOf d (now (bitmap .entry)) (now (table .entry))) (now (mem .entry)))
-        (lent (now (bitmap .entry)) (now (table .entry)) (now (mem .entry))) (lent (now (bitmap .exit)) (now (table .exit)) (now (mem .exit))) r
+        Applies op d
+        (lent (now (bitmap .entry)) (now (table .entry)) (now (mem .entry)))
+        (lent (now (bitmap .exit)) (now (table .exit)) (now (mem .exit))) r
         ⌝ }
 {
     match op {
@@ -217,8 +218,9 @@ fn put_in_place(
 ) -> Shown
     requires { ⌜ (shapedOf d ≡ true) × (first .slot ≤ 4294966000) ⌝ }
     ensures { λ r. ⌜
-        Comes (begunOn (made.Device d) first (meant (lent (now (bitmap .entry)) (now (table .entry)) (now (mem .entry)))))
-        (lent (now (bitmap .entry)) (now (table .entry)) (now (mem .entry))) (lent (now (bitmap .exit)) (now (table .exit)) (now (mem .entry)))
+        ComesTo (begunOn (made.Device d) first)
+        (lent (now (bitmap .entry)) (now (table .entry)) (now (mem .entry)))
+        (lent (now (bitmap .exit)) (now (table .exit)) (now (mem .entry)))
         (now (out .entry)) (now (out .exit)) r
         ⌝ }
 {
@@ -241,8 +243,9 @@ fn begin(
 ) -> Shown
     requires { ⌜ first .slot ≤ 4294966000 ⌝ }
     ensures { λ r. ⌜
-        Comes (begun first (meant (lent (now (bitmap .entry)) (now (table .entry)) (now (mem .entry)))))
-        (lent (now (bitmap .entry)) (now (table .entry)) (now (mem .entry))) (lent (now (bitmap .exit)) (now (table .exit)) (now (mem .entry)))
+        ComesTo (begun first)
+        (lent (now (bitmap .entry)) (now (table .entry)) (now (mem .entry)))
+        (lent (now (bitmap .exit)) (now (table .exit)) (now (mem .entry)))
         (now (out .entry)) (now (out .exit)) r
         ⌝ }
 {
@@ -264,8 +267,9 @@ fn begin(
 fn first_line(line: Line, bitmap: &mut [u8], table: &mut [u64], mem: &[u8], out: &mut [u8]) -> Shown
     requires { ⌜ SlotFits line ⌝ }
     ensures { λ r. ⌜
-        Comes (turn Run.Before line (meant (lent (now (bitmap .entry)) (now (table .entry)) (now (mem .entry)))))
-        (lent (now (bitmap .entry)) (now (table .entry)) (now (mem .entry))) (lent (now (bitmap .exit)) (now (table .exit)) (now (mem .entry)))
+        ComesTo (turn Run.Before line)
+        (lent (now (bitmap .entry)) (now (table .entry)) (now (mem .entry)))
+        (lent (now (bitmap .exit)) (now (table .exit)) (now (mem .entry)))
         (now (out .entry)) (now (out .exit)) r
         ⌝ }
 {
@@ -286,8 +290,9 @@ fn go_on(
     out: &mut [u8],
 ) -> Shown
     ensures { λ r. ⌜
-        Comes (goneOn d op (meant (lent (now (bitmap .entry)) (now (table .entry)) (now (mem .entry)))))
-        (lent (now (bitmap .entry)) (now (table .entry)) (now (mem .entry))) (lent (now (bitmap .exit)) (now (table .exit)) (now (mem .exit)))
+        ComesTo (goneOn d op)
+        (lent (now (bitmap .entry)) (now (table .entry)) (now (mem .entry)))
+        (lent (now (bitmap .exit)) (now (table .exit)) (now (mem .exit)))
         (now (out .entry)) (now (out .exit)) r
         ⌝ }
 {
@@ -296,8 +301,8 @@ fn go_on(
     answer(Run::On(device), s, mem, out)
 }
 
-// A line of a run that has a device. A creation that the host fails is refused as 10 like any other call, also the one that
-// places the device: the run goes on, with a device that is in no place.
+// A line of a run that has a device. A creation that the host fails is refused as 10 like any other call, also the one
+// that places the device: the run goes on, with a device that is in no place.
 fn later_line(
     d: Device,
     line: Line,
@@ -307,8 +312,9 @@ fn later_line(
     out: &mut [u8],
 ) -> Shown
     ensures { λ r. ⌜
-        Comes (turn (Run.On d) line (meant (lent (now (bitmap .entry)) (now (table .entry)) (now (mem .entry)))))
-        (lent (now (bitmap .entry)) (now (table .entry)) (now (mem .entry))) (lent (now (bitmap .exit)) (now (table .exit)) (now (mem .exit)))
+        ComesTo (turn (Run.On d) line)
+        (lent (now (bitmap .entry)) (now (table .entry)) (now (mem .entry)))
+        (lent (now (bitmap .exit)) (now (table .exit)) (now (mem .exit)))
         (now (out .entry)) (now (out .exit)) r
         ⌝ }
 {
@@ -319,8 +325,9 @@ fn later_line(
     }
 }
 
-// One line of a run: its bytes without their newline go in, and the line that it prints comes out at the start of `out`, with
-// its newline. The length is one more than the buffer's where there is no room for it; 201 bytes are room enough.
+// One line of a run: its bytes without their newline go in, and the line that it prints comes out at the start of
+// `out`, with its newline. The length is one more than the buffer's where there is no room for it; 201 bytes are room
+// enough.
 pub fn serve(
     run: Run,
     bitmap: &mut [u8],
@@ -331,7 +338,8 @@ pub fn serve(
 ) -> Shown
     ensures { λ r. ⌜
         Serves run (now (line .entry))
-        (lent (now (bitmap .entry)) (now (table .entry)) (now (mem .entry))) (lent (now (bitmap .exit)) (now (table .exit)) (now (mem .exit)))
+        (lent (now (bitmap .entry)) (now (table .entry)) (now (mem .entry)))
+        (lent (now (bitmap .exit)) (now (table .exit)) (now (mem .exit)))
         (now (out .entry)) (now (out .exit)) r
         ⌝ }
 {
