@@ -1,7 +1,7 @@
 -- A run of the exported functions is a run of the definition: from making on, whatever is lent besides what is held. So what holds of every run of the definition holds of what a program that links the library has in hand; demand 3 first.
-use Prim.Native.Nat.{ℕ, _≤_}
+use Prim.Native.Nat.{ℕ, _*_, _≤_}
 use mathlib.Core.Path.{_≡_, refl, ap, sym, _∙_}
-use mathlib.Core.Bool.{Bool, true, false, _||_}
+use mathlib.Core.Bool.{Bool, true, false, not, _||_}
 use mathlib.Core.List.{List, [], _∷_}
 use native.Mathlib.Omega.{arith}
 use lib.Dec.{leb, ltb, eqb}
@@ -13,12 +13,13 @@ use Rattle.bitmap.specs.Blocks.{blocks}
 use Rattle.rows.specs.Rows.{rowsOf}
 use Rattle.little_endian.specs.Bytes.{put}
 use Rattle.record.specs.declared.Device.{Device}
+use Rattle.record.specs.Shape.{sizeOk}
 use Rattle.step.specs.World.{World}
 use Rattle.step.specs.Step.{step}
 use Rattle.making.specs.declared.Node.{Node}
 use Rattle.making.specs.declared.Made.{Made}
 use Rattle.making.specs.declared.Made.the-variants.{Device as MadeDevice}
-use Rattle.making.specs.Made.{nodeNumber, requestedBad, made, madeNumber}
+use Rattle.making.specs.Made.{nodeNumber, made, madeNumber}
 use Rattle.words.specs.declared.Decoded.the-variants.{Is}
 use Rattle.words.specs.Record.{wordsOf, decodedOf}
 use Rattle.words.proofs.Laws.{encoded-decodes}
@@ -72,7 +73,7 @@ unfolding made madeNumber
 made-at-0 capacity requested several node boot =
     let region = capacityOf capacity (alignmentOf boot) in
     by-cond (λ (m : Made). madeNumber m ≡ 0 → IsMade m (nodeNumber node)) (ltb 1048576 capacity) _ _ (λ _ e. absurd (omega arith))
-    (λ _. by-cond (λ (m : Made). madeNumber m ≡ 0 → IsMade m (nodeNumber node)) (eqb capacity 0 || requestedBad requested region) _ _ (λ _ e. absurd (omega arith))
+    (λ _. by-cond (λ (m : Made). madeNumber m ≡ 0 → IsMade m (nodeNumber node)) (eqb capacity 0 || not (sizeOk 4194304 (requested * 1048576) region)) _ _ (λ _ e. absurd (omega arith))
     (λ _ _. record { device = _; is-made = refl; node-is = refl }))
 
 node-within : (given : Bool) (node : ℕ) → node ≤ 65535 → nodeNumber (nodeOf given node) ≤ 65535

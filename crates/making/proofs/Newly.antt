@@ -1,7 +1,7 @@
 -- What holds of a device that was just made: here every history begins.
 use Prim.Native.Nat.{ℕ, _+_, _-_, _*_, _%_, _^_, _≤_, _<_}
 use mathlib.Core.Path.{_≡_, refl}
-use mathlib.Core.Bool.{Bool, true, false, _&&_}
+use mathlib.Core.Bool.{Bool, true, false, not, _&&_}
 use native.Mathlib.Nat.{div-mul-le-self, zero-mod}
 use native.Mathlib.Omega.{arith}
 use lib.Dec.{ltb, eqb}
@@ -10,11 +10,11 @@ use Rattle.units.specs.Numbers.{top, mapRegion, between, twos, alignmentOf, nex
 use Rattle.units.proofs.Tests.{by-test}
 use Rattle.record.specs.declared.Device.{Device}
 use Rattle.record.specs.declared.Pending.the-variants.{Nothing}
-use Rattle.record.specs.Shape.{alignmentOk, regionOk, spanOf, startOk, severalOk, pendingOk, shapedOf}
+use Rattle.record.specs.Shape.{alignmentOk, regionOk, sizeOk, spanOf, startOk, severalOk, pendingOk, shapedOf}
 use Rattle.record.proofs.Laws.{by-alignment, spans, size-ok, whole}
 use Rattle.making.specs.declared.Node.{Node}
 use Rattle.making.specs.declared.Made.the-variants.{Device as MadeDevice, Refused}
-use Rattle.making.specs.Made.{requestedBad, newDevice, made}
+use Rattle.making.specs.Made.{newDevice, made}
 use Rattle.making.proofs.Asked.{Asked, asked-is}
 
 -- ---- the alignment is one of the five
@@ -114,7 +114,7 @@ made-new capacity requested several node boot d e =
     let region = capacityOf capacity a in
     by-test (ltb 1048576 capacity) (λ t. never 2 (rw t at e))
     (λ t. by-test (eqb capacity 0) (λ u. never 1 (rw (t, u) at e))
-    (λ u. by-test (requestedBad requested region) (λ v. never 1 (simp (t, u, v) at e))
+    (λ u. by-test (not (sizeOk 4194304 (requested * 1048576) region)) (λ v. never 1 (simp (t, u, v) at e))
     (λ v.
     let f : MadeDevice (newDevice region (requested * 1048576) a several node) ≡ MadeDevice d = simp (t, u, v) at e in
     let same : newDevice region (requested * 1048576) a several node ≡ d = cc in

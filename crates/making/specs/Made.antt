@@ -1,5 +1,5 @@
 -- What making a device ends in (01, "Making and placing" and the numbers 2 and 1).
-use Prim.Native.Nat.{ℕ, _*_, _%_}
+use Prim.Native.Nat.{ℕ, _*_}
 use mathlib.Core.Bool.{Bool, true, false, cond, not, _&&_, _||_}
 use mathlib.Core.Path.{_≡_}
 use lib.Dec.{ltb, eqb}
@@ -7,7 +7,7 @@ use Rattle.units.specs.Numbers.{mapRegion, alignmentOf, capacityOf}
 use Rattle.wire.specs.Layout.{newConfig}
 use Rattle.record.specs.declared.Device.{Device}
 use Rattle.record.specs.declared.Pending.the-variants.{Nothing}
-use Rattle.record.specs.Shape.{featuresOf}
+use Rattle.record.specs.Shape.{sizeOk, featuresOf}
 use Rattle.making.specs.declared.Node.{Node}
 use Rattle.making.specs.declared.Node.the-variants.{None, Number}
 use Rattle.making.specs.declared.Made.{Made}
@@ -34,17 +34,13 @@ newDevice region requested alignment several node =
       pending = Nothing;
     }
 
--- 1: "requested above the rounded capacity, or requested not a multiple of 4 MiB", in bytes without end
-abbrev pub requestedBad : (mib region : ℕ) → Bool
-requestedBad mib region = ltb region (mib * 1048576) || not (eqb (mib * 1048576 % 4194304) 0)
-
 -- 2: "capacity above 1,048,576 MiB"; 1: "capacity 0, requested above the rounded capacity, or requested not a multiple of 4 MiB"
 unfoldable pub made : (capacity requested : ℕ) (several : Bool) → Node → (boot : ℕ) → Made
 made capacity requested several node boot =
     let alignment = alignmentOf boot in
     let region = capacityOf capacity alignment in
     cond (ltb 1048576 capacity) (Refused 2)
-    (cond (eqb capacity 0 || requestedBad requested region) (Refused 1)
+    (cond (eqb capacity 0 || not (sizeOk 4194304 (requested * 1048576) region)) (Refused 1)
     (MadeDevice (newDevice region (requested * 1048576) alignment several node)))
 
 -- 01's number of a device that was made or refused

@@ -9,9 +9,11 @@ use units::next_multiple_of;
 use units::product_within;
 use wire::VirtioMemConfig;
 ghost use mathlib.Core.Path.{_≡_};
-ghost use Prim.Native.Nat.{_≤_};
+ghost use mathlib.Core.Bool.{not};
+ghost use Prim.Native.Nat.{_*_, _≤_};
 ghost use Rattle.units.specs.Numbers.{capacityOf};
-ghost use Rattle.making.specs.Made.{requestedBad, nodeNumber, isGiven, newDevice, made, MadeAs};
+ghost use Rattle.record.specs.Shape.{sizeOk};
+ghost use Rattle.making.specs.Made.{nodeNumber, isGiven, newDevice, made, MadeAs};
 
 // The largest capacity: 1 TiB.
 const MAX_CAPACITY_MIB: u64 = 1048576;
@@ -57,7 +59,7 @@ fn region_of(capacity_mib: u64, alignment: u64) -> u64
 
 // Whether a requested size is refused as 1: above the region, or not whole blocks.
 pub fn requested_refused(mib: u64, region: u64) -> bool
-    ensures { λ r. ⌜ r ≡ requestedBad mib region ⌝ }
+    ensures { λ r. ⌜ r ≡ not (sizeOk 4194304 (mib * 1048576) region) ⌝ }
 {
     if !product_within(mib, MemTool::MIB, region) {
         return true;

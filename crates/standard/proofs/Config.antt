@@ -1,7 +1,7 @@
 -- The device and the clauses M2 to M5 and M7: the features and the config fields.
 use Prim.Native.Nat.{ℕ, _*_, _%_, max, _≤_}
 use mathlib.Core.Path.{_≡_, refl, _∙_}
-use mathlib.Core.Bool.{Bool, true, false, _||_}
+use mathlib.Core.Bool.{Bool, true, false, not, _||_}
 use mathlib.Core.List.{List, [], _∷_}
 use native.Mathlib.Omega.{arith}
 use lib.Dec.{ltb, eqb}
@@ -10,12 +10,13 @@ use Rattle.units.specs.Numbers.{alignmentOf, capacityOf}
 use Rattle.units.proofs.Tests.{by-test}
 use Rattle.wire.proofs.Standard.{config as laid-out}
 use Rattle.record.specs.declared.Device.{Device}
+use Rattle.record.specs.Shape.{sizeOk}
 use Rattle.record.proofs.Laws.{Shaped as Facts, shaped-is as facts-of, whole as shaped-when}
 use Rattle.resize.specs.Resize.{newSize}
 use Rattle.making.specs.declared.Node.{Node}
 use Rattle.making.specs.declared.Node.the-variants.{None, Number}
 use Rattle.making.specs.declared.Made.the-variants.{Device as MadeDevice, Refused as MadeRefused}
-use Rattle.making.specs.Made.{requestedBad, newDevice, made}
+use Rattle.making.specs.Made.{newDevice, made}
 use Rattle.step.specs.World.{World, Call, SetRequestedSize, Outcome}
 use Rattle.step.specs.Step.{step, readConfig, blockSize, region, usable, requested}
 use Rattle.history.specs.History.{Event, Story, next, after}
@@ -132,7 +133,7 @@ made-features capacity requested several node boot d e =
     let alignment = alignmentOf boot in
     let region = capacityOf capacity alignment in
     by-test (ltb 1048576 capacity) (λ t. never 2 (rw t at e))
-    (λ t. by-test (eqb capacity 0 || requestedBad requested region) (λ u. never 1 (rw (t, u) at e))
+    (λ t. by-test (eqb capacity 0 || not (sizeOk 4194304 (requested * 1048576) region)) (λ u. never 1 (rw (t, u) at e))
     (λ u.
     let f : MadeDevice (newDevice region (requested * 1048576) alignment several node) ≡ MadeDevice d = rw (t, u) at e in
     let same : newDevice region (requested * 1048576) alignment several node ≡ d = cc in

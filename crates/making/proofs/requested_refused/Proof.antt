@@ -1,19 +1,38 @@
 -- `making::requested_refused` meets its contract: the product is made only where it is at most the region.
-use Prim.Native.Nat.{_*_}
+use Prim.Native.Nat.{ℕ, _*_, _%_}
+use mathlib.Core.Path.{_≡_, refl}
+use mathlib.Core.Bool.{Bool, true, false, not, _&&_}
+use lib.Dec.{leb, eqb}
 use native.Mathlib.Omega.{arith}
-use borrow.Author.Tests.{leb-true, leb-false, lt-ltb, le-ltb}
+use borrow.Author.Tests.{leb-true}
 use Rattle.units.proofs.Tests.{passed, refused}
+use Rattle.record.specs.Shape.{sizeOk}
 use borrow.Author.Needs.{needs}
 use Rattle.making.proofs.requested_refused.Statement.{statement}
 use Rattle.making.proofs.requested_refused.Tie as tie
+
+-- whole blocks and not above the region, the second first
+above : (size region : ℕ) → leb size region ≡ false → true ≡ not (sizeOk 4194304 size region)
+unfolding sizeOk
+above size region e = rw e (either (eqb (size % 4194304) 0))
+  where
+    either : (whole : Bool) → true ≡ not (whole && false)
+    either true = refl
+    either false = refl
+
+at-most : (size region : ℕ) → leb size region ≡ true → not (eqb (size % 4194304) 0) ≡ not (sizeOk 4194304 size region)
+unfolding sizeOk
+at-most size region e = rw e (either (eqb (size % 4194304) 0))
+  where
+    either : (whole : Bool) → not whole ≡ not (whole && true)
+    either true = refl
+    either false = refl
 
 product-within-requires : tie.Need-product-within-requires
 product-within-requires c κs = search needs
 
 returns : tie.Need-returns
-returns c =
-    let a = c .before .before .args in
-    simp (lt-ltb (a .region) (a .mib * 1048576) (leb-false (a .mib * 1048576) (a .region) (refused _ _ (c .before .product-within .ensures) (c .if1 .taken))))
+returns c = above _ _ (refused _ _ (c .before .product-within .ensures) (c .if1 .taken))
 
 mul-result : tie.Need-mul-result
 mul-result c =
@@ -21,9 +40,7 @@ mul-result c =
     omega (arith, leb-true (a .mib * 1048576) (a .region) (passed _ _ (c .before .product-within .ensures) (c .if1 .left)))
 
 returns-2 : tie.Need-returns-2
-returns-2 c =
-    let a = c .before .before .args in
-    simp (le-ltb (a .region) (a .mib * 1048576) (leb-true (a .mib * 1048576) (a .region) (passed _ _ (c .before .product-within .ensures) (c .if1 .left))))
+returns-2 c = at-most _ _ (passed _ _ (c .before .product-within .ensures) (c .if1 .left))
 
 pub requested-refused-spec : {M : Type 1} → statement M
 requested-refused-spec = tie.close (tie.spec product-within-requires returns mul-result returns-2)
