@@ -20,34 +20,38 @@ use Rattle.resize.proofs.Laws.{asking}
 use Rattle.step.specs.declared.Answer.the-variants.{Refused}
 use Rattle.step.specs.declared.Answered.{Answered}
 use Rattle.step.specs.Answers.{answerWords}
-use Rattle.step.specs.World.{World, Outcome, Meets, answeredBy, worldOf}
+use Rattle.step.specs.World.{World, Outcome, answeredBy}
 use Rattle.step.specs.Step.{refused, unless, several, region, resizes, resized, asksCreate, placing}
+use Rattle.step.specs.Promise.{Lent, on, Leaves, Gives}
 
 -- ---- the refusals
-module _ (d : Device) (bm tb : List ℕ) where
-  pub refused-meets : (n : ℕ) (o : Outcome) → o ≡ refused n (worldOf d bm tb) [] → Meets o (record { device = d; answer = Refused n }) bm tb tb []
-  refused-meets n o e =
-      rw e
-      (record { answered = refl; told = refl; recorded = refl; marked = refl; mapped = sym (table-whole tb); left = refl })
+module _ (d : Device) (l : Lent) where
+  pub refused-gives : (n : ℕ) (o : Outcome) (s : Answered) → o ≡ refused n (on d l) (l .bytes) → s ≡ record { device = d; answer = Refused n } → Gives o l l s
+  refused-gives n o s e a =
+      rw (e, a)
+      (record { answered = refl; told = refl; recorded = refl; leaves = record { marked = refl; mapped = sym (table-whole (l .table)); left = refl } })
 
   -- the call is refused by its first tests
-  pub stops : (n : ℕ) (o : Outcome) → (n ≡ 0 → ⊥) → Meets (unless n (worldOf d bm tb) [] o) (record { device = d; answer = Refused n }) bm tb tb []
+  pub stops : (n : ℕ) (o : Outcome) (s : Answered) → (n ≡ 0 → ⊥) → s ≡ record { device = d; answer = Refused n } → Gives (unless n (on d l) (l .bytes) o) l l s
   unfolding unless
-  stops n o h = refused-meets n _ (rw (ne-eqb n 0 h))
+  stops n o s h a = refused-gives n _ s (rw (ne-eqb n 0 h)) a
 
 -- or it goes on
-pub goes-on : (n : ℕ) (w : World) (o : Outcome) (s : Answered) (bm tb tb′ : List ℕ) → n ≡ 0 → Meets o s bm tb tb′ [] → Meets (unless n w [] o) s bm tb tb′ []
+pub goes-on : (n : ℕ) (w : World) (bytes : List ℕ) (o : Outcome) (before after : Lent) (s : Answered) → n ≡ 0 → Gives o before after s → Gives (unless n w bytes o) before after s
 unfolding unless
-goes-on n w o s bm tb tb′ h m = rw (eq-eqb n 0 h) m
+goes-on n w bytes o before after s h m = rw (eq-eqb n 0 h) m
 
 -- ---- the usable size
+-- an outcome whose answer and record are known
+pub as-answered : (o : Outcome) (before after : Lent) (s : Answered) → s ≡ answeredBy o → Leaves o before after → Gives o before after s
+as-answered o before after s e m =
+    record { answered = ap (λ s. s .answer) e; told = ap (λ s. answerWords (s .answer)) e; recorded = ap (λ s. s .device) e; leaves = m }
+
 -- where it is worked out, and where a creation is asked for, no table is touched
-pub resizes-meets : (g : Growth) (w : World) (s : Answered) (bm tb tb′ : List ℕ) → s ≡ answeredBy (resizes g (record { device = w .device; blocks = blocks []; rows = w .rows })) → blocks bm ≡ w .blocks → tb′ ≡ written tb (w .rows) → Meets (resizes g w) s bm tb tb′ []
+pub resizes-gives : (g : Growth) (w : World) (before after : Lent) (s : Answered) → s ≡ answeredBy (resizes g (record { device = w .device; blocks = blocks []; rows = w .rows })) → blocks (after .bitmap) ≡ w .blocks → after .table ≡ written (before .table) (w .rows) → after .bytes ≡ [] → Gives (resizes g w) before after s
 unfolding resizes
-resizes-meets Settled w s bm tb tb′ e m n =
-    record { answered = ap (λ s. s .answer) e; told = ap (λ s. answerWords (s .answer)) e; recorded = ap (λ s. s .device) e; marked = m; mapped = n; left = refl }
-resizes-meets (Asks i last size) w s bm tb tb′ e m n =
-    record { answered = ap (λ s. s .answer) e; told = ap (λ s. answerWords (s .answer)) e; recorded = ap (λ s. s .device) e; marked = m; mapped = n; left = refl }
+resizes-gives Settled w before after s e m n b = as-answered _ before after s e (record { marked = m; mapped = n; left = b })
+resizes-gives (Asks i last size) w before after s e m n b = as-answered _ before after s e (record { marked = m; mapped = n; left = b })
 
 -- the map region of a creation starts at or below 2^64 - 1
 pub asked-within : (d : Device) → shapedOf d ≡ true → (usable new : ℕ) (rows : List MapRow) (i last size : ℕ) → growthOf (d .config .«region_size») (d .several) usable new rows ≡ Asks i last size → d .config .addr .0 + i * mapRegion ≤ top

@@ -1,11 +1,10 @@
 -- Placing past its first tests: 3, 4, and what it writes and asks.
 use Prim.Native.Nat.{ℕ}
-use mathlib.Core.Path.{_≡_, refl, ap, _∙_}
+use mathlib.Core.Path.{_≡_, ap, _∙_}
 use mathlib.Core.Bool.{true, false, _&&_}
 use mathlib.Core.List.{List, []}
 use native.Mathlib.Omega.{arith}
 use lib.Dec.{eqb}
-use lib.ListN.{length}
 use Rattle.units.specs.Numbers.{blocksIn, mapRegions}
 use Rattle.units.proofs.Tests.{by-test}
 use Rattle.bitmap.specs.Blocks.{blocks, Filled}
@@ -17,11 +16,10 @@ use Rattle.record.specs.Changes.{startTo}
 use Rattle.record.specs.Shape.{shapedOf, startOk}
 use Rattle.record.proofs.Laws.{shaped-is}
 use Rattle.step.specs.declared.Answered.{Answered}
-use Rattle.step.specs.Answers.{answerWords}
-use Rattle.step.specs.World.{World, Meets, answeredBy, worldOf}
-use Rattle.step.specs.Step.{unless, place, placed, placing}
-use Rattle.placing.specs.Placing.{rangeRefusal}
-use Rattle.placing.proofs.Laws.{resizes-meets, placing-several, placing-single}
+use Rattle.step.specs.World.{World, answeredBy, worldOf}
+use Rattle.step.specs.Step.{rangeRefusal, placed, placing}
+use Rattle.step.specs.Promise.{Lent, on, Gives}
+use Rattle.placing.proofs.Laws.{as-answered, resizes-gives, placing-several, placing-single}
 
 pub start-good : (d : Device) (start size n : ℕ) → rangeRefusal d start size n ≡ 0 → startOk start (d .config .«region_size») (d .several) (d .alignment) ≡ true
 unfolding rangeRefusal
@@ -32,27 +30,17 @@ start-good d start size n e =
     (λ t. let z : 4 ≡ 0 = rw (t, u) at e in absurd (omega arith))
     (λ t. let z : 3 ≡ 0 = rw t at e in absurd (omega arith)))
 
-module _ (d : Device) (bm tb : List ℕ) (start size : ℕ) (slots : List ℕ) where
-  pub ranged : place (worldOf d bm tb) start size slots (blocks bm) (rowsOf tb) ≡ unless (rangeRefusal d start size (length slots)) (worldOf d bm tb) [] (placing (placed (worldOf d bm tb) start slots (blocks bm) (rowsOf tb)))
-  unfolding place rangeRefusal unless
-  ranged =
-      let region = d .config .«region_size» in
-      by-test (eqb (length slots) (mapRegions region (d .several)) && eqb size region)
-      (λ t. by-test (startOk start region (d .several) (d .alignment)) (λ u. rw (t, u)) (λ u. rw (t, u)))
-      (λ t. rw t)
-
-module _ (d : Device) (bm tb : List ℕ) (start : ℕ) (slots : List ℕ) where
-  pub placed-meets : shapedOf d ≡ true → (s : Answered) (bm′ tb′ : List ℕ) → Filled bm bm′ 0 (blocksIn 4194304 (d .config .«region_size»)) false → tb′ ≡ written tb (laid (rowsOf tb) slots) → s ≡ answeredBy (placing (worldOf (startTo start d) [] tb′)) → Meets (placing (placed (worldOf d bm tb) start slots (blocks bm) (rowsOf tb))) s bm′ tb tb′ []
-  placed-meets e s bm′ tb′ f m a =
-      let w = placed (worldOf d bm tb) start slots (blocks bm) (rowsOf tb) in
-      let rows = laid (rowsOf tb) slots in
+module _ (d : Device) (before : Lent) (start : ℕ) (slots : List ℕ) where
+  pub placed-gives : shapedOf d ≡ true → (after : Lent) (s : Answered) → Filled (before .bitmap) (after .bitmap) 0 (blocksIn 4194304 (d .config .«region_size»)) false → after .table ≡ written (before .table) (laid (rowsOf (before .table)) slots) → after .bytes ≡ [] → s ≡ answeredBy (placing (worldOf (startTo start d) [] (after .table))) → Gives (placing (placed (on d before) start slots (blocks (before .bitmap)) (rowsOf (before .table)))) before after s
+  placed-gives e after s f m b a =
+      let rows = laid (rowsOf (before .table)) slots in
+      let w = placed (on d before) start slots (blocks (before .bitmap)) (rowsOf (before .table)) in
       let w0 : World = record { device = startTo start d; blocks = blocks []; rows = rows } in
-      let back : rowsOf tb′ ≡ rows = rw m (read-back tb rows (laid-length (rowsOf tb) slots)) in
+      let back : rowsOf (after .table) ≡ rows = rw m (read-back (before .table) rows (laid-length (rowsOf (before .table)) slots)) in
       let told : s ≡ answeredBy (placing w0) = rw back at a in
-      let marked : blocks bm′ ≡ w .blocks = rw (← shaped-is d e .block-size) at (f .as-blocks) in
+      let marked : blocks (after .bitmap) ≡ w .blocks = rw (← shaped-is d e .block-size) at (f .as-blocks) in
       by-test (d .several)
-      (λ t. rw (placing-several w t) (resizes-meets _ w s bm′ tb tb′ (told ∙ ap answeredBy (placing-several w0 t)) marked m))
+      (λ t. rw (placing-several w t) (resizes-gives _ w before after s (told ∙ ap answeredBy (placing-several w0 t)) marked m b))
       (λ t.
-      let r = told ∙ ap answeredBy (placing-single w0 t) in
       rw (placing-single w t)
-      (record { answered = ap (λ s. s .answer) r; told = ap (λ s. answerWords (s .answer)) r; recorded = ap (λ s. s .device) r; marked = marked; mapped = m; left = refl }))
+      (as-answered _ before after s (told ∙ ap answeredBy (placing-single w0 t)) (record { marked = marked; mapped = m; left = b })))

@@ -14,6 +14,7 @@ use rows::slot_of;
 use step::Answer;
 use step::Answered;
 use step::ready_refusal;
+use step::refuse;
 use step::sized;
 use step::unplaced_refusal;
 use units::GuestAddr;
@@ -25,12 +26,10 @@ ghost use mathlib.Core.Bool.{true};
 ghost use mathlib.Core.List.{[]};
 ghost use Prim.Native.Nat.{_+_, _*_, _≤_};
 ghost use Rattle.units.specs.Numbers.{top, mapRegion};
-ghost use Rattle.bitmap.specs.Blocks.{blocks};
-ghost use Rattle.rows.specs.Rows.{rowsOf};
 ghost use Rattle.record.specs.Shape.{shapedOf};
-ghost use Rattle.step.specs.World.{worldOf, answeredBy, Place, SetRequestedSize, Meets};
-ghost use Rattle.step.specs.Step.{step, asksCreate, resized, placing};
-ghost use Rattle.placing.specs.Placing.{rangeRefusal};
+ghost use Rattle.step.specs.World.{worldOf, answeredBy};
+ghost use Rattle.step.specs.Step.{asksCreate, resized, placing, rangeRefusal};
+ghost use Rattle.step.specs.Promise.{lent, placeOn, resizeOn, Steps};
 
 // Asks for one creation that covers the rows from `first` to `last`.
 fn ask_creation(d: Device, table: &[u64], first: u64, last: u64, size: u64) -> Answered
@@ -78,20 +77,18 @@ fn resize(d: Device, table: &[u64]) -> Answered
 
 // Changes the requested size, and the usable size with it.
 pub fn set_requested_size(d: Device, bitmap: &[u8], table: &[u64], requested_mib: u64) -> Answered
-    ensures { λ r. ⌜ Meets (step (worldOf d (now (bitmap .entry)) (now (table .entry))) (SetRequestedSize «requested_mib»)) r (now (bitmap .entry)) (now (table .entry)) (now (table .entry)) [] ⌝ }
+    ensures { λ r. ⌜
+        Steps d (resizeOn «requested_mib»)
+        (lent (now (bitmap .entry)) (now (table .entry)) [])
+        (lent (now (bitmap .entry)) (now (table .entry)) []) r
+        ⌝ }
 {
     let number = ready_refusal(d, bitmap.len(), table.len());
     if number != 0 {
-        return Answered {
-            device: d,
-            answer: Answer::Refused(number),
-        };
+        return refuse(d, number);
     }
     if requested_refused(requested_mib, d.config.region_size) {
-        return Answered {
-            device: d,
-            answer: Answer::Refused(1),
-        };
+        return refuse(d, 1);
     }
     let requested = requested_mib * MemTool::MIB;
     let mut asked = d;
@@ -126,7 +123,7 @@ fn ask_placing(d: Device, table: &[u64]) -> Answered
     ask_creation(d, table, 0, 0, d.config.region_size)
 }
 
-// Places the device: the bitmap is cleared, each row gets its slot, and the host is asked for what must be mapped first.
+// Places the device: clears the bitmap, gives each row its slot, and asks the host for what must be mapped first.
 pub fn place(
     d: Device,
     bitmap: &mut [u8],
@@ -135,21 +132,19 @@ pub fn place(
     size: u64,
     slots: &[u32],
 ) -> Answered
-    ensures { λ r. ⌜ Meets (step (worldOf d (now (bitmap .entry)) (now (table .entry))) (Place (start .0) size (now (slots .entry)) (blocks (now (bitmap .entry))) (rowsOf (now (table .entry))))) r (now (bitmap .exit)) (now (table .entry)) (now (table .exit)) [] ⌝ }
+    ensures { λ r. ⌜
+        Steps d (placeOn (start .0) size (now (slots .entry)))
+        (lent (now (bitmap .entry)) (now (table .entry)) [])
+        (lent (now (bitmap .exit)) (now (table .exit)) []) r
+        ⌝ }
 {
     let number = unplaced_refusal(d, bitmap.len(), table.len());
     if number != 0 {
-        return Answered {
-            device: d,
-            answer: Answer::Refused(number),
-        };
+        return refuse(d, number);
     }
     let refused = range_refusal(d, start, size, slots.len() as u64);
     if refused != 0 {
-        return Answered {
-            device: d,
-            answer: Answer::Refused(refused),
-        };
+        return refuse(d, refused);
     }
     let blocks = MemTool::blocks_in(d.config.region_size);
     set_range(bitmap, 0, blocks as usize, false);

@@ -1,5 +1,5 @@
 -- `placing::range_refusal` meets its contract: 3 before 4.
-use Rattle.placing.specs.Placing.{rangeRefusal}
+use Rattle.step.specs.Step.{rangeRefusal}
 use borrow.Author.Needs.{needs}
 use Rattle.placing.proofs.range_refusal.Statement.{statement}
 use Rattle.placing.proofs.range_refusal.Tie as tie

@@ -1,12 +1,11 @@
 -- `placing::set_requested_size` meets its contract: the refusals 12, 7, 5, 11 and then 1, and the new requested size before anything is worked out.
-use Prim.Native.Nat.{_*_, _%_}
+use Prim.Native.Nat.{_*_}
 use mathlib.Core.Path.{_≡_, refl, sym, _∙_}
-use mathlib.Core.Bool.{true, false, not, _||_}
-use lib.Dec.{ltb, eqb}
+use mathlib.Core.Bool.{true, false, not}
 use native.Mathlib.Omega.{arith}
 use Rattle.bitmap.proofs.Laws.{blocks-length}
 use Rattle.rows.proofs.Words.{count, whole}
-use Rattle.record.specs.Shape.{shapedOf}
+use Rattle.record.specs.Shape.{shapedOf, sizeOk}
 use Rattle.record.proofs.Laws.{shaped-is, requested-keeps}
 use Rattle.record.specs.Changes.{requestedTo}
 use denote.Ref.{now}
@@ -14,7 +13,7 @@ use Rattle.step.specs.World.{worldOf}
 use Rattle.step.specs.Step.{step, deviceOf, setRequestedSize}
 use Rattle.step.proofs.Entry.{ready-is}
 use Rattle.making.proofs.Asked.{Asked, asked-is}
-use Rattle.placing.proofs.Laws.{refused-meets, stops, goes-on, resizes-meets}
+use Rattle.placing.proofs.Laws.{refused-gives, stops, goes-on, resizes-gives}
 use borrow.Author.Needs.{needs}
 use Rattle.placing.proofs.set_requested_size.Statement.{statement}
 use Rattle.placing.proofs.set_requested_size.Tie as tie
@@ -30,20 +29,29 @@ size c = asked-is _ _ _ (c .before .requested-refused .ensures) (c .if2 .left)
 ready-refusal-requires : tie.Need-ready-refusal-requires
 ready-refusal-requires c κs = search needs
 
+refuse-requires : tie.Need-refuse-requires
+refuse-requires c κs = search needs
+
 returns : tie.Need-returns
 unfolding step
-returns c = simp (blocks-length, count, ← c .before .ready-refusal .ensures) (stops _ _ _ _ _ (c .if1 .taken))
+returns c = simp (blocks-length, count, ← c .before .before .ready-refusal .ensures) (stops _ _ _ _ _ (c .before .if1 .taken) (c .refuse .ensures))
 
 requested-refused-requires : tie.Need-requested-refused-requires
 requested-refused-requires c κs = search needs
 
+refuse-requires-2 : tie.Need-refuse-requires-2
+refuse-requires-2 c κs = search needs
+
 returns-2 : tie.Need-returns-2
 unfolding step setRequestedSize
 returns-2 c =
-    let b = c .before .before .before .before .before .before in
-    simp (blocks-length, count, ← c .before .before .before .ready-refusal .ensures)
-    (goes-on _ _ _ _ _ _ _ (c .before .before .if1 .left)
-    (refused-meets _ _ _ 1 _ (simp (shaped-is (b .args .d) (shape (c .before .before)) .block-size, ← c .before .requested-refused .ensures, c .if2 .taken))))
+    let k = c .before .before .before in
+    let b = k .before .before .before .before in
+    simp (blocks-length, count, ← k .before .ready-refusal .ensures)
+    (goes-on _ _ _ _ _ _ _ (k .if1 .left)
+    (refused-gives _ _ 1 _ _
+    (simp (shaped-is (b .args .d) (shape k) .block-size, ← c .before .before .requested-refused .ensures, c .before .if2 .taken))
+    (c .refuse2 .ensures)))
 
 mul-requested : tie.Need-mul-requested
 mul-requested c = omega (arith, size c .within)
@@ -60,20 +68,22 @@ returns-3 c =
     let a = c .before .before .before .before .before .before .before .before .args in
     let bytes = a .requested-mib * 1048576 in
     let block-size = shaped-is (a .d) (shape (c .before .before .before .before)) .block-size in
-    let test : (ltb (a .d .config .«region_size») bytes || not (eqb (bytes % a .d .config .«block_size») 0)) ≡ false =
+    let test : not (sizeOk (a .d .config .«block_size») bytes (a .d .config .«region_size»)) ≡ false =
     rw block-size (sym (c .before .before .before .requested-refused .ensures) ∙ c .before .before .if2 .left) in
     simp (blocks-length, count, ← c .before .before .before .before .before .ready-refusal .ensures)
     (goes-on _ _ _ _ _ _ _ (c .before .before .before .before .if1 .left)
     (simp test
-    (resizes-meets _ (deviceOf (requestedTo bytes (a .d)) (worldOf (a .d) (now (a .bitmap)) (now (a .table)))) _ _ _ _ (c .resize .ensures) refl (sym (whole _)))))
+    (resizes-gives _ (deviceOf (requestedTo bytes (a .d)) (worldOf (a .d) (now (a .bitmap)) (now (a .table)))) _ _ _ (c .resize .ensures) refl (sym (whole _)) refl)))
 
 pub set-requested-size-spec : {M : Type 1} → statement M
 set-requested-size-spec =
     tie.close
     (tie.spec
     ready-refusal-requires
+    refuse-requires
     returns
     requested-refused-requires
+    refuse-requires-2
     returns-2
     mul-requested
     resize-requires
