@@ -22,7 +22,7 @@ use Rattle.step.specs.declared.Answered.{Answered}
 use Rattle.step.specs.Answers.{answerWords}
 use Rattle.step.specs.World.{World, Outcome, answeredBy}
 use Rattle.step.specs.Step.{refused, unless, several, region, resizes, resized, asksCreate, placing}
-use Rattle.step.specs.Promise.{Lent, on, Leaves, Gives}
+use Rattle.step.specs.Promise.{Lent, on, leftBy, Leaves, Gives}
 
 -- ---- the refusals
 module _ (d : Device) (l : Lent) where
@@ -43,7 +43,7 @@ goes-on n w bytes o before after s h m = rw (eq-eqb n 0 h) m
 
 -- ---- the usable size
 -- an outcome whose answer and record are known
-pub as-answered : (o : Outcome) (before after : Lent) (s : Answered) → s ≡ answeredBy o → Leaves o before after → Gives o before after s
+pub as-answered : (o : Outcome) (before after : Lent) (s : Answered) → s ≡ answeredBy o → Leaves (leftBy o) before after → Gives o before after s
 as-answered o before after s e m =
     record { answered = ap (λ s. s .answer) e; told = ap (λ s. answerWords (s .answer)) e; recorded = ap (λ s. s .device) e; leaves = m }
 
