@@ -88,8 +88,8 @@ ready-zero w r h = simp (r .shaped, r .idle, r .placed, le-leb (regionBlocks w) 
 
 -- ---- as many blocks as proposed, or fewer, from the start of the proposal on
 module _ (w : World) (r : Ready w) (addr : GuestAddr) (n : ℕ) (e : planOf (w .device .config) (w .blocks) ≡ Plug addr n)
-    (g : Guest) (table head : ℕ) (status : GuestAddr) where
-  up-to : (m : ℕ) → (n ≡ 0 → ⊥) × (0 < m → m ≤ n → parsed (g .mem) (g .base) table head ≡ Got (record { «req_type» = 0; addr = addr; «nb_blocks» = m }) status → Acknowledged w (addr .0) m (status .0) g (step w (Request g table head)))
+    (g : Guest) (descriptors head : ℕ) (status : GuestAddr) where
+  up-to : (m : ℕ) → (n ≡ 0 → ⊥) × (0 < m → m ≤ n → parsed (g .mem) (g .base) descriptors head ≡ Got (record { «req_type» = 0; addr = addr; «nb_blocks» = m }) status → Acknowledged w (addr .0) m (status .0) g (step w (Request g descriptors head)))
   unfolding step unless request serve plug plugAs
   up-to m =
       let p = plan-is (w .device .config) (w .blocks) addr n e in
@@ -110,18 +110,18 @@ module _ (w : World) (r : Ready w) (addr : GuestAddr) (n : ℕ) (e : planOf (w .
 
 -- ---- "A device with that config and bitmap, sound rows and nothing pending acknowledges it"
 pub acknowledged : (w : World) → Ready w → (addr : GuestAddr) (n : ℕ) → planOf (w .device .config) (w .blocks) ≡ Plug addr n
-    → (g : Guest) (table head : ℕ) (status : GuestAddr) → parsed (g .mem) (g .base) table head ≡ Got (record { «req_type» = 0; addr = addr; «nb_blocks» = n }) status
-    → Acknowledged w (addr .0) n (status .0) g (step w (Request g table head))
-acknowledged w r addr n e g table head status q =
-    let u = up-to w r addr n e g table head status n in
+    → (g : Guest) (descriptors head : ℕ) (status : GuestAddr) → parsed (g .mem) (g .base) descriptors head ≡ Got (record { «req_type» = 0; addr = addr; «nb_blocks» = n }) status
+    → Acknowledged w (addr .0) n (status .0) g (step w (Request g descriptors head))
+acknowledged w r addr n e g descriptors head status q =
+    let u = up-to w r addr n e g descriptors head status n in
     let s : 0 < n = omega (arith, u .0) in
     u .1 s (omega arith) q
 
 -- ---- and the plug of one block at its start
 pub one-acknowledged : (w : World) → Ready w → (addr : GuestAddr) (n : ℕ) → planOf (w .device .config) (w .blocks) ≡ Plug addr n
-    → (g : Guest) (table head : ℕ) (status : GuestAddr) → parsed (g .mem) (g .base) table head ≡ Got (record { «req_type» = 0; addr = addr; «nb_blocks» = 1 }) status
-    → Acknowledged w (addr .0) 1 (status .0) g (step w (Request g table head))
-one-acknowledged w r addr n e g table head status q =
-    let u = up-to w r addr n e g table head status 1 in
+    → (g : Guest) (descriptors head : ℕ) (status : GuestAddr) → parsed (g .mem) (g .base) descriptors head ≡ Got (record { «req_type» = 0; addr = addr; «nb_blocks» = 1 }) status
+    → Acknowledged w (addr .0) 1 (status .0) g (step w (Request g descriptors head))
+one-acknowledged w r addr n e g descriptors head status q =
+    let u = up-to w r addr n e g descriptors head status 1 in
     let s : 1 ≤ n = omega (arith, u .0) in
     u .1 (omega arith) s q

@@ -125,10 +125,10 @@ module _ (w : World) (r : Ready w) (e : planOf (w .device .config) (w .blocks) �
       (λ (n : roomOf (blockSize w) (plugged w) (requested w) ≡ 0). let m : (requested w - plugged w) / 4194304 ≡ 0 = rw bsz at n in let t′ : plugged w + 1 * 4194304 ≤ requested w = rw bsz at t in omega arith)
       (p .why)
 
-  pub none-acknowledged : (table head : ℕ) → parsed (g .mem) (g .base) table head ≡ Got (record { «req_type» = 0; addr = addr; «nb_blocks» = 1 }) status
-      → (len : ℕ) → step w (Request g table head) .answer ≡ Served ack len → ⊥
+  pub none-acknowledged : (descriptors head : ℕ) → parsed (g .mem) (g .base) descriptors head ≡ Got (record { «req_type» = 0; addr = addr; «nb_blocks» = 1 }) status
+      → (len : ℕ) → step w (Request g descriptors head) .answer ≡ Served ack len → ⊥
   unfolding step unless request serve plug
-  none-acknowledged table head q len a =
+  none-acknowledged descriptors head q len a =
       let p = spent-is (w .device .config) (w .blocks) e in
       let z = ready-zero w r (p .long) in
       by-test (ltb (requested w) (plugged w + bytesOf (blockSize w) 1))

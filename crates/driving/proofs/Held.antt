@@ -39,29 +39,29 @@ use Rattle.driving.specs.Chain.{Stands, RequestFits, Holds, plugOf, Plac
 use Rattle.driving.proofs.Acks.{plan-is, acknowledged, one-acknowledged}
 use Rattle.driving.proofs.Exact.{none-acknowledged}
 
-module _ (g : Guest) (table head : ℕ) (q : VirtioMemReq) (status : GuestAddr) (h : Holds g table head q status) where
+module _ (g : Guest) (descriptors head : ℕ) (q : VirtioMemReq) (status : GuestAddr) (h : Holds g descriptors head q status) where
   abbrev first : Descriptor
   first = record { addr = record { 0 = h .request-at }; len = 24; flags = 1; next = h .second-index }
 
   abbrev second : Descriptor
   second = record { addr = status; len = h .second-len; flags = 2; next = h .second-next }
 
-  first-link : linkAt (g .mem) (g .base) table head ≡ Is first
+  first-link : linkAt (g .mem) (g .base) descriptors head ≡ Is first
   unfolding linkAt
   first-link =
       let i = inside-facts (length (g .mem)) (g .base) (h .request-at) 24 (h .request .lies) in
       let n = h .second-in-table in
       rw (lt-ltb head 128 (h .head-in-table), h .first .lies)
-      (ap Is (descriptor-laid (g .mem) (descriptorAddr table head - g .base) first (record { addr = omega (arith, i .to-last); len = omega arith; flags = omega arith; next = omega arith }) (h .first .are)))
+      (ap Is (descriptor-laid (g .mem) (descriptorAddr descriptors head - g .base) first (record { addr = omega (arith, i .to-last); len = omega arith; flags = omega arith; next = omega arith }) (h .first .are)))
 
-  second-link : linkAt (g .mem) (g .base) table (h .second-index) ≡ Is second
+  second-link : linkAt (g .mem) (g .base) descriptors (h .second-index) ≡ Is second
   unfolding linkAt
   second-link =
       rw (lt-ltb (h .second-index) 128 (h .second-in-table), h .second .lies)
-      (ap Is (descriptor-laid (g .mem) (descriptorAddr table (h .second-index) - g .base) second (record { addr = h .status-fits; len = h .len-fits; flags = omega arith; next = h .next-fits }) (h .second .are)))
+      (ap Is (descriptor-laid (g .mem) (descriptorAddr descriptors (h .second-index) - g .base) second (record { addr = h .status-fits; len = h .len-fits; flags = omega arith; next = h .next-fits }) (h .second .are)))
 
   -- the chain is parsed as the request, and its status address is the second descriptor's
-  pub held-parses : parsed (g .mem) (g .base) table head ≡ Got q status
+  pub held-parses : parsed (g .mem) (g .base) descriptors head ≡ Got q status
   unfolding parsed withFirst linkAfter withSecond
   held-parses =
       let f = h .request-fits in
@@ -133,7 +133,7 @@ module _ (g : Guest) (p : Places) (q : VirtioMemReq) (fit : PlacesIn g p) where
   request-lies : inside (length (two .mem)) (g .base) (p .request) 24 ≡ true
   request-lies = rw (length-put (one .mem) (secondAddr p - g .base) secondBytes, length-put (g .mem) (firstAddr p - g .base) firstBytes) (fit .request-lies)
 
-  pub laid-holds : RequestFits q → Holds (laidIn g p q) (p .table) (p .head) q (p .status)
+  pub laid-holds : RequestFits q → Holds (laidIn g p q) (p .descriptors) (p .head) q (p .status)
   laid-holds f =
       let d = length-desc (p .request) 24 1 (p .second) in
       let e = length-desc (p .status .0) (p .len) 2 0 in
@@ -221,14 +221,14 @@ module _ (c : VirtioMemConfig) (bs : List Bool) (addr : GuestAddr) (n : ℕ) (e 
 
 -- ---- the theorems of Acks.antt and Exact.antt, for guest memory that holds the plug
 module _ (w : World) (r : Ready w) (addr : GuestAddr) (n : ℕ) (e : planOf (w .device .config) (w .blocks) ≡ Plug addr n)
-    (g : Guest) (table head : ℕ) (status : GuestAddr) where
-  pub acknowledged-held : Holds g table head (plugOf addr n) status → Acknowledged w (addr .0) n (status .0) g (step w (Request g table head))
-  acknowledged-held h = acknowledged w r addr n e g table head status (held-parses g table head (plugOf addr n) status h)
+    (g : Guest) (descriptors head : ℕ) (status : GuestAddr) where
+  pub acknowledged-held : Holds g descriptors head (plugOf addr n) status → Acknowledged w (addr .0) n (status .0) g (step w (Request g descriptors head))
+  acknowledged-held h = acknowledged w r addr n e g descriptors head status (held-parses g descriptors head (plugOf addr n) status h)
 
-  pub one-acknowledged-held : Holds g table head (plugOf addr 1) status → Acknowledged w (addr .0) 1 (status .0) g (step w (Request g table head))
-  one-acknowledged-held h = one-acknowledged w r addr n e g table head status (held-parses g table head (plugOf addr 1) status h)
+  pub one-acknowledged-held : Holds g descriptors head (plugOf addr 1) status → Acknowledged w (addr .0) 1 (status .0) g (step w (Request g descriptors head))
+  one-acknowledged-held h = one-acknowledged w r addr n e g descriptors head status (held-parses g descriptors head (plugOf addr 1) status h)
 
 pub none-acknowledged-held : (w : World) → Ready w → planOf (w .device .config) (w .blocks) ≡ Refused 17
-    → (addr : GuestAddr) (g : Guest) (table head : ℕ) (status : GuestAddr) → Holds g table head (plugOf addr 1) status
-    → (len : ℕ) → step w (Request g table head) .answer ≡ Served ack len → ⊥
-none-acknowledged-held w r e addr g table head status h = none-acknowledged w r e addr status g table head (held-parses g table head (plugOf addr 1) status h)
+    → (addr : GuestAddr) (g : Guest) (descriptors head : ℕ) (status : GuestAddr) → Holds g descriptors head (plugOf addr 1) status
+    → (len : ℕ) → step w (Request g descriptors head) .answer ≡ Served ack len → ⊥
+none-acknowledged-held w r e addr g descriptors head status h = none-acknowledged w r e addr status g descriptors head (held-parses g descriptors head (plugOf addr 1) status h)

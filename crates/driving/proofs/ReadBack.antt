@@ -182,12 +182,12 @@ module _ (w : World) where
   goes-back c g status goes resp w′ t s =
       record { told = record { type-known = t; state-known = s; guest = g; status = status; goes = goes; read = read-at g status resp w′ t s } }
 
-  request-told : (g : Guest) (table head : ℕ) (p : Parsed) → parsed (g .mem) (g .base) table head ≡ p → Told (ReadBack w (Request g table head)) (request p w g)
+  request-told : (g : Guest) (descriptors head : ℕ) (p : Parsed) → parsed (g .mem) (g .base) descriptors head ≡ p → Told (ReadBack w (Request g descriptors head)) (request p w g)
   unfolding request Tells
-  request-told g table head (Bad reason) e = record { told = refl }
-  request-told g table head (Got q status) e =
-      let c = Request g table head in
-      serve-told (ReadBack w c) g (status .0) (goes-back c g status (OfChain table head q refl e)) w q
+  request-told g descriptors head (Bad reason) e = record { told = refl }
+  request-told g descriptors head (Got q status) e =
+      let c = Request g descriptors head in
+      serve-told (ReadBack w c) g (status .0) (goes-back c g status (OfChain descriptors head q refl e)) w q
 
   answer-told : (g : Guest) (ok : Bool) (host : ℕ) (p : Pending) → w .device .pending ≡ p → Told (ReadBack w (HostAnswer g ok host)) (hostAnswer p w g ok host)
   unfolding hostAnswer Tells
@@ -210,7 +210,7 @@ module _ (w : World) where
   unfolding step
   step-told (Place at size slots bs rows) = unless-told _ _ w [] _ (place-told _ w at size slots bs rows)
   step-told (SetRequestedSize mib) = unless-told _ _ w [] _ (size-told _ w mib)
-  step-told (Request g table head) = unless-told _ _ w (g .mem) _ (request-told g table head (parsed (g .mem) (g .base) table head) refl)
+  step-told (Request g descriptors head) = unless-told _ _ w (g .mem) _ (request-told g descriptors head (parsed (g .mem) (g .base) descriptors head) refl)
   step-told (HostAnswer g ok host) = unless-told _ _ w (g .mem) _ (answer-told g ok host (w .device .pending) refl)
   step-told (ReadConfig offset buffer) = read-told _ w offset buffer
   step-told (WriteConfig offset buffer) = write-told _ w buffer
@@ -221,25 +221,25 @@ module _ (w : World) where
   read-back c resp used e = rw e at (step-told c .told)
 
 -- the place is one: that of the chain
-goes-once : (w : World) (g g′ : Guest) (table head : ℕ) (q : VirtioMemReq) (status status′ : GuestAddr) → parsed (g .mem) (g .base) table head ≡ Got q status
-    → GoesTo w (Request g table head) g′ status′ → (g ≡ g′) × (status ≡ status′)
-goes-once w g g′ table head q status status′ e (OfChain table′ head′ q′ is e′) =
+goes-once : (w : World) (g g′ : Guest) (descriptors head : ℕ) (q : VirtioMemReq) (status status′ : GuestAddr) → parsed (g .mem) (g .base) descriptors head ≡ Got q status
+    → GoesTo w (Request g descriptors head) g′ status′ → (g ≡ g′) × (status ≡ status′)
+goes-once w g g′ descriptors head q status status′ e (OfChain descriptors′ head′ q′ is e′) =
     let a : g ≡ g′ = cc in
     let b : Got q status ≡ Got q′ status′ = cc in
     (a, cc)
-goes-once w g g′ table head q status status′ e (OfUnplug ok host first count is _) = let z : _≡_ {A = ℕ} 0 1 = cc in absurd (omega arith)
-goes-once w g g′ table head q status status′ e (OfUnplugAll ok host block is _) = let z : _≡_ {A = ℕ} 0 1 = cc in absurd (omega arith)
+goes-once w g g′ descriptors head q status status′ e (OfUnplug ok host first count is _) = let z : _≡_ {A = ℕ} 0 1 = cc in absurd (omega arith)
+goes-once w g g′ descriptors head q status status′ e (OfUnplugAll ok host block is _) = let z : _≡_ {A = ℕ} 0 1 = cc in absurd (omega arith)
 
 moved : {g g′ : Guest} {status status′ : GuestAddr} (bytes : List ℕ) (resp : VirtioMemResp) → g ≡ g′ → status ≡ status′ → ReadAt g′ status′ bytes resp → ReadAt g status bytes resp
 moved bytes resp a b x = rw (a, b) x
 
 -- the response to a request that guest memory holds
-pub held-read : (w : World) (g : Guest) (table head : ℕ) (q : VirtioMemReq) (status : GuestAddr) → Holds g table head q status
-    → (resp : VirtioMemResp) → step w (Request g table head) .answer ≡ Served resp 10 → ReadAt g status (step w (Request g table head) .bytes) resp
-held-read w g table head q status h resp e =
-    let b = read-back w (Request g table head) resp 10 e in
-    let o = goes-once w g (b .guest) table head q status (b .status) (held-parses g table head q status h) (b .goes) in
-    moved (step w (Request g table head) .bytes) resp (o .0) (o .1) (b .read refl)
+pub held-read : (w : World) (g : Guest) (descriptors head : ℕ) (q : VirtioMemReq) (status : GuestAddr) → Holds g descriptors head q status
+    → (resp : VirtioMemResp) → step w (Request g descriptors head) .answer ≡ Served resp 10 → ReadAt g status (step w (Request g descriptors head) .bytes) resp
+held-read w g descriptors head q status h resp e =
+    let b = read-back w (Request g descriptors head) resp 10 e in
+    let o = goes-once w g (b .guest) descriptors head q status (b .status) (held-parses g descriptors head q status h) (b .goes) in
+    moved (step w (Request g descriptors head) .bytes) resp (o .0) (o .1) (b .read refl)
 
 -- ---- the config
 config-fits : (d : Device) → shapedOf d ≡ true → d .config .«node_id» < 65536 → ConfigFits (d .config)
@@ -283,11 +283,11 @@ module _ (d : Device) (e : shapedOf d ≡ true) (bs : List Bool) where
 -- ---- a whole turn
 -- the plug that is proposed, held by guest memory with room for the response, is acknowledged, and the driver reads the ACK
 pub ack-read : (w : World) → Ready w → (addr : GuestAddr) (n : ℕ) → planOf (w .device .config) (w .blocks) ≡ Plug addr n
-    → (g : Guest) (table head : ℕ) (status : GuestAddr) → Holds g table head (plugOf addr n) status → reaches (g .mem) (g .base) (status .0) ≡ true
-    → ReadAt g status (step w (Request g table head) .bytes) ack
-ack-read w r addr n e g table head status h room =
-    let a = acknowledged-held w r addr n e g table head status h in
-    held-read w g table head (plugOf addr n) status h ack (ap (λ (o : Outcome). o .answer) (a .outcome) ∙ rw room)
+    → (g : Guest) (descriptors head : ℕ) (status : GuestAddr) → Holds g descriptors head (plugOf addr n) status → reaches (g .mem) (g .base) (status .0) ≡ true
+    → ReadAt g status (step w (Request g descriptors head) .bytes) ack
+ack-read w r addr n e g descriptors head status h room =
+    let a = acknowledged-held w r addr n e g descriptors head status h in
+    held-read w g descriptors head (plugOf addr n) status h ack (ap (λ (o : Outcome). o .answer) (a .outcome) ∙ rw room)
 
 -- the driver reads the config, plans, lays the plug into any 66 bytes of guest memory, and reads the ACK
 pub turn : (w : World) → Ready w → w .device .config .«node_id» < 65536
@@ -296,7 +296,7 @@ pub turn : (w : World) → Ready w → w .device .config .«node_id» < 65536
     → (g : Guest) → 66 ≤ length (g .mem) → g .base + 66 ≤ 2 ^ 64
     → let p = in66 (g .base) in
     let g′ = laidIn g p (plugOf addr n) in
-    let o = step w (Request g′ (p .table) (p .head)) in
+    let o = step w (Request g′ (p .descriptors) (p .head)) in
     Acknowledged w (addr .0) n (p .status .0) g′ o × ReadAt g′ (p .status) (o .bytes) ack
 unfolding reaches
 turn w r node buffer long got reads c is addr n e g room low =
@@ -309,4 +309,4 @@ turn w r node buffer long got reads c is addr n e g room low =
     let h = laid-holds g p (plugOf addr n) (in-66 g room low) (proposal-fits d (w .blocks) addr n plans) in
     let l = length-laid g p (plugOf addr n) in
     let lies = is-inside (length (g′ .mem)) (g .base) (p .status .0) 10 (omega arith) (omega arith) (omega arith) in
-    (acknowledged-held w r addr n plans g′ (p .table) (p .head) (p .status) h, ack-read w r addr n plans g′ (p .table) (p .head) (p .status) h lies)
+    (acknowledged-held w r addr n plans g′ (p .descriptors) (p .head) (p .status) h, ack-read w r addr n plans g′ (p .descriptors) (p .head) (p .status) h lies)

@@ -351,9 +351,9 @@ drive-keeps w r c addr n e =
     rw (e, block-at w r (addr .0) (p .first) (p .addr-is)) (q .ready, q .counts)
 
 pub step-drives : (w : World) → Ready w → (addr : GuestAddr) (n : ℕ) → planned w ≡ Plug addr n
-    → (g : Guest) (table head : ℕ) (status : GuestAddr) → parsed (g .mem) (g .base) table head ≡ Got (record { «req_type» = 0; addr = addr; «nb_blocks» = n }) status
-    → step w (Request g table head) .world ≡ driveAt (planned w) w
+    → (g : Guest) (descriptors head : ℕ) (status : GuestAddr) → parsed (g .mem) (g .base) descriptors head ≡ Got (record { «req_type» = 0; addr = addr; «nb_blocks» = n }) status
+    → step w (Request g descriptors head) .world ≡ driveAt (planned w) w
 unfolding driveAt
-step-drives w r addr n e g table head status q =
-    let a = acknowledged w r addr n e g table head status q in
+step-drives w r addr n e g descriptors head status q =
+    let a = acknowledged w r addr n e g descriptors head status q in
     ap (λ (o : Outcome). o .world) (a .outcome) ∙ rw (e, block-at w r (addr .0) (a .first) (a .addr-is))

@@ -32,7 +32,7 @@ pub record RequestFits (q : VirtioMemReq) : Type 0 where
 
 -- guest memory holds the request q as a chain of two descriptors, the first at index `head` of the table:
 -- one of 24 bytes with NEXT (1), which are those of q, and one of 10 bytes or more with WRITE (2), for the response
-pub record Holds (g : Guest) (table head : ℕ) (q : VirtioMemReq) (status : GuestAddr) : Type 0 where
+pub record Holds (g : Guest) (descriptors head : ℕ) (q : VirtioMemReq) (status : GuestAddr) : Type 0 where
   -- where q stands, the second descriptor's index, and the length and next index that this one gives
   pub request-at : ℕ
   pub second-index : ℕ
@@ -45,8 +45,8 @@ pub record Holds (g : Guest) (table head : ℕ) (q : VirtioMemReq) (status : Gue
   pub next-fits : second-next < 256 ^ 2
   pub status-fits : status .0 < 256 ^ 8
   pub request-fits : RequestFits q
-  pub first : Stands g (descriptorAddr table head) 16 (virtqDesc request-at 24 1 second-index)
-  pub second : Stands g (descriptorAddr table second-index) 16 (virtqDesc (status .0) second-len 2 second-next)
+  pub first : Stands g (descriptorAddr descriptors head) 16 (virtqDesc request-at 24 1 second-index)
+  pub second : Stands g (descriptorAddr descriptors second-index) 16 (virtqDesc (status .0) second-len 2 second-next)
   pub request : Stands g request-at 24 (requestBytes q)
 
 -- the request that asks for a plug
@@ -55,7 +55,7 @@ plugOf addr count = record { «req_type» = 0; addr = addr; «nb_blocks» = coun
 
 -- where a driver lays a chain: the table, two indices of it, the request, and the response's buffer with its length
 pub record Places : Type 0 where
-  pub table : ℕ
+  pub descriptors : ℕ
   pub head : ℕ
   pub second : ℕ
   pub request : ℕ
@@ -63,10 +63,10 @@ pub record Places : Type 0 where
   pub len : ℕ
 
 abbrev pub firstAddr : Places → ℕ
-firstAddr p = descriptorAddr (p .table) (p .head)
+firstAddr p = descriptorAddr (p .descriptors) (p .head)
 
 abbrev pub secondAddr : Places → ℕ
-secondAddr p = descriptorAddr (p .table) (p .second)
+secondAddr p = descriptorAddr (p .descriptors) (p .second)
 
 -- n bytes at an address and m at another do not overlap
 abbrev pub Apart : (addr n other m : ℕ) → Type 0
@@ -102,7 +102,7 @@ laidIn g p q =
 abbrev pub in66 : (base : ℕ) → Places
 in66 base =
     record {
-      table = base;
+      descriptors = base;
       head = 0;
       second = 1;
       request = base + 32;
@@ -112,8 +112,8 @@ in66 base =
 
 -- where the response of a call goes: the status address of the chain that it brings, or of what waits for the host
 pub data GoesTo (w : World) (c : Call) (g : Guest) (status : GuestAddr) : Type 0 where
-  OfChain : (table head : ℕ) (q : VirtioMemReq) → c ≡ Request g table head
-      → parsed (g .mem) (g .base) table head ≡ Got q status → GoesTo w c g status
+  OfChain : (descriptors head : ℕ) (q : VirtioMemReq) → c ≡ Request g descriptors head
+      → parsed (g .mem) (g .base) descriptors head ≡ Got q status → GoesTo w c g status
   OfUnplug : (ok : Bool) (host first count : ℕ) → c ≡ HostAnswer g ok host
       → w .device .pending ≡ Discard first count status → GoesTo w c g status
   OfUnplugAll : (ok : Bool) (host block : ℕ) → c ≡ HostAnswer g ok host

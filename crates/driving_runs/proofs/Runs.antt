@@ -36,20 +36,20 @@ pub run-acknowledges : InEveryRun ProposalAcknowledged
 run-acknowledges s reached c t addr count e =
     let w = s .world in
     let r = ready-in-run s reached t in (
-      (λ a. let q = ap (step w) (a .is-request) in rw q (acknowledged w r addr count e (a .guest) (a .table) (a .head) (a .status) (a .reads))),
-      λ a. let q = ap (step w) (a .is-request) in rw q (one-acknowledged w r addr count e (a .guest) (a .table) (a .head) (a .status) (a .reads)),
+      (λ a. let q = ap (step w) (a .is-request) in rw q (acknowledged w r addr count e (a .guest) (a .descriptors) (a .head) (a .status) (a .reads))),
+      λ a. let q = ap (step w) (a .is-request) in rw q (one-acknowledged w r addr count e (a .guest) (a .descriptors) (a .head) (a .status) (a .reads)),
     )
 
 -- ---- 17 exactly
 -- an ACK to a plug is the ACK of state 0
-plain-ack : (w : World) → Ready w → (g : Guest) (table head addr count : ℕ) (status : GuestAddr) → parsed (g .mem) (g .base) table head ≡ Got (plugRequest addr count) status
-    → Responds (step w (Request g table head)) «VIRTIO_MEM_RESP_ACK» → (len : ℕ) × (step w (Request g table head) .answer ≡ Served ack len)
+plain-ack : (w : World) → Ready w → (g : Guest) (descriptors head addr count : ℕ) (status : GuestAddr) → parsed (g .mem) (g .base) descriptors head ≡ Got (plugRequest addr count) status
+    → Responds (step w (Request g descriptors head)) «VIRTIO_MEM_RESP_ACK» → (len : ℕ) × (step w (Request g descriptors head) .answer ≡ Served ack len)
 unfolding responseOf tablesFit
-plain-ack w r g table head addr count status q =
+plain-ack w r g descriptors head addr count status q =
     let P : Outcome → Type 0 = λ o. Responds o «VIRTIO_MEM_RESP_ACK» → (len : ℕ) × (o .answer ≡ Served ack len) in
     let fit : tablesFit (w .device) (length (w .blocks)) (length (w .rows)) ≡ true = rw (le-leb (regionBlocks w) (length (w .blocks)) (r .blocks-fit)) (le-leb (regionRows w) (length (w .rows)) (r .rows-fit)) in
-    let h : Hears w g table head (plugRequest addr count) status = record { shaped = r .shaped; is-idle = r .idle; is-placed = r .placed; fits = fit; reads = q } in
-    rw (to-plug w g table head (plugRequest addr count) status h refl)
+    let h : Hears w g descriptors head (plugRequest addr count) status = record { shaped = r .shaped; is-idle = r .idle; is-placed = r .placed; fits = fit; reads = q } in
+    rw (to-plug w g descriptors head (plugRequest addr count) status h refl)
     (plug-cases P w (parts-of (w .device) (r .shaped)) (status .0) g addr count (λ _ _ _ _ _. (_, refl))
     (λ e. let z : _≡_ {A = ℕ} 0 1 = cc in absurd (omega arith))
     (λ e. let z : _≡_ {A = ℕ} 0 1 = cc in absurd (omega arith)))
@@ -79,8 +79,8 @@ run-17-exactly s reached c t =
       says = λ e call addr a k.
           let q = ap (step w) (a .is-request) in
           let k′ = rw q at k in
-          let x = plain-ack w r (a .guest) (a .table) (a .head) addr 1 (a .status) (a .reads) k′ in
-          none-acknowledged w r e (record { 0 = addr }) (a .status) (a .guest) (a .table) (a .head) (a .reads) (x .0) (x .1);
+          let x = plain-ack w r (a .guest) (a .descriptors) (a .head) addr 1 (a .status) (a .reads) k′ in
+          none-acknowledged w r e (record { 0 = addr }) (a .status) (a .guest) (a .descriptors) (a .head) (a .reads) (x .0) (x .1);
       said = λ none. go w r none (planned w) refl;
       no-other = only-17 w r;
     }
@@ -90,7 +90,7 @@ run-17-exactly s reached c t =
     go w r none (Plug addr n) e =
         let x = askable w r addr n e 1 (omega arith) in
         let a = x .asks in
-        let o = one-acknowledged w r addr n e (a .guest) (a .table) (a .head) (a .status) (a .reads) .outcome in
+        let o = one-acknowledged w r addr n e (a .guest) (a .descriptors) (a .head) (a .status) (a .reads) .outcome in
         absurd (none (x .call) (addr .0) a (ap (λ (o : Outcome). responseOf (o .answer)) (ap (step w) (a .is-request) ∙ o)))
 
 -- ---- it gets there
@@ -98,7 +98,7 @@ run-17-exactly s reached c t =
 followed : (w : World) → Ready w → (c : Call) → Proposed w c → step w c .world ≡ driveAt (planned w) w
 followed w r c p =
     let a = p .asks in
-    ap (λ (x : Call). step w x .world) (a .is-request) ∙ step-drives w r (p .addr) (p .count) (p .proposes) (a .guest) (a .table) (a .head) (a .status) (a .reads)
+    ap (λ (x : Call). step w x .world) (a .is-request) ∙ step-drives w r (p .addr) (p .count) (p .proposes) (a .guest) (a .descriptors) (a .head) (a .status) (a .reads)
 
 goes-on : (w : World) → Ready w → Counted w → (c : Call) → Proposed w c → Ready (step w c .world) × Counted (step w c .world)
 goes-on w r k c p = rw (followed w r c p) (drive-keeps w r k (p .addr) (p .count) (p .proposes))

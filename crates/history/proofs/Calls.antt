@@ -44,15 +44,15 @@ cond-same false x = refl
 -- a request of this type, or a chain that holds none, to a device that is ready for one
 pub record Requesting (w : World) (type : Option ℕ) : Type 0 where
   pub guest : Guest
-  pub table : ℕ
+  pub descriptors : ℕ
   pub head : ℕ
   pub status : ℕ
-  pub of-type : typeOf (parsed (guest .mem) (guest .base) table head) ≡ type
+  pub of-type : typeOf (parsed (guest .mem) (guest .base) descriptors head) ≡ type
   pub is-placed : w .device .placed ≡ true
   pub entry : Entered (w .device) (length (w .blocks)) (length (w .rows)) true
 
 abbrev pub requestOf : {w : World} {type : Option ℕ} → Requesting w type → Call
-requestOf a = Request (a .guest) (a .table) (a .head)
+requestOf a = Request (a .guest) (a .descriptors) (a .head)
 
 -- the host's yes or no to the pending call p
 pub record Answering (w : World) (p : Pending) (ok : Bool) : Type 0 where
@@ -161,19 +161,19 @@ module _ (w : World) (K : Call → Outcome → List Event → Type 0) (k : Endin
       let a : Resizing w = record { mib = mib; is-placed = p; entry = e; in-region = q; whole = r } in
       resized-cases (With c [] []) (resizedBy a) (k .resizes a) (λ i last n g. k .resize-asks a i last n g))
 
-  module _ (g : Guest) (table head : ℕ) (p : w .device .placed ≡ true) (e : Entered (w .device) (length (w .blocks)) (length (w .rows)) true) where
+  module _ (g : Guest) (descriptors head : ℕ) (p : w .device .placed ≡ true) (e : Entered (w .device) (length (w .blocks)) (length (w .rows)) true) where
     abbrev c : Call
-    c = Request g table head
+    c = Request g descriptors head
 
-    abbrev asking : (status : ℕ) (type : Option ℕ) → typeOf (parsed (g .mem) (g .base) table head) ≡ type → Requesting w type
-    asking status type t = record { guest = g; table = table; head = head; status = status; of-type = t; is-placed = p; entry = e }
+    abbrev asking : (status : ℕ) (type : Option ℕ) → typeOf (parsed (g .mem) (g .base) descriptors head) ≡ type → Requesting w type
+    asking status type t = record { guest = g; descriptors = descriptors; head = head; status = status; of-type = t; is-placed = p; entry = e }
 
     -- a response that acknowledges nothing
     of-response : (status : ℕ) (resp : VirtioMemResp) → With c [] [] (served resp status w g)
     unfolding ifAck unlessRefused
     of-response status resp = simp cond-same (k .responds (asking status _ refl) resp)
 
-    of-serve : (req : VirtioMemReq) (status : ℕ) → typeOf (parsed (g .mem) (g .base) table head) ≡ some (req .«req_type»)
+    of-serve : (req : VirtioMemReq) (status : ℕ) → typeOf (parsed (g .mem) (g .base) descriptors head) ≡ some (req .«req_type»)
         → With c (ackToType w req) [] (serve w req status g)
     unfolding ackToType ifAck unlessRefused lentBytes
     of-serve req status q =
@@ -197,7 +197,7 @@ module _ (w : World) (K : Call → Outcome → List Event → Type 0) (k : Endin
         (λ t₀ t₁ t₂. rw (t₀, t₁, t₂) (of-response status (stateResp w addr count)))
         (k .unserves (asking status _ q) 0)
 
-    of-request : (chain : Parsed) → parsed (g .mem) (g .base) table head ≡ chain → With c (ackToRequest w chain) [] (request chain w g)
+    of-request : (chain : Parsed) → parsed (g .mem) (g .base) descriptors head ≡ chain → With c (ackToRequest w chain) [] (request chain w g)
     unfolding request ackToRequest ifAck unlessRefused typeOf
     of-request (Bad reason) q = k .unserves (asking 0 _ refl) reason
     of-request (Got req status) q = of-serve req (status .0) (ap typeOf q)
@@ -228,11 +228,11 @@ module _ (w : World) (K : Call → Outcome → List Event → Type 0) (k : Endin
   each-call (SetRequestedSize mib) =
       let c = SetRequestedSize mib in
       on-ready (With c [] []) w [] _ (λ n. k .refuses c n) (length (w .blocks)) (length (w .rows)) (λ p e. of-size mib p e)
-  each-call (Request g table head) =
-      let c = Request g table head in
-      let chain = parsed (g .mem) (g .base) table head in
+  each-call (Request g descriptors head) =
+      let c = Request g descriptors head in
+      let chain = parsed (g .mem) (g .base) descriptors head in
       on-ready (With c (ackToRequest w chain) []) w (g .mem) _ (λ n. k .refuses c n) (length (w .blocks)) (length (w .rows))
-      (λ p e. of-request g table head p e chain refl)
+      (λ p e. of-request g descriptors head p e chain refl)
   each-call (HostAnswer g ok host) =
       let c = HostAnswer g ok host in
       let o = openOf (w .device .pending) in

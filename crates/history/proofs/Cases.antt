@@ -1,13 +1,13 @@
 -- For each tree of `Step`: what holds of every leaf that it can end in holds of its outcome, and each leaf gets what its tests tell.
 use Prim.Native.Nat.{ℕ, _+_, _-_, _*_, _%_, _≤_, _<_}
 use mathlib.Core.Path.{_≡_, refl, ap, _∙_}
-use mathlib.Core.Bool.{Bool, true, false, cond, not, _&&_, _||_}
+use mathlib.Core.Bool.{Bool, true, false, cond, not, _&&_}
 use mathlib.Core.List.{List, []}
 use native.Mathlib.Omega.{arith}
 use native.Mathlib.Nat.{le-div-iff-mul-le, div-mul-le-self, add-mul}
 use lib.Dec.{leb, ltb, eqb}
 use lib.ListN.{length, drop}
-use borrow.Author.Tests.{leb-true, ltb-true, ltb-false, eqb-true, not-false, not-true}
+use borrow.Author.Tests.{leb-true, ltb-true, ltb-false, eqb-true}
 use Rattle.units.specs.Numbers.{bytesOf, blocksIn, mapRegions}
 use Rattle.units.specs.declared.RegionOffset.{RegionOffset}
 use Rattle.units.specs.declared.HostAddr.{HostAddr}
@@ -20,7 +20,7 @@ use Rattle.wire.specs.Layout.{configBytes}
 use Rattle.wire.specs.declared.VirtioMemReq.{VirtioMemReq}
 use Rattle.rows.specs.declared.MapRow.{MapRow}
 use Rattle.record.specs.declared.Device.{Device}
-use Rattle.record.specs.Shape.{shapedOf, isIdle, startOk}
+use Rattle.record.specs.Shape.{shapedOf, isIdle, sizeOk, startOk}
 use Rattle.record.specs.Changes.{requestedTo}
 use Rattle.resize.specs.declared.Growth.{Growth}
 use Rattle.resize.specs.declared.Growth.the-variants.{Asks, Settled}
@@ -34,15 +34,20 @@ use Rattle.step.specs.declared.Answer.the-variants.{Done}
 use Rattle.step.specs.World.{World, Guest, Outcome}
 use Rattle.step.specs.Step.{blockSize, region, usable, plugged, requested, start, several, regionBlocks, regionRows, deviceOf}
 use Rattle.step.specs.Step.{refused, unserved, nack, error, served, plugs, asksDiscard, stops, asksOne, endsAll, newUsable, sizes, asksCreate, placed}
-use Rattle.step.specs.Step.{tablesFit, readyRefusal, unplacedRefusal, pendingRefusal, unless, changing, plugAs, plug, unplugAs, oneAs, nextAs, unplugAll, stateResp, serve, resizes, resized, placing, place, setRequestedSize, readConfig, writeConfig}
+use Rattle.step.specs.Step.{tablesFit, readyRefusal, unplacedRefusal, pendingRefusal, rangeRefusal, unless, changing, plugAs, plug, unplugAs, unplug, oneAs, unplugOne, nextAs, unplugAll, stateResp, serve, resizes, resized, placing, place, setRequestedSize, readConfig, writeConfig}
 use Rattle.record.proofs.Laws.{Parts, parts as shaped-is, whole as shaped-when, shaped-is as facts-of}
-use Rattle.history.proofs.Shaped.{size-within, block-is}
+use Rattle.history.proofs.Shaped.{size-whole, size-within, block-is}
 
 module _ {A : Type 0} (P : A → Type 0) where
   -- what holds of both sides of a test holds of the test
   pub by-cond : (t : Bool) (a b : A) → (t ≡ true → P a) → (t ≡ false → P b) → P (cond t a b)
   by-cond true a b f g = f refl
   by-cond false a b f g = g refl
+
+  -- .. and of a test whose answer is turned
+  pub by-not : (t : Bool) (a b : A) → (t ≡ true → P b) → (t ≡ false → P a) → P (cond (not t) a b)
+  by-not true a b f g = f refl
+  by-not false a b f g = g refl
 
 -- what is known where a call is not refused; the lent tables have so many blocks and rows
 pub record Entered (d : Device) (blocks rows : ℕ) (quiet : Bool) : Type 0 where
@@ -69,10 +74,10 @@ module _ (P : Outcome → Type 0) (w : World) (bytes : List ℕ) (o : Outcome) (
   pub on-ready : (w .device .placed ≡ true → Entered (w .device) blocks rows true → P o) → P (unless (readyRefusal (w .device) blocks rows) w bytes o)
   unfolding readyRefusal unless
   on-ready k =
-      by-cond Given (shapedOf (w .device)) _ _
-      (λ h₁. by-cond Given (isIdle (w .device .pending)) _ _
-      (λ h₂. by-cond Given (w .device .placed) _ _
-      (λ h₃. by-cond Given (tablesFit (w .device) blocks rows) _ _
+      by-not Given (shapedOf (w .device)) _ _
+      (λ h₁. by-not Given (isIdle (w .device .pending)) _ _
+      (λ h₂. by-not Given (w .device .placed) _ _
+      (λ h₃. by-not Given (tablesFit (w .device) blocks rows) _ _
       (λ h₄. k h₃ (entered _ _ _ _ h₁ h₂ h₄))
       (λ _. refuses 11 (λ e. omega arith) (λ e. absurd (omega arith))))
       (λ _. refuses 5 (λ e. omega arith) (λ e. absurd (omega arith))))
@@ -82,11 +87,11 @@ module _ (P : Outcome → Type 0) (w : World) (bytes : List ℕ) (o : Outcome) (
   pub on-unplaced : (w .device .placed ≡ false → Entered (w .device) blocks rows true → P o) → P (unless (unplacedRefusal (w .device) blocks rows) w bytes o)
   unfolding unplacedRefusal unless
   on-unplaced k =
-      by-cond Given (shapedOf (w .device)) _ _
-      (λ h₁. by-cond Given (isIdle (w .device .pending)) _ _
+      by-not Given (shapedOf (w .device)) _ _
+      (λ h₁. by-not Given (isIdle (w .device .pending)) _ _
       (λ h₂. by-cond Given (w .device .placed) _ _
       (λ _. refuses 6 (λ e. omega arith) (λ e. absurd (omega arith)))
-      (λ h₃. by-cond Given (tablesFit (w .device) blocks rows) _ _
+      (λ h₃. by-not Given (tablesFit (w .device) blocks rows) _ _
       (λ h₄. k h₃ (entered _ _ _ _ h₁ h₂ h₄))
       (λ _. refuses 11 (λ e. omega arith) (λ e. absurd (omega arith)))))
       (λ _. refuses 7 (λ e. omega arith) (λ e. absurd (omega arith))))
@@ -95,10 +100,10 @@ module _ (P : Outcome → Type 0) (w : World) (bytes : List ℕ) (o : Outcome) (
   pub on-pending : (Entered (w .device) blocks rows false → P o) → P (unless (pendingRefusal (w .device) blocks rows) w bytes o)
   unfolding pendingRefusal unless
   on-pending k =
-      by-cond Given (shapedOf (w .device)) _ _
+      by-not Given (shapedOf (w .device)) _ _
       (λ h₁. by-cond Given (isIdle (w .device .pending)) _ _
       (λ _. refuses 8 (λ e. omega arith) (λ e. absurd (omega arith)))
-      (λ h₂. by-cond Given (tablesFit (w .device) blocks rows) _ _
+      (λ h₂. by-not Given (tablesFit (w .device) blocks rows) _ _
       (λ h₃. k (entered _ _ _ _ h₁ h₂ h₃))
       (λ _. refuses 11 (λ e. omega arith) (λ e. absurd (omega arith)))))
       (λ h₁. refuses 12 (λ e. omega arith) (λ _. h₁))
@@ -164,7 +169,7 @@ module _ (P : Outcome → Type 0) (w : World) (s : Parts (w .device)) (status : 
       → ((first offset host : ℕ) → bytesOf (blockSize w) count ≤ plugged w → Lies w addr count false first offset → Located w first count offset host
       → P (asksDiscard w first count offset host status g))
       → ((first offset : ℕ) → plugged w < bytesOf (blockSize w) count → Lies w addr count false first offset → P (refused 12 w (g .mem)))
-      → P (served error status w g) → P (unplugAs (changing w addr count false) w count status g)
+      → P (served error status w g) → P (unplug w addr count status g)
   unfolding unplugAs
   unplug-cases addr count legal spoiled bad = go (changing w addr count false) refl
     where
@@ -180,7 +185,7 @@ module _ (P : Outcome → Type 0) (w : World) (s : Parts (w .device)) (status : 
 
   one-cases : (block : ℕ)
       → ((offset host : ℕ) → Located w block 1 offset host → P (asksOne w block offset host status g))
-      → P (stops w status g) → P (oneAs (changing w (start w + bytesOf (blockSize w) block) 1 false) w block status g)
+      → P (stops w status g) → P (unplugOne w block status g)
   unfolding oneAs
   one-cases block asks stop = go (changing w (start w + bytesOf (blockSize w) block) 1 false) refl
     where
@@ -209,7 +214,7 @@ module _ (P : Outcome → Type 0) (w : World) (req : VirtioMemReq) (status : ℕ
   pub serve-cases :
       (eqb (req .«req_type») 0 ≡ true → P (plug w (req .addr .0) (req .«nb_blocks») status g))
       → (eqb (req .«req_type») 0 ≡ false → eqb (req .«req_type») 1 ≡ true
-      → P (unplugAs (changing w (req .addr .0) (req .«nb_blocks») false) w (req .«nb_blocks») status g))
+      → P (unplug w (req .addr .0) (req .«nb_blocks») status g))
       → (eqb (req .«req_type») 0 ≡ false → eqb (req .«req_type») 1 ≡ false → eqb (req .«req_type») 2 ≡ true → P (unplugAll w 0 status g))
       → (eqb (req .«req_type») 0 ≡ false → eqb (req .«req_type») 1 ≡ false → eqb (req .«req_type») 2 ≡ false
       → P (served (stateResp w (req .addr .0) (req .«nb_blocks»)) status w g))
@@ -244,37 +249,33 @@ module _ (P : Outcome → Type 0) (w : World) where
       → P (refused 3 w []) → P (refused 4 w [])
       → (length slots ≡ regionRows w → startOk at (region w) (several w) (w .device .alignment) ≡ true → P (placing (placed w at slots bs rows)))
       → P (place w at size slots bs rows)
-  unfolding place
+  unfolding place rangeRefusal unless
   place-cases at size slots bs rows bad-range bad-start k =
-      by-cond P (not (eqb (length slots) (regionRows w) && eqb size (region w))) _ _ (λ _. bad-range)
-      (λ r. by-cond P (not (startOk at (region w) (several w) (w .device .alignment))) _ _ (λ _. bad-start)
-      (λ h.
-      let both-fit = not-false (eqb (length slots) (regionRows w) && eqb size (region w)) r in
-      k (eqb-true (length slots) (regionRows w) (and-left _ _ both-fit)) (not-false (startOk at (region w) (several w) (w .device .alignment)) h)))
+      let Given : ℕ → Type 0 = λ n. P (unless n w [] (placing (placed w at slots bs rows))) in
+      by-not Given (eqb (length slots) (regionRows w) && eqb size (region w)) _ _
+      (λ fit. by-not Given (startOk at (region w) (several w) (w .device .alignment)) _ _
+      (λ starts. k (eqb-true (length slots) (regionRows w) (and-left _ _ fit)) starts)
+      (λ _. bad-start))
+      (λ _. bad-range)
 
   pub size-cases : (mib : ℕ) → P (refused 1 w [])
       → (mib * 1048576 ≤ region w → mib * 1048576 % blockSize w ≡ 0 → P (resized (deviceOf (requestedTo (mib * 1048576) (w .device)) w)))
       → P (setRequestedSize w mib)
   unfolding setRequestedSize
   size-cases mib bad k =
-      by-cond P (ltb (region w) (mib * 1048576) || not (eqb (mib * 1048576 % blockSize w) 0)) _ _ (λ _. bad)
-      (λ h.
-      let p = neither (ltb (region w) (mib * 1048576)) (not (eqb (mib * 1048576 % blockSize w) 0)) h in
-      k (ltb-false (region w) (mib * 1048576) (p .0)) (eqb-true (mib * 1048576 % blockSize w) 0 (not-false (eqb (mib * 1048576 % blockSize w) 0) (p .1))))
-    where
-      neither : (a b : Bool) → (a || b) ≡ false → (a ≡ false) × (b ≡ false)
-      neither false b e = (refl, e)
-      neither true b e = let z : _≡_ {A = ℕ} 0 1 = cc in absurd (omega arith)
+      by-not P (sizeOk (blockSize w) (mib * 1048576) (region w)) _ _
+      (λ fits. k (size-within _ _ _ fits) (size-whole _ _ _ fits))
+      (λ _. bad)
 
   pub read-cases : (offset : ℕ) (buffer : List ℕ) → (shapedOf (w .device) ≡ false → P (refused 12 w buffer))
       → P (record { world = w; answer = Done; bytes = put buffer 0 (drop offset (configBytes (w .device .config))) })
       → P (readConfig w offset buffer)
   unfolding readConfig
   read-cases offset buffer bad good =
-      by-cond P (not (shapedOf (w .device))) _ _ (λ h. bad (not-true (shapedOf (w .device)) h)) (λ _. good)
+      by-not P (shapedOf (w .device)) _ _ (λ _. good) bad
 
   pub write-cases : (buffer : List ℕ) → (shapedOf (w .device) ≡ false → P (refused 12 w buffer))
       → P (record { world = w; answer = Done; bytes = buffer }) → P (writeConfig w buffer)
   unfolding writeConfig
   write-cases buffer bad good =
-      by-cond P (not (shapedOf (w .device))) _ _ (λ h. bad (not-true (shapedOf (w .device)) h)) (λ _. good)
+      by-not P (shapedOf (w .device)) _ _ (λ _. good) bad

@@ -20,9 +20,10 @@ use Rattle.record.specs.Shape.{alignmentOk, regionOk, sizeOk, spanOf, startOk, 
 use Rattle.resize.specs.Resize.{newSize, growthOf}
 use Rattle.change.specs.Change.{insideOf, rangeOf, hostSum, hostIn, hostOf, legalAt, changeIn, stateIn, stateOf}
 use Rattle.step.specs.declared.Answer.{Answer}
-use Rattle.step.specs.declared.Answer.the-variants.{Wants, Sized, Served}
+use Rattle.step.specs.declared.Answer.the-variants.{Wants, Sized}
+use Rattle.step.specs.Answers.{servedWith}
 use Rattle.step.specs.World.{World, Guest, Call, Place, SetRequestedSize, Request, HostAnswer}
-use Rattle.step.specs.Step.{tablesFit, readyRefusal, unplacedRefusal, pendingRefusal, unless, plugAs, plug, unplugAs, oneAs, nextAs, stateType, serve, request, resizes, placing, place, setRequestedSize, hostAnswer, step, plugged, respond}
+use Rattle.step.specs.Step.{tablesFit, readyRefusal, unplacedRefusal, pendingRefusal, rangeRefusal, unless, plugAs, plug, unplugAs, oneAs, nextAs, stateType, serve, request, resizes, placing, place, setRequestedSize, hostAnswer, step, plugged, respond}
 use Rattle.history.specs.History.{Event, PlugAck, UnplugAck, Discarded, UnplugAllAck, ackToType, ackToRequest, ackToHost, acknowledges, discardOf, reports, ifAck, unlessRefused, eventsOf, openedByType, openedByRequest, goesOn, openedBy, askedBy, openAfter, Story, next, after, Fresh, begun, wasPlug, used}
 use Rattle.history.specs.Reached.{marks, counts, could, marked, counted, allCould, allPlugs, Restores, restored}
 
@@ -126,12 +127,12 @@ pub record Example : Type 0 where
       answers (begun device .world) calls
       ≡ Wants (Create (record { 0 = 4294967296 }) 268435456 1)
       ∷ Sized
-      ∷ Served (respond 0 0) 10
-      ∷ Served (respond 1 0) 10
-      ∷ Served (respond 0 2) 10
+      ∷ servedWith (respond 0 0) 10
+      ∷ servedWith (respond 1 0) 10
+      ∷ servedWith (respond 0 2) 10
       ∷ Wants (Discard (record { 0 = 0 }) 4194304 (record { 0 = 140737488355328 }))
       ∷ Wants (Discard (record { 0 = 4194304 }) 4194304 (record { 0 = 140737492549632 }))
-      ∷ Served (respond 3 0) 10
+      ∷ servedWith (respond 3 0) 10
       ∷ Sized
       ∷ []
   pub told : after (begun device) calls .events ≡ Discarded 0 ∷ PlugAck 0 2 ∷ []
@@ -141,11 +142,11 @@ pub record Example : Type 0 where
       answers (begun device .world) more
       ≡ Wants (Create (record { 0 = 4294967296 }) 268435456 1)
       ∷ Sized
-      ∷ Served (respond 0 0) 0
+      ∷ servedWith (respond 0 0) 0
       ∷ Wants (Discard (record { 0 = 0 }) 4194304 (record { 0 = 140737488355328 }))
-      ∷ Served (respond 0 0) 10
+      ∷ servedWith (respond 0 0) 10
       ∷ Wants (Discard (record { 0 = 4194304 }) 4194304 (record { 0 = 140737492549632 }))
-      ∷ Served (respond 0 0) 10
+      ∷ servedWith (respond 0 0) 10
       ∷ []
   pub more-told : after (begun device) more .events ≡ UnplugAllAck ∷ Discarded 1 ∷ UnplugAck 0 1 ∷ PlugAck 0 2 ∷ []
   pub more-left : plugged (after (begun device) more .world) ≡ 0
@@ -154,11 +155,11 @@ pub record Example : Type 0 where
       answers (begun device .world) again
       ≡ Wants (Create (record { 0 = 4294967296 }) 268435456 1)
       ∷ Sized
-      ∷ Served (respond 0 0) 10
+      ∷ servedWith (respond 0 0) 10
       ∷ Wants (Discard (record { 0 = 0 }) 4194304 (record { 0 = 140737488355328 }))
       ∷ Wants (Discard (record { 0 = 4194304 }) 4194304 (record { 0 = 140737492549632 }))
-      ∷ Served (respond 3 0) 10
-      ∷ Served (respond 0 0) 10
+      ∷ servedWith (respond 3 0) 10
+      ∷ servedWith (respond 0 0) 10
       ∷ []
   pub again-told : after (begun device) again .events ≡ PlugAck 0 1 ∷ Discarded 0 ∷ PlugAck 0 4 ∷ []
   pub again-left : plugged (after (begun device) again .world) ≡ 16777216
@@ -167,14 +168,14 @@ pub record Example : Type 0 where
   pub resumed-answered :
       answers (resumed .world) on-with
       ≡ Wants (Discard (record { 0 = 0 }) 4194304 (record { 0 = 140737488355328 }))
-      ∷ Served (respond 0 0) 10
+      ∷ servedWith (respond 0 0) 10
       ∷ []
   pub resumed-told : after resumed on-with .events ≡ UnplugAck 0 1 ∷ PlugAck 3 2 ∷ PlugAck 0 1 ∷ []
   pub resumed-left : plugged (after resumed on-with .world) ≡ 8388608
   pub resumed-counted : ones (used (after resumed on-with .world)) ≡ 2
 
 pub example : Example
-unfolding device chainTo chain place-it calls more again saved resumed on-with answers mapRegions every fill firstOf ones value littleEndian part put requestAt responseBytes virtqDesc descriptorAt descriptorAddr inside linkAt linkAfter withSecond withFirst parsed reaches delivered mappingOf fillRows laid alignmentOk regionOk sizeOk spanOf startOk severalOk pendingOk shapedOf newSize growthOf insideOf rangeOf hostSum hostIn hostOf legalAt changeIn stateIn stateOf tablesFit readyRefusal unplacedRefusal pendingRefusal unless plugAs plug unplugAs oneAs nextAs stateType serve request resizes placing place setRequestedSize hostAnswer step ackToType ackToRequest ackToHost acknowledges discardOf reports ifAck unlessRefused eventsOf openedByType openedByRequest goesOn openedBy askedBy openAfter next after wasPlug marks counts could marked counted allCould allPlugs
+unfolding device chainTo chain place-it calls more again saved resumed on-with answers mapRegions every fill firstOf ones value littleEndian part put requestAt responseBytes virtqDesc descriptorAt descriptorAddr inside linkAt linkAfter withSecond withFirst parsed reaches delivered mappingOf fillRows laid alignmentOk regionOk sizeOk spanOf startOk severalOk pendingOk shapedOf newSize growthOf insideOf rangeOf hostSum hostIn hostOf legalAt changeIn stateIn stateOf tablesFit readyRefusal unplacedRefusal pendingRefusal rangeRefusal unless plugAs plug unplugAs oneAs nextAs stateType serve request resizes placing place setRequestedSize hostAnswer step ackToType ackToRequest ackToHost acknowledges discardOf reports ifAck unlessRefused eventsOf openedByType openedByRequest goesOn openedBy askedBy openAfter next after wasPlug marks counts could marked counted allCould allPlugs
 example =
     record {
       answered = refl;

@@ -41,7 +41,7 @@ refused-takes : (c : Call) (n : ℕ) → (n ≡ 10 → ⊥) → takes c (Refused
 unfolding takes taken
 refused-takes (Place at size slots blocks rows) n h = refl
 refused-takes (SetRequestedSize mib) n h = refl
-refused-takes (Request guest table head) n h = refl
+refused-takes (Request guest descriptors head) n h = refl
 refused-takes (HostAnswer guest ok host) n h = rw (ne-eqb n 10 h)
 refused-takes (ReadConfig offset buffer) n h = refl
 refused-takes (WriteConfig offset buffer) n h = refl

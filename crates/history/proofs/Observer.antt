@@ -42,16 +42,16 @@ module _ (w : World) where
   Sees p c o = openOf (o .world .device .pending) ≡ openAfter w (openOf p) c (o .answer)
 
   -- the same of a request, by what its chain holds
-  abbrev SeesChain : Parsed → Guest → (table head : ℕ) → Type 0
-  SeesChain p g table head = parsed (g .mem) (g .base) table head ≡ p → Entered (w .device) (length (w .blocks)) (length (w .rows)) true
-      → Sees (w .device .pending) (Request g table head) (request p w g)
+  abbrev SeesChain : Parsed → Guest → (descriptors head : ℕ) → Type 0
+  SeesChain p g descriptors head = parsed (g .mem) (g .base) descriptors head ≡ p → Entered (w .device) (length (w .blocks)) (length (w .rows)) true
+      → Sees (w .device .pending) (Request g descriptors head) (request p w g)
 
-  sees-request : (p : Parsed) (g : Guest) (table head : ℕ) → SeesChain p g table head
+  sees-request : (p : Parsed) (g : Guest) (descriptors head : ℕ) → SeesChain p g descriptors head
   unfolding request openAfter askedBy openedBy openedByRequest openedByType openOf
-  sees-request (Bad reason) g table head q e = idle-open (w .device .pending) (e .is-idle)
-  sees-request (Got req status) g table head q e =
+  sees-request (Bad reason) g descriptors head q e = idle-open (w .device .pending) (e .is-idle)
+  sees-request (Got req status) g descriptors head q e =
       let quiet = idle-open (w .device .pending) (e .is-idle) in
-      let P = Sees (w .device .pending) (Request g table head) in
+      let P = Sees (w .device .pending) (Request g descriptors head) in
       serve-cases P w req (status .0) g
       (λ _. plug-cases P w (e .is-shaped) (status .0) g (req .addr .0) (req .«nb_blocks») (λ _ _ _ _. quiet) quiet quiet)
       (λ t₀ t₁. unplug-cases P w (e .is-shaped) (status .0) g (req .addr .0) (req .«nb_blocks»)
@@ -93,9 +93,9 @@ module _ (w : World) where
       on-ready P w [] _ (λ n _ _. refl) (length (w .blocks)) (length (w .rows))
       (λ _ e. size-cases P w mib refl
       (λ _ _. resized-cases P (deviceOf (requestedTo (mib * 1048576) (w .device)) w) (idle-open (w .device .pending) (e .is-idle)) (λ _ _ _ _. refl)))
-  sees (Request g table head) =
-      on-ready (Sees (w .device .pending) (Request g table head)) w (g .mem) _ (λ n _ _. refl) (length (w .blocks)) (length (w .rows))
-      (λ _ e. sees-request (parsed (g .mem) (g .base) table head) g table head refl e)
+  sees (Request g descriptors head) =
+      on-ready (Sees (w .device .pending) (Request g descriptors head)) w (g .mem) _ (λ n _ _. refl) (length (w .blocks)) (length (w .rows))
+      (λ _ e. sees-request (parsed (g .mem) (g .base) descriptors head) g descriptors head refl e)
   sees (HostAnswer g ok host) =
       on-pending (Sees (w .device .pending) (HostAnswer g ok host)) w (g .mem) _ (λ n _ _. refl) (length (w .blocks)) (length (w .rows))
       (λ e. sees-host (w .device .pending) g ok host refl e)

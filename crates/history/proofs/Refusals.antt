@@ -16,7 +16,7 @@ use Rattle.record.proofs.Laws.{Parts, whole as shaped-when, start-keeps}
 use Rattle.step.specs.declared.Answer.{Answer}
 use Rattle.step.specs.declared.Answer.the-variants.{Refused, Wants, Sized, Unserved, Served, Done}
 use Rattle.step.specs.World.{World, Guest, Call, Place, SetRequestedSize, Request, HostAnswer, ReadConfig, WriteConfig, Outcome}
-use Rattle.step.specs.Step.{region, several, regionBlocks, regionRows, deviceOf, asksCreate, createFails, placed, tablesFit, unplacedRefusal, unless, place, hostAnswer, step}
+use Rattle.step.specs.Step.{region, several, regionBlocks, regionRows, deviceOf, asksCreate, createFails, placed, tablesFit, unplacedRefusal, rangeRefusal, unless, place, hostAnswer, step}
 use Rattle.step.proofs.Entry.{waits-when}
 use Rattle.history.specs.History.{Event}
 use Rattle.history.specs.Rules.{FromEveryWorld, isPlace, asks}
@@ -33,7 +33,7 @@ isRefused (Refused n) = true
 isRefused (Wants call) = false
 isRefused Sized = false
 isRefused (Unserved reason) = false
-isRefused (Served resp length) = false
+isRefused (Served reply) = false
 isRefused Done = false
 
 record Left (w : World) (c : Call) (o : Outcome) : Type 0 where
@@ -138,10 +138,10 @@ module _ (w : World) (at : ℕ) (slots : List ℕ) (bs : List Bool) (rows : List
   same-refusal n m = rw (s, start-keeps (w .device) s at fits)
 
   placing-again : (c : Call) → isPlace c ≡ true → step tried c .answer ≡ step w c .answer
-  unfolding step unless place isPlace
+  unfolding step unless place rangeRefusal isPlace
   placing-again (Place at′ size′ slots′ bs′ rows′) e = simp (same-refusal (length bs′) (length rows′), answer-of)
   placing-again (SetRequestedSize mib) e = clash e refl
-  placing-again (Request guest table head) e = clash e refl
+  placing-again (Request guest descriptors head) e = clash e refl
   placing-again (HostAnswer guest ok host) e = clash e refl
   placing-again (ReadConfig offset buffer) e = clash e refl
   placing-again (WriteConfig offset buffer) e = clash e refl

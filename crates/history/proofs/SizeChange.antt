@@ -36,7 +36,7 @@ size-change-touches-nothing w (SetRequestedSize mib) e =
     (λ _. resized-cases P (deviceOf (requestedTo (mib * 1048576) (w .device)) w)
     (record { same-blocks = refl; same-rows = refl; same-plugged = refl })
     (λ _ _ _ _. record { same-blocks = refl; same-rows = refl; same-plugged = refl }))
-size-change-touches-nothing w (Request guest table head) e = clash e refl
+size-change-touches-nothing w (Request guest descriptors head) e = clash e refl
 size-change-touches-nothing w (HostAnswer guest ok host) e = clash e refl
 size-change-touches-nothing w (ReadConfig offset buffer) e = clash e refl
 size-change-touches-nothing w (WriteConfig offset buffer) e = clash e refl

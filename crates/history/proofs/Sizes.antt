@@ -25,7 +25,7 @@ is12 (Refused n) = eqb n 12
 is12 (Wants call) = false
 is12 Sized = false
 is12 (Unserved reason) = false
-is12 (Served resp length) = false
+is12 (Served reply) = false
 is12 Done = false
 
 abbrev Not12 : Call → Outcome → List Event → Type 0

@@ -61,7 +61,7 @@ ackToHost (UnpluggingAll block) = UnplugAllAck ∷ []
 unfoldable pub acknowledges : World → Open → Call → List Event
 acknowledges w o (Place at size slots blocks rows) = []
 acknowledges w o (SetRequestedSize mib) = []
-acknowledges w o (Request g table head) = ackToRequest w (parsed (g .mem) (g .base) table head)
+acknowledges w o (Request g descriptors head) = ackToRequest w (parsed (g .mem) (g .base) descriptors head)
 acknowledges w o (HostAnswer g ok host) = ackToHost o
 acknowledges w o (ReadConfig offset buffer) = []
 acknowledges w o (WriteConfig offset buffer) = []
@@ -75,7 +75,7 @@ discardOf (UnpluggingAll block) = Discarded block ∷ []
 unfoldable pub reports : Open → Call → List Event
 reports o (Place at size slots blocks rows) = []
 reports o (SetRequestedSize mib) = []
-reports o (Request g table head) = []
+reports o (Request g descriptors head) = []
 reports o (HostAnswer g ok host) = cond ok (discardOf o) []
 reports o (ReadConfig offset buffer) = []
 reports o (WriteConfig offset buffer) = []
@@ -86,7 +86,7 @@ ifAck (Refused n) es = []
 ifAck (Wants call) es = []
 ifAck Sized es = []
 ifAck (Unserved reason) es = []
-ifAck (Served resp length) es = cond (eqb (resp .«resp_type») 0) es []
+ifAck (Served reply) es = cond (eqb (reply .response .«resp_type») 0) es []
 ifAck Done es = []
 
 -- a host answer that is refused is no event
@@ -95,7 +95,7 @@ unlessRefused (Refused n) es = []
 unlessRefused (Wants call) es = es
 unlessRefused Sized es = es
 unlessRefused (Unserved reason) es = es
-unlessRefused (Served resp length) es = es
+unlessRefused (Served reply) es = es
 unlessRefused Done es = es
 
 -- the events of one call, newest first: from the call, what was open before it, and its answer
@@ -121,7 +121,7 @@ goesOn (UnpluggingAll before) block = UnpluggingAll block
 unfoldable pub openedBy : World → Open → Call → (block : ℕ) → Open
 openedBy w o (Place at size slots blocks rows) block = o
 openedBy w o (SetRequestedSize mib) block = o
-openedBy w o (Request g table head) block = openedByRequest w (parsed (g .mem) (g .base) table head) block
+openedBy w o (Request g descriptors head) block = openedByRequest w (parsed (g .mem) (g .base) descriptors head) block
 openedBy w o (HostAnswer g ok host) block = goesOn o block
 openedBy w o (ReadConfig offset buffer) block = o
 openedBy w o (WriteConfig offset buffer) block = o
@@ -135,7 +135,7 @@ openAfter w o c (Refused n) = o
 openAfter w o c (Wants call) = askedBy w o c call
 openAfter w o c Sized = NoRequest
 openAfter w o c (Unserved reason) = NoRequest
-openAfter w o c (Served resp length) = NoRequest
+openAfter w o c (Served reply) = NoRequest
 openAfter w o c Done = o
 
 -- ---- a run: where the device and its tables stand, what is open, and the events so far, newest first

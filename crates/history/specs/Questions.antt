@@ -76,7 +76,7 @@ isUnplugAll (UnpluggingAll block) = true
 unfoldable pub mayDiscard : Open → Call → Bool
 mayDiscard o (Place at size slots blocks rows) = false
 mayDiscard o (SetRequestedSize mib) = false
-mayDiscard o (Request g table head) = isUnplug (typeOf (parsed (g .mem) (g .base) table head))
+mayDiscard o (Request g descriptors head) = isUnplug (typeOf (parsed (g .mem) (g .base) descriptors head))
 mayDiscard o (HostAnswer g ok host) = ok && isUnplugAll o
 mayDiscard o (ReadConfig offset buffer) = false
 mayDiscard o (WriteConfig offset buffer) = false

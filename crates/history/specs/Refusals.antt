@@ -16,7 +16,7 @@ use Rattle.history.specs.Rules.{isPlace}
 unfoldable pub lentBytes : Call → List ℕ
 lentBytes (Place at size slots blocks rows) = []
 lentBytes (SetRequestedSize mib) = []
-lentBytes (Request guest table head) = guest .mem
+lentBytes (Request guest descriptors head) = guest .mem
 lentBytes (HostAnswer guest ok host) = guest .mem
 lentBytes (ReadConfig offset buffer) = buffer
 lentBytes (WriteConfig offset buffer) = buffer

@@ -48,7 +48,7 @@ DiscardIsCounted s c = (block : ℕ) (status : GuestAddr) → s .world .device .
 unfoldable pub isSizeChange : Call → Bool
 isSizeChange (Place at size slots blocks rows) = false
 isSizeChange (SetRequestedSize mib) = true
-isSizeChange (Request guest table head) = false
+isSizeChange (Request guest descriptors head) = false
 isSizeChange (HostAnswer guest ok host) = false
 isSizeChange (ReadConfig offset buffer) = false
 isSizeChange (WriteConfig offset buffer) = false
@@ -89,7 +89,7 @@ pub record Whole (w : World) (new : List Event) (w′ : World) : Type 0 where
 unfoldable pub isPlace : Call → Bool
 isPlace (Place at size slots blocks rows) = true
 isPlace (SetRequestedSize mib) = false
-isPlace (Request guest table head) = false
+isPlace (Request guest descriptors head) = false
 isPlace (HostAnswer guest ok host) = false
 isPlace (ReadConfig offset buffer) = false
 isPlace (WriteConfig offset buffer) = false
@@ -105,7 +105,7 @@ asks (Refused n) = 0
 asks (Wants call) = 1
 asks Sized = 0
 asks (Unserved reason) = 0
-asks (Served resp length) = 0
+asks (Served reply) = 0
 asks Done = 0
 
 -- a host answer is taken unless it is refused; 10 says that it was taken, and that it was no
@@ -114,13 +114,13 @@ taken (Refused n) = cond (eqb n 10) 1 0
 taken (Wants call) = 1
 taken Sized = 1
 taken (Unserved reason) = 1
-taken (Served resp length) = 1
+taken (Served reply) = 1
 taken Done = 1
 
 unfoldable pub takes : Call → Answer → ℕ
 takes (Place at size slots blocks rows) a = 0
 takes (SetRequestedSize mib) a = 0
-takes (Request guest table head) a = 0
+takes (Request guest descriptors head) a = 0
 takes (HostAnswer guest ok host) a = taken a
 takes (ReadConfig offset buffer) a = 0
 takes (WriteConfig offset buffer) a = 0

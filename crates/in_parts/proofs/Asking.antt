@@ -34,7 +34,7 @@ any-up-to-65535 addr count a c =
       call = Request g 0 0;
       asks = record {
         guest = g;
-        table = 0;
+        descriptors = 0;
         head = 0;
         status = record { 0 = 56 };
         is-request = refl;
@@ -48,7 +48,7 @@ unfolding requestAt
 none-above-65535 c addr count a bytes =
     parsed-cases (λ p. p ≡ Got (plugRequest addr count) (a .status) → count ≤ 65535)
     (λ reason _ _ e. let z : _≡_ {A = ℕ} 0 1 = cc in absurd (omega arith))
-    (a .guest .mem) (a .guest .base) (a .table) (a .head)
+    (a .guest .mem) (a .guest .base) (a .descriptors) (a .head)
     (λ at status e.
     let same : requestAt (a .guest .mem) at ≡ plugRequest addr count = cc e in
     let blocks : value (part (a .guest .mem) (at + 16) 2) ≡ count = ap (λ (req : VirtioMemReq). req .«nb_blocks») same in

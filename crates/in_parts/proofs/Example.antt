@@ -58,7 +58,7 @@ pub halves : List Part
 halves = record { blocks = 1; call = plugs 0 1 } ∷ record { blocks = 1; call = plugs 1 1 } ∷ []
 
 asks : (g : Guest) (addr count : ℕ) → parsed (g .mem) (g .base) 0 0 ≡ Got (plugRequest addr count) (record { 0 = 56 }) → Asks (Request g 0 0) addr count
-asks g addr count e = record { guest = g; table = 0; head = 0; status = record { 0 = 56 }; is-request = refl; reads = e }
+asks g addr count e = record { guest = g; descriptors = 0; head = 0; status = record { 0 = 56 }; is-request = refl; reads = e }
 
 nack-no-ack : some «VIRTIO_MEM_RESP_NACK» ≡ some «VIRTIO_MEM_RESP_ACK» → ⊥
 nack-no-ack e = let z : _≡_ {A = ℕ} 0 1 = cc in omega arith

@@ -24,11 +24,11 @@ plugRequest addr count = record { «req_type» = «VIRTIO_MEM_REQ_PLUG»; addr =
 -- the call is a request whose chain asks for a plug of `count` blocks at addr
 pub record Asks (c : Call) (addr count : ℕ) : Type 0 where
   pub guest : Guest
-  pub table : ℕ
+  pub descriptors : ℕ
   pub head : ℕ
   pub status : GuestAddr
-  pub is-request : c ≡ Request guest table head
-  pub reads : parsed (guest .mem) (guest .base) table head ≡ Got (plugRequest addr count) status
+  pub is-request : c ≡ Request guest descriptors head
+  pub reads : parsed (guest .mem) (guest .base) descriptors head ≡ Got (plugRequest addr count) status
 
 -- "provided n is at most 65,535": so many blocks a call can ask for, whatever the address, and no more in memory whose every byte is below 256
 pub record Askable (addr count : ℕ) : Type 0 where

@@ -109,21 +109,21 @@ unfolding among
 changes w =
     record {
       quiet = λ c o q there i moved. absurd (moved (ap (λ bs. blockAt bs i) (q .same-blocks there)));
-      hears = λ g table head req status h l _ i moved.
-          let o = step w (Request g table head) in
+      hears = λ g descriptors head req status h l _ i moved.
+          let o = step w (Request g descriptors head) in
           by-type (req .«req_type»)
           (λ t.
-          let x = changed-whole w req o (plug-standard w g table head req status h t .whole) i moved in
-          ByPlug (record { guest = g; table = table; head = head; req = req; status = status; is-request = refl; hears = h; is-type = t }) (x .covers) (x .acknowledged)
+          let x = changed-whole w req o (plug-standard w g descriptors head req status h t .whole) i moved in
+          ByPlug (record { guest = g; descriptors = descriptors; head = head; req = req; status = status; is-request = refl; hears = h; is-type = t }) (x .covers) (x .acknowledged)
           (x .carried .plugs t .0 i (x .covers)))
           (λ t.
-          let u = unplug-standard w g table head req status h t in
+          let u = unplug-standard w g descriptors head req status h t in
           clash (u .responses 0 (changed-whole w req o (u .whole) i moved .acknowledged)) refl)
-          (λ t. absurd (moved (ap (λ bs. blockAt bs i) (all-same w 0 o (unplug-all-standard w g table head req status h t)))))
+          (λ t. absurd (moved (ap (λ bs. blockAt bs i) (all-same w 0 o (unplug-all-standard w g descriptors head req status h t)))))
           (λ t.
-          let x = changed-whole w req o (state-standard w g table head req status h t .whole) i moved in
+          let x = changed-whole w req o (state-standard w g descriptors head req status h t .whole) i moved in
           absurd (moved (ap (λ bs. blockAt bs i) (x .carried .tells t .same-blocks))))
-          (λ t. absurd (moved (ap (λ bs. blockAt bs i) (unknown-unserved w g table head req status h t .not-changed .same-blocks))));
+          (λ t. absurd (moved (ap (λ bs. blockAt bs i) (unknown-unserved w g descriptors head req status h t .not-changed .same-blocks))));
       unplug-ends = λ first count status a g ok host _ i moved. unplug-changes w first count status a g ok host i moved;
       one-ends = λ j status a g ok host o h l _ i moved. one-changes w j status a g ok host o h i moved;
     }
@@ -164,7 +164,7 @@ kept-inside w c no-place h i l p =
   where
     go : Changed w c (step w c) i → i * blockSize w < usable w
     go (ByPlug b covers r _) =
-        let can = plug-standard w (b .guest) (b .table) (b .head) (b .req) (b .status) (b .hears) (b .is-type) .only-granted (rw (b .is-request) at r) in
+        let can = plug-standard w (b .guest) (b .descriptors) (b .head) (b .req) (b .status) (b .hears) (b .is-type) .only-granted (rw (b .is-request) at r) in
         omega (arith, can .valid .to-usable, covers .ends)
     go (ByUnplug first count status q low high agrees u) = clash p u
     go (ByUnplugAll status q agrees u) = clash p u
@@ -173,7 +173,7 @@ inside-by : (w : World) (c : Call) → AllInside w → AllInside (step w c .worl
 unfolding isPlace
 inside-by w (Place at size slots bs rows) h = placed-inside w at size slots bs rows h
 inside-by w (SetRequestedSize mib) h = kept-inside w (SetRequestedSize mib) refl h
-inside-by w (Request g table head) h = kept-inside w (Request g table head) refl h
+inside-by w (Request g descriptors head) h = kept-inside w (Request g descriptors head) refl h
 inside-by w (HostAnswer g ok host) h = kept-inside w (HostAnswer g ok host) refl h
 inside-by w (ReadConfig offset buffer) h = kept-inside w (ReadConfig offset buffer) refl h
 inside-by w (WriteConfig offset buffer) h = kept-inside w (WriteConfig offset buffer) refl h

@@ -52,7 +52,7 @@ speaks Done = false
 unfoldable pub isConfigCall : Call → Bool
 isConfigCall (Place at size slots blocks rows) = false
 isConfigCall (SetRequestedSize mib) = false
-isConfigCall (Request guest table head) = false
+isConfigCall (Request guest descriptors head) = false
 isConfigCall (HostAnswer guest ok host) = false
 isConfigCall (ReadConfig offset buffer) = true
 isConfigCall (WriteConfig offset buffer) = true
@@ -139,8 +139,8 @@ leaf-one w g shaped j status false host = leaf-served w g (status .0) _ _ (λ m.
 -- ---- every call is one of these
 pub record Ways (w : World) (K : Call → Outcome → Type 0) : Type 0 where
   pub quiet : (c : Call) (o : Outcome) → Quiet w c o → K c o
-  pub hears : (g : Guest) (table head : ℕ) (req : VirtioMemReq) (status : GuestAddr) → Hears w g table head req status → Leaf w g (status .0) (step w (Request g table head))
-      → K (Request g table head) (step w (Request g table head))
+  pub hears : (g : Guest) (descriptors head : ℕ) (req : VirtioMemReq) (status : GuestAddr) → Hears w g descriptors head req status → Leaf w g (status .0) (step w (Request g descriptors head))
+      → K (Request g descriptors head) (step w (Request g descriptors head))
   pub unplug-ends : (first count : ℕ) (status : GuestAddr) → Awaits w (Discard first count status) → (g : Guest) (ok : Bool) (host : ℕ)
       → K (HostAnswer g ok host) (hostAnswer (Discard first count status) w g ok host)
   pub one-ends : (j : ℕ) (status : GuestAddr) → Awaits w (DiscardOne j status) → (g : Guest) (ok : Bool) (host : ℕ) (o : Outcome) → OneAnswered w j ok o → Leaf w g (status .0) o
@@ -219,14 +219,14 @@ module _ (w : World) (K : Call → Outcome → Type 0) (k : Ways w K) where
       let a : Awaits w (DiscardOne j status) = record { shaped = shaped-when (w .device) (e .is-shaped); waits = q; fits = fitting w false e } in
       k .one-ends j status a g ok host _ (rw (answered w (DiscardOne j status) a refl g ok host) at (one-standard w j status a g ok host)) (leaf-one w g (e .is-shaped) j status ok host)
 
-  by-chain : (g : Guest) (table head : ℕ) (p : Parsed) → parsed (g .mem) (g .base) table head ≡ p → w .device .placed ≡ true → Entered (w .device) (length (w .blocks)) (length (w .rows)) true
-      → K (Request g table head) (request p w g)
+  by-chain : (g : Guest) (descriptors head : ℕ) (p : Parsed) → parsed (g .mem) (g .base) descriptors head ≡ p → w .device .placed ≡ true → Entered (w .device) (length (w .blocks)) (length (w .rows)) true
+      → K (Request g descriptors head) (request p w g)
   unfolding request speaks lentBy isConfigCall
-  by-chain g table head (Bad reason) q p e = idle (Request g table head) _ refl refl (λ _. refl) (λ call f. let z : _≡_ {A = ℕ} 0 1 = cc in omega arith)
-  by-chain g table head (Got req status) q p e =
-      let h : Hears w g table head req status = record { shaped = shaped-when (w .device) (e .is-shaped); is-idle = e .is-idle; is-placed = p; fits = fitting w true e; reads = q } in
-      let is = heard w g table head req status h in
-      rw is at (k .hears g table head req status h (rw is (leaf-serve w g (status .0) (e .is-shaped) req)))
+  by-chain g descriptors head (Bad reason) q p e = idle (Request g descriptors head) _ refl refl (λ _. refl) (λ call f. let z : _≡_ {A = ℕ} 0 1 = cc in omega arith)
+  by-chain g descriptors head (Got req status) q p e =
+      let h : Hears w g descriptors head req status = record { shaped = shaped-when (w .device) (e .is-shaped); is-idle = e .is-idle; is-placed = p; fits = fitting w true e; reads = q } in
+      let is = heard w g descriptors head req status h in
+      rw is at (k .hears g descriptors head req status h (rw is (leaf-serve w g (status .0) (e .is-shaped) req)))
 
   pub each-way : (c : Call) → K c (step w c)
   unfolding step placing speaks lentBy isConfigCall statusOfPending statusFor isPlace
@@ -256,9 +256,9 @@ module _ (w : World) (K : Call → Outcome → Type 0) (k : Ways w K) where
       resized-ways P w₁
       (λ x. sizing c w₁ refl (λ m. sized-memory w₁ (asked m) (e .is-idle) (e .has-rows) (λ _. p) x) (λ _. refl))
       (λ i last n x. creating c w₁ i last n refl refl (λ m. asks-memory w₁ i last n (asked m) (λ _. x)) (λ m. asks-outside w₁ i last n (asked m) (facts-of (w .device) (shaped-when (w .device) (e .is-shaped)) .rows-some) x) (λ _. refl))))
-  each-way (Request g table head) =
-      on-ready (K (Request g table head)) w (g .mem) _ (λ n _ _. refusal (Request g table head) n (g .mem) (λ _. refl)) (length (w .blocks)) (length (w .rows))
-      (λ p e. by-chain g table head (parsed (g .mem) (g .base) table head) refl p e)
+  each-way (Request g descriptors head) =
+      on-ready (K (Request g descriptors head)) w (g .mem) _ (λ n _ _. refusal (Request g descriptors head) n (g .mem) (λ _. refl)) (length (w .blocks)) (length (w .rows))
+      (λ p e. by-chain g descriptors head (parsed (g .mem) (g .base) descriptors head) refl p e)
   each-way (HostAnswer g ok host) =
       on-pending (K (HostAnswer g ok host)) w (g .mem) _ (λ n _ _. refusal (HostAnswer g ok host) n (g .mem) (λ _. refl)) (length (w .blocks)) (length (w .rows))
       (λ e. by-pending g ok host (w .device .pending) refl e)

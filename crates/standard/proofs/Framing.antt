@@ -13,7 +13,7 @@ use Rattle.chain.specs.Chain.{lengthNot24, secondUnder10, missing, withSecond, 
 
 -- the chain from descriptor `head` on, of a table at address 0, with zeros behind it
 unfoldable pub chainOf : List ℕ → (head : ℕ) → Parsed
-chainOf table head = parsed (table ++ replicate 80 0) 0 0 head
+chainOf descriptors head = parsed (descriptors ++ replicate 80 0) 0 0 head
 
 pub record Framing : Type 0 where
   -- a request in buffers of 8 and 16 bytes

@@ -552,54 +552,54 @@ module _ (w : World) (sound : Sound w) where
       go (At block) e = one block (changing w (addressOf w block) 1 false) (lowest block e) refl
 
 -- ---- a request that is heard is served
-module _ (w : World) (g : Guest) (table head : ℕ) (req : VirtioMemReq) (status : GuestAddr) (h : Hears w g table head req status) where
+module _ (w : World) (g : Guest) (descriptors head : ℕ) (req : VirtioMemReq) (status : GuestAddr) (h : Hears w g descriptors head req status) where
   pub hearing : Sound w
   hearing = record { shaped = h .shaped; fits = h .fits }
 
-  pub heard : step w (Request g table head) ≡ serve w req (status .0) g
+  pub heard : step w (Request g descriptors head) ≡ serve w req (status .0) g
   unfolding step unless request
   heard = rw (ready-when (w .device) (length (w .blocks)) (length (w .rows)) (record { shaped = h .shaped; idle = h .is-idle; is-placed = h .is-placed; fits = h .fits }), h .reads)
 
-  pub to-plug : req .«req_type» ≡ «VIRTIO_MEM_REQ_PLUG» → step w (Request g table head) ≡ plug w (req .addr .0) (req .«nb_blocks») (status .0) g
+  pub to-plug : req .«req_type» ≡ «VIRTIO_MEM_REQ_PLUG» → step w (Request g descriptors head) ≡ plug w (req .addr .0) (req .«nb_blocks») (status .0) g
   unfolding serve
   to-plug t = heard ∙ rw t
 
-  to-unplug : req .«req_type» ≡ «VIRTIO_MEM_REQ_UNPLUG» → step w (Request g table head) ≡ unplugAs (changing w (req .addr .0) (req .«nb_blocks») false) w (req .«nb_blocks») (status .0) g
+  to-unplug : req .«req_type» ≡ «VIRTIO_MEM_REQ_UNPLUG» → step w (Request g descriptors head) ≡ unplugAs (changing w (req .addr .0) (req .«nb_blocks») false) w (req .«nb_blocks») (status .0) g
   unfolding serve
   to-unplug t = heard ∙ rw t
 
-  pub to-state : req .«req_type» ≡ «VIRTIO_MEM_REQ_STATE» → step w (Request g table head) ≡ served (stateResp w (req .addr .0) (req .«nb_blocks»)) (status .0) w g
+  pub to-state : req .«req_type» ≡ «VIRTIO_MEM_REQ_STATE» → step w (Request g descriptors head) ≡ served (stateResp w (req .addr .0) (req .«nb_blocks»)) (status .0) w g
   unfolding serve
   to-state t = heard ∙ rw t
 
-  to-unplug-all : req .«req_type» ≡ «VIRTIO_MEM_REQ_UNPLUG_ALL» → step w (Request g table head) ≡ unplugAll w 0 (status .0) g
+  to-unplug-all : req .«req_type» ≡ «VIRTIO_MEM_REQ_UNPLUG_ALL» → step w (Request g descriptors head) ≡ unplugAll w 0 (status .0) g
   unfolding serve
   to-unplug-all t = heard ∙ rw t
 
-  to-none : 3 < req .«req_type» → step w (Request g table head) ≡ unserved 0 w g
+  to-none : 3 < req .«req_type» → step w (Request g descriptors head) ≡ unserved 0 w g
   unfolding serve
   to-none t =
       heard
       ∙ rw (ne-eqb (req .«req_type») 0 (λ e. omega arith), ne-eqb (req .«req_type») 1 (λ e. omega arith), ne-eqb (req .«req_type») 2 (λ e. omega arith), ne-eqb (req .«req_type») 3 (λ e. omega arith))
 
 pub plug-standard : OfEvery «VIRTIO_MEM_REQ_PLUG» Plug
-plug-standard w g table head req status h t =
-    rw (to-plug w g table head req status h t) (plug-at w req (hearing w g table head req status h) t (status .0) g)
+plug-standard w g descriptors head req status h t =
+    rw (to-plug w g descriptors head req status h t) (plug-at w req (hearing w g descriptors head req status h) t (status .0) g)
 
 pub unplug-standard : OfEvery «VIRTIO_MEM_REQ_UNPLUG» Unplug
-unplug-standard w g table head req status h t =
-    rw (to-unplug w g table head req status h t) (unplug-at w req (hearing w g table head req status h) t (status .0) g)
+unplug-standard w g descriptors head req status h t =
+    rw (to-unplug w g descriptors head req status h t) (unplug-at w req (hearing w g descriptors head req status h) t (status .0) g)
 
 pub state-standard : OfEvery «VIRTIO_MEM_REQ_STATE» State
-state-standard w g table head req status h t =
-    rw (to-state w g table head req status h t) (state-at w req (hearing w g table head req status h) t (status .0) g)
+state-standard w g descriptors head req status h t =
+    rw (to-state w g descriptors head req status h t) (state-at w req (hearing w g descriptors head req status h) t (status .0) g)
 
 pub unplug-all-standard : OfEvery «VIRTIO_MEM_REQ_UNPLUG_ALL» UnplugAll
-unplug-all-standard w g table head req status h t =
-    rw (to-unplug-all w g table head req status h t) (unplugs-from w (hearing w g table head req status h) 0 (status .0) g)
+unplug-all-standard w g descriptors head req status h t =
+    rw (to-unplug-all w g descriptors head req status h t) (unplugs-from w (hearing w g descriptors head req status h) 0 (status .0) g)
 
 pub unknown-unserved : OfEveryUnknown Unknown
-unknown-unserved w g table head req status h t = rw (to-none w g table head req status h t) (record { no-response = refl; not-changed = record { same-blocks = refl; same-config = refl } })
+unknown-unserved w g descriptors head req status h t = rw (to-none w g descriptors head req status h t) (record { no-response = refl; not-changed = record { same-blocks = refl; same-config = refl } })
 
 -- ---- the host's answer for one block of an unplug-all
 one-unplugged : (w : World) (j : ℕ) → j < length (w .blocks) → OneUnplugged w j (cleared w j)

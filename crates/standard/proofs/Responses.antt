@@ -83,7 +83,7 @@ unfolding lentBy statusFor statusOfChain statusOfPending responseOf
 response-by w =
     record {
       quiet = λ c o q resp used e. let y : none ≡ some (resp .«resp_type») = sym (mute (o .answer) (q .silent)) ∙ ap responseOf e in let z : _≡_ {A = ℕ} 0 1 = cc in absurd (omega arith);
-      hears = λ g table head req status h l resp used e. record { status = status .0; goes-to = rw (h .reads); delivered = delivers g (status .0) _ (l .says) resp used e };
+      hears = λ g descriptors head req status h l resp used e. record { status = status .0; goes-to = rw (h .reads); delivered = delivers g (status .0) _ (l .says) resp used e };
       unplug-ends = λ first count status a g ok host resp used e.
           record { status = status .0; goes-to = rw (a .waits); delivered = delivers g (status .0) _ (leaf-unplug w g first count status ok host .says) resp used e };
       one-ends = λ j status a g ok host o _ l resp used e. record { status = status .0; goes-to = rw (a .waits); delivered = delivers g (status .0) o (l .says) resp used e };
@@ -97,7 +97,7 @@ unfolding statusFor statusOfChain statusOfPending
 status-by w =
     record {
       quiet = λ c o q. q .keeps-status;
-      hears = λ g table head req status h l call e. rw (h .reads) (l .keeps-status call e);
+      hears = λ g descriptors head req status h l call e. rw (h .reads) (l .keeps-status call e);
       unplug-ends = λ first count status a g ok host call e. leaf-unplug w g first count status ok host .keeps-status call e ∙ sym (ap statusOfPending (a .waits));
       one-ends = λ j status a g ok host o _ l call e. l .keeps-status call e ∙ sym (ap statusOfPending (a .waits));
     }
@@ -111,9 +111,9 @@ past : (t : Bool) (reason : ℕ) (p : Parsed) (req : VirtioMemReq) (status : Gue
 past true reason p req status e = let z : _≡_ {A = ℕ} 0 1 = cc in absurd (omega arith)
 past false reason p req status e = (refl, e)
 
-module _ (g : Guest) (table head : ℕ) (req : VirtioMemReq) (status : GuestAddr) where
-  second-writable : (first : Descriptor) (found : VirtioMemReq) (l : Link) → linkAt (g .mem) (g .base) table head ≡ Is first → linkAfter (g .mem) (g .base) table first ≡ l
-      → withSecond found l ≡ Got req status → WritableAt g table head status
+module _ (g : Guest) (descriptors head : ℕ) (req : VirtioMemReq) (status : GuestAddr) where
+  second-writable : (first : Descriptor) (found : VirtioMemReq) (l : Link) → linkAt (g .mem) (g .base) descriptors head ≡ Is first → linkAfter (g .mem) (g .base) descriptors first ≡ l
+      → withSecond found l ≡ Got req status → WritableAt g descriptors head status
   unfolding withSecond
   second-writable first found Missing h f e = let z : _≡_ {A = ℕ} 0 1 = cc in absurd (omega arith)
   second-writable first found (Is second) h f e =
@@ -123,7 +123,7 @@ module _ (g : Guest) (table head : ℕ) (req : VirtioMemReq) (status : GuestAddr
       let got = long .1 in
       record { first = first; second = second; heads = h; follows = f; is-writable = not-false (isWriteOnly second) (writable .0); is-long = ltb-false (second .len) 10 (long .0); is-there = cc }
 
-  first-writable : (l : Link) → linkAt (g .mem) (g .base) table head ≡ l → withFirst (g .mem) (g .base) table l ≡ Got req status → WritableAt g table head status
+  first-writable : (l : Link) → linkAt (g .mem) (g .base) descriptors head ≡ l → withFirst (g .mem) (g .base) descriptors l ≡ Got req status → WritableAt g descriptors head status
   unfolding withFirst
   first-writable Missing h e = let z : _≡_ {A = ℕ} 0 1 = cc in absurd (omega arith)
   first-writable (Is first) h e =
@@ -131,11 +131,11 @@ module _ (g : Guest) (table head : ℕ) (req : VirtioMemReq) (status : GuestAddr
       let readable = past (isWriteOnly first) _ _ req status (direct .1) in
       let whole = past (not (eqb (first .len) 24)) _ _ req status (readable .1) in
       let there = past (not (inside (length (g .mem)) (g .base) (first .addr .0) 24)) _ _ req status (whole .1) in
-      second-writable first _ (linkAfter (g .mem) (g .base) table first) h refl (there .1)
+      second-writable first _ (linkAfter (g .mem) (g .base) descriptors first) h refl (there .1)
 
 pub status-is-writable : StatusIsWritable
 unfolding parsed
-status-is-writable g table head req status e = first-writable g table head req status (linkAt (g .mem) (g .base) table head) refl e
+status-is-writable g descriptors head req status e = first-writable g descriptors head req status (linkAt (g .mem) (g .base) descriptors head) refl e
 
 -- ---- no response, and no byte of guest memory has changed
 abbrev NoByte : Call → Outcome → Type 0
@@ -151,7 +151,7 @@ unfolding lentBy
 no-byte w =
     record {
       quiet = λ c o q guest _. q .same-bytes guest;
-      hears = λ g table head req status h l _ n. says-nothing g (status .0) _ (l .says) n;
+      hears = λ g descriptors head req status h l _ n. says-nothing g (status .0) _ (l .says) n;
       unplug-ends = λ first count status a g ok host _ n. says-nothing g (status .0) _ (leaf-unplug w g first count status ok host .says) n;
       one-ends = λ j status a g ok host o _ l _ n. says-nothing g (status .0) o (l .says) n;
     }
@@ -159,7 +159,7 @@ no-byte w =
 pub silence-writes-nothing : SilenceWritesNothing
 unfolding lentBy isConfigCall
 silence-writes-nothing w g =
-    (λ table head n. each-way w NoByte (no-byte w) (Request g table head) refl n, λ ok host n. each-way w NoByte (no-byte w) (HostAnswer g ok host) refl n)
+    (λ descriptors head n. each-way w NoByte (no-byte w) (Request g descriptors head) refl n, λ ok host n. each-way w NoByte (no-byte w) (HostAnswer g ok host) refl n)
 
 -- ---- M12, M17: of which type a response is
 pub by-type : {A : Type 0} (n : ℕ) → (n ≡ «VIRTIO_MEM_REQ_PLUG» → A) → (n ≡ «VIRTIO_MEM_REQ_UNPLUG» → A) → (n ≡ «VIRTIO_MEM_REQ_UNPLUG_ALL» → A) → (n ≡ «VIRTIO_MEM_REQ_STATE» → A) → (3 < n → A) → A
@@ -200,20 +200,20 @@ unfolding among responseOf
 given-by w =
     record {
       quiet = λ c o q type r. let y : none ≡ some type = sym (mute (o .answer) (q .silent)) ∙ r in let z : _≡_ {A = ℕ} 0 1 = cc in absurd (omega arith);
-      hears = λ g table head req status h l type r.
+      hears = λ g descriptors head req status h l type r.
           by-type (req .«req_type»)
           (λ t.
-          let p = plug-standard w g table head req status h t in
+          let p = plug-standard w g descriptors head req status h t in
           by-test (eqb 1 type)
           (λ u.
           let e : 1 ≡ type = eqb-true 1 type u in
-          Nack (sym e) (record { brings = record { guest = g; table = table; head = head; req = req; status = status; is-request = refl; hears = h; is-type = t }; over = omega (arith, p .only-over (rw e r)) }))
+          Nack (sym e) (record { brings = record { guest = g; descriptors = descriptors; head = head; req = req; status = status; is-request = refl; hears = h; is-type = t }; over = omega (arith, p .only-over (rw e r)) }))
           (λ u. AckOrError (rw u at (p .responses type r))))
-          (λ t. AckOrError (among-more 0 (3 ∷ []) type (unplug-standard w g table head req status h t .responses type r)))
-          (λ t. AckOrError (unplug-all-standard w g table head req status h t .responses type r))
-          (λ t. AckOrError (state-standard w g table head req status h t .responses type r))
+          (λ t. AckOrError (among-more 0 (3 ∷ []) type (unplug-standard w g descriptors head req status h t .responses type r)))
+          (λ t. AckOrError (unplug-all-standard w g descriptors head req status h t .responses type r))
+          (λ t. AckOrError (state-standard w g descriptors head req status h t .responses type r))
           (λ t.
-          let y : none ≡ some type = sym (ap responseOf (unknown-unserved w g table head req status h t .no-response)) ∙ r in
+          let y : none ≡ some type = sym (ap responseOf (unknown-unserved w g descriptors head req status h t .no-response)) ∙ r in
           let z : _≡_ {A = ℕ} 0 1 = cc in absurd (omega arith));
       unplug-ends = λ first count status a g ok host type r. AckOrError (by-ok w first count status g ok host type r);
       one-ends = λ j status a g ok host o answered l type r. AckOrError (one-by-ok w j ok o answered type r);
@@ -242,7 +242,7 @@ waiting-stays w (Place at size slots bs rows) busy no-answer =
     on-unplaced (λ o. o .world ≡ w) w [] _ (λ n _ _. refl) (length bs) (length rows) (λ p e. clash (e .is-idle) busy)
 waiting-stays w (SetRequestedSize mib) busy no-answer =
     on-ready (λ o. o .world ≡ w) w [] _ (λ n _ _. refl) (length (w .blocks)) (length (w .rows)) (λ p e. clash (e .is-idle) busy)
-waiting-stays w (Request g table head) busy no-answer =
+waiting-stays w (Request g descriptors head) busy no-answer =
     on-ready (λ o. o .world ≡ w) w (g .mem) _ (λ n _ _. refl) (length (w .blocks)) (length (w .rows)) (λ p e. clash (e .is-idle) busy)
 waiting-stays w (HostAnswer g ok host) busy no-answer = clash refl no-answer
 waiting-stays w (ReadConfig offset buffer) busy no-answer = read-cases (λ o. o .world ≡ w) w offset buffer (λ _. refl) refl

@@ -50,7 +50,7 @@ keeps-memory : (w : World) → Ways w (λ c o. InMemory w → InMemory (o .world
 keeps-memory w =
     record {
       quiet = λ c o q. q .keeps-memory;
-      hears = λ g table head req status h l. l .keeps-memory;
+      hears = λ g descriptors head req status h l. l .keeps-memory;
       unplug-ends = λ first count status a g ok host. leaf-unplug w g first count status ok host .keeps-memory;
       one-ends = λ j status a g ok host o h l. l .keeps-memory;
     }
@@ -95,13 +95,13 @@ free-blocks-plug s r c b p within free =
     let w = s .world in
     let counted = demand-3 s r .count in
     rw (b .is-request)
-    (plug-standard w (b .guest) (b .table) (b .head) (b .req) (b .status) (b .hears) (b .is-type) .granted
+    (plug-standard w (b .guest) (b .descriptors) (b .head) (b .req) (b .status) (b .hears) (b .is-type) .granted
     (record { within-requested = omega arith; valid = p .valid; all-unplugged = free; mapped = usable-is-mapped s r c (b .req) p }))
 
 pub plugged-blocks-unplug : InEveryRun PluggedBlocksUnplug
 plugged-blocks-unplug s r c b p all =
     let w = s .world in
-    let u = unplug-standard w (b .guest) (b .table) (b .head) (b .req) (b .status) (b .hears) (b .is-type) in
+    let u = unplug-standard w (b .guest) (b .descriptors) (b .head) (b .req) (b .status) (b .hears) (b .is-type) in
     let can : CanUnplug w (b .req) = record { valid = p .valid; all-plugged = all; mapped = usable-is-mapped s r c (b .req) p } in
     by-test (ltb (plugged w) (sizeOf w (b .req)))
     (λ t. absurd (never-12 s r c (rw (b .is-request) (u .spoiled can (ltb-true _ _ t)))))
@@ -122,7 +122,7 @@ no-place : (w : World) (o : Open) (c : Call) → acknowledges w o c ≡ UnplugAl
 unfolding acknowledges isPlace
 no-place w o (Place at size slots blocks rows) e = let z : _≡_ {A = ℕ} 0 1 = cc in absurd (omega arith)
 no-place w o (SetRequestedSize mib) e = refl
-no-place w o (Request g table head) e = refl
+no-place w o (Request g descriptors head) e = refl
 no-place w o (HostAnswer g ok host) e = refl
 no-place w o (ReadConfig offset buffer) e = refl
 no-place w o (WriteConfig offset buffer) e = refl
@@ -179,14 +179,14 @@ unfolding acknowledges ackToRequest ackToType ackToHost openOf responseOf
 fails w =
     record {
       quiet = λ c o q can e r. let y : _≡_ {A = Option ℕ} none (some 3) = sym (mute (o .answer) (q .silent)) ∙ r in let z : _≡_ {A = ℕ} 0 1 = cc in absurd (omega arith);
-      hears = λ g table head req status h l can e r.
+      hears = λ g descriptors head req status h l can e r.
           let asked : ackToType w req ≡ UnplugAllAck ∷ [] = rw (h .reads) at e in
           by-type (req .«req_type»)
           (λ t. let plug = rw t at asked in let z : _≡_ {A = ℕ} 0 1 = cc in absurd (omega arith))
           (λ t. let unplug = rw t at asked in let z : _≡_ {A = ℕ} 0 1 = cc in absurd (omega arith))
-          (λ t. absurd (no-error w 0 _ can (unplug-all-standard w g table head req status h t) r))
+          (λ t. absurd (no-error w 0 _ can (unplug-all-standard w g descriptors head req status h t) r))
           (λ t. let state = rw t at asked in let z : _≡_ {A = ℕ} 0 1 = cc in absurd (omega arith))
-          (λ t. let y : _≡_ {A = Option ℕ} none (some 3) = sym (ap responseOf (unknown-unserved w g table head req status h t .no-response)) ∙ r in let z : _≡_ {A = ℕ} 0 1 = cc in absurd (omega arith));
+          (λ t. let y : _≡_ {A = Option ℕ} none (some 3) = sym (ap responseOf (unknown-unserved w g descriptors head req status h t .no-response)) ∙ r in let z : _≡_ {A = ℕ} 0 1 = cc in absurd (omega arith));
       unplug-ends = λ first count status a g ok host can e r. let unplug = rw (a .waits) at e in let z : _≡_ {A = ℕ} 0 1 = cc in absurd (omega arith);
       one-ends = λ j status a g ok host o h l can e r. one-fails w j g ok host o h can r;
     }
@@ -235,18 +235,18 @@ lowest-plugged w from o b u offset size host e i low high = go (u .only-lowest _
         let same = only-one (blockSize w) (x .block) b (rw at-offset at low) (rw (at-offset, one) at high) in
         rw (all-same w from o u, same) (x .lowest .is-plugged)
 
-unplug-discards : (w : World) (g : Guest) (table head : ℕ) (req : VirtioMemReq) (status : GuestAddr) (h : Hears w g table head req status) → req .«req_type» ≡ «VIRTIO_MEM_REQ_UNPLUG»
-    → Discards w (Request g table head) (step w (Request g table head))
+unplug-discards : (w : World) (g : Guest) (descriptors head : ℕ) (req : VirtioMemReq) (status : GuestAddr) (h : Hears w g descriptors head req status) → req .«req_type» ≡ «VIRTIO_MEM_REQ_UNPLUG»
+    → Discards w (Request g descriptors head) (step w (Request g descriptors head))
 unfolding among
-unplug-discards w g table head req status h t offset size host e i low high = go (u .only-granted _ e)
+unplug-discards w g descriptors head req status h t offset size host e i low high = go (u .only-granted _ e)
   where
     o : Outcome
-    o = step w (Request g table head)
+    o = step w (Request g descriptors head)
 
     u : Unplug w req o
-    u = unplug-standard w g table head req status h t
+    u = unplug-standard w g descriptors head req status h t
 
-    go : CanUnplug w req → AsksToUnplug w (openOf (w .device .pending)) (Request g table head) i × IsPlugged (o .world) i
+    go : CanUnplug w req → AsksToUnplug w (openOf (w .device .pending)) (Request g descriptors head) i × IsPlugged (o .world) i
     go can =
         by-test (ltb (plugged w) (sizeOf w req)) (λ s. let refusal = u .spoiled can (ltb-true _ _ s) in let z : _≡_ {A = ℕ} 0 1 = cc in absurd (omega arith))
         (λ s.
@@ -256,7 +256,7 @@ unplug-discards w g table head req status h t offset size host e i low high = go
         let valid = can .valid in
         let covers : Covers w req i = record { begins = omega (arith, rw at-offset at low); ends = omega (arith, rw (at-offset, bytes) at high) } in
         let no-ack : Responds o 0 → ⊥ = λ r. clash (u .responses 0 r) refl in (
-          ByUnplug (record { guest = g; table = table; head = head; req = req; status = status; is-request = refl; hears = h; is-type = t }) covers,
+          ByUnplug (record { guest = g; descriptors = descriptors; head = head; req = req; status = status; is-request = refl; hears = h; is-type = t }) covers,
           ap (λ bs. blockAt bs i) (u .whole .otherwise no-ack .same-blocks) ∙ can .all-plugged i covers,
         ))
 
@@ -278,18 +278,18 @@ unfolding speaks
 discards w =
     record {
       quiet = λ c o q offset size host e i low high. clash (ap speaks e) (q .silent);
-      hears = λ g table head req status h l offset size host e i low high.
+      hears = λ g descriptors head req status h l offset size host e i low high.
           by-type (req .«req_type»)
           (λ t.
           absurd (plug-cases (λ o. AsksFor o (DiscardCall offset size host) → ⊥) w (parts-of (w .device) (h .shaped)) (status .0) g (req .addr .0) (req .«nb_blocks»)
-          (λ _ _ _ _. no-question _ _ _) (no-question _ _ _) (no-question _ _ _) (rw (to-plug w g table head req status h t) at e)))
-          (λ t. unplug-discards w g table head req status h t offset size host e i low high)
+          (λ _ _ _ _. no-question _ _ _) (no-question _ _ _) (no-question _ _ _) (rw (to-plug w g descriptors head req status h t) at e)))
+          (λ t. unplug-discards w g descriptors head req status h t offset size host e i low high)
           (λ t. (
-            ByUnplugAll (record { guest = g; table = table; head = head; req = req; status = status; is-request = refl; hears = h; is-type = t }),
-            lowest-plugged w 0 _ (facts-of (w .device) (h .shaped) .block-size) (unplug-all-standard w g table head req status h t) offset size host e i low high,
+            ByUnplugAll (record { guest = g; descriptors = descriptors; head = head; req = req; status = status; is-request = refl; hears = h; is-type = t }),
+            lowest-plugged w 0 _ (facts-of (w .device) (h .shaped) .block-size) (unplug-all-standard w g descriptors head req status h t) offset size host e i low high,
           ))
-          (λ t. absurd (no-question _ _ _ (rw (to-state w g table head req status h t) at e)))
-          (λ t. let unserved = unknown-unserved w g table head req status h t .no-response in let z : _≡_ {A = ℕ} 0 1 = cc in absurd (omega arith));
+          (λ t. absurd (no-question _ _ _ (rw (to-state w g descriptors head req status h t) at e)))
+          (λ t. let unserved = unknown-unserved w g descriptors head req status h t .no-response in let z : _≡_ {A = ℕ} 0 1 = cc in absurd (omega arith));
       unplug-ends = λ first count status a g ok host offset size at e i low high. absurd (answer-discards w first count status g ok host _ e);
       one-ends = λ j status a g ok host o h l. one-discards w j status a g ok host o h;
     }
@@ -308,7 +308,7 @@ outside : (w : World) → Ways w (Creates w)
 outside w =
     record {
       quiet = λ c o q. q .creates-outside;
-      hears = λ g table head req status h l _ guest size slot e. absurd (l .no-creation guest size slot e);
+      hears = λ g descriptors head req status h l _ guest size slot e. absurd (l .no-creation guest size slot e);
       unplug-ends = λ first count status a g ok host _ guest size slot e. absurd (leaf-unplug w g first count status ok host .no-creation guest size slot e);
       one-ends = λ j status a g ok host o h l _ guest size slot e. absurd (l .no-creation guest size slot e);
     }

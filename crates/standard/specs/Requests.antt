@@ -150,17 +150,17 @@ abbrev pub offsetOf : World → VirtioMemReq → ℕ
 offsetOf w req = req .addr .0 - start w
 
 -- ---- a request that reaches a device which is ready for it
-pub record Hears (w : World) (g : Guest) (table head : ℕ) (req : VirtioMemReq) (status : GuestAddr) : Type 0 where
+pub record Hears (w : World) (g : Guest) (descriptors head : ℕ) (req : VirtioMemReq) (status : GuestAddr) : Type 0 where
   pub shaped : shapedOf (w .device) ≡ true
   pub is-idle : isIdle (w .device .pending) ≡ true
   pub is-placed : w .device .placed ≡ true
   pub fits : tablesFit (w .device) (length (w .blocks)) (length (w .rows)) ≡ true
-  pub reads : parsed (g .mem) (g .base) table head ≡ Got req status
+  pub reads : parsed (g .mem) (g .base) descriptors head ≡ Got req status
 
 -- P holds of every such request, whose type is one of these, and its outcome
 abbrev pub OfEveryType : (these : ℕ → Type 0) → (World → VirtioMemReq → Outcome → Type 0) → Type 0
-OfEveryType these P = (w : World) (g : Guest) (table head : ℕ) (req : VirtioMemReq) (status : GuestAddr) → Hears w g table head req status → these (req .«req_type»)
-    → P w req (step w (Request g table head))
+OfEveryType these P = (w : World) (g : Guest) (descriptors head : ℕ) (req : VirtioMemReq) (status : GuestAddr) → Hears w g descriptors head req status → these (req .«req_type»)
+    → P w req (step w (Request g descriptors head))
 
 abbrev pub OfEvery : (type : ℕ) → (World → VirtioMemReq → Outcome → Type 0) → Type 0
 OfEvery type P = OfEveryType (λ t. t ≡ type) P
@@ -171,12 +171,12 @@ OfEveryUnknown P = OfEveryType (λ t. 3 < t) P
 -- the call brings such a request, of this type
 pub record Brings (w : World) (c : Call) (type : ℕ) : Type 0 where
   pub guest : Guest
-  pub table : ℕ
+  pub descriptors : ℕ
   pub head : ℕ
   pub req : VirtioMemReq
   pub status : GuestAddr
-  pub is-request : c ≡ Request guest table head
-  pub hears : Hears w guest table head req status
+  pub is-request : c ≡ Request guest descriptors head
+  pub hears : Hears w guest descriptors head req status
   pub is-type : req .«req_type» ≡ type
 
 -- and the host's answer to a call that waits for it, p
@@ -189,7 +189,7 @@ pub record Awaits (w : World) (p : Pending) : Type 0 where
 unfoldable pub isHostAnswer : Call → Bool
 isHostAnswer (Place at size slots blocks rows) = false
 isHostAnswer (SetRequestedSize mib) = false
-isHostAnswer (Request guest table head) = false
+isHostAnswer (Request guest descriptors head) = false
 isHostAnswer (HostAnswer guest ok host) = true
 isHostAnswer (ReadConfig offset buffer) = false
 isHostAnswer (WriteConfig offset buffer) = false
@@ -202,7 +202,7 @@ WaitingStays w c o = isIdle (w .device .pending) ≡ false → isHostAnswer c �
 unfoldable pub lentBy : Call → Guest
 lentBy (Place at size slots blocks rows) = noGuest
 lentBy (SetRequestedSize mib) = noGuest
-lentBy (Request guest table head) = guest
+lentBy (Request guest descriptors head) = guest
 lentBy (HostAnswer guest ok host) = guest
 lentBy (ReadConfig offset buffer) = noGuest
 lentBy (WriteConfig offset buffer) = noGuest
@@ -221,7 +221,7 @@ statusOfPending (DiscardOne block status) = some (status .0)
 unfoldable pub statusFor : World → Call → Option ℕ
 statusFor w (Place at size slots blocks rows) = none
 statusFor w (SetRequestedSize mib) = none
-statusFor w (Request guest table head) = statusOfChain (parsed (guest .mem) (guest .base) table head)
+statusFor w (Request guest descriptors head) = statusOfChain (parsed (guest .mem) (guest .base) descriptors head)
 statusFor w (HostAnswer guest ok host) = statusOfPending (w .device .pending)
 statusFor w (ReadConfig offset buffer) = none
 statusFor w (WriteConfig offset buffer) = none
@@ -251,17 +251,17 @@ abbrev pub ResponseIsDelivered : World → Call → Outcome → Type 0
 ResponseIsDelivered w c o = (resp : VirtioMemResp) (used : ℕ) → o .answer ≡ Served resp used → ResponseTo w c resp used (o .bytes)
 
 -- Q4: the status address is that of a buffer which the driver gave for writing, the second descriptor of the chain
-pub record WritableAt (g : Guest) (table head : ℕ) (status : GuestAddr) : Type 0 where
+pub record WritableAt (g : Guest) (descriptors head : ℕ) (status : GuestAddr) : Type 0 where
   pub first : Descriptor
   pub second : Descriptor
-  pub heads : linkAt (g .mem) (g .base) table head ≡ Is first
-  pub follows : linkAfter (g .mem) (g .base) table first ≡ Is second
+  pub heads : linkAt (g .mem) (g .base) descriptors head ≡ Is first
+  pub follows : linkAfter (g .mem) (g .base) descriptors first ≡ Is second
   pub is-writable : isWriteOnly second ≡ true
   pub is-long : 10 ≤ second .len
   pub is-there : second .addr ≡ status
 
 abbrev pub StatusIsWritable : Type 0
-StatusIsWritable = (g : Guest) (table head : ℕ) (req : VirtioMemReq) (status : GuestAddr) → parsed (g .mem) (g .base) table head ≡ Got req status → WritableAt g table head status
+StatusIsWritable = (g : Guest) (descriptors head : ℕ) (req : VirtioMemReq) (status : GuestAddr) → parsed (g .mem) (g .base) descriptors head ≡ Got req status → WritableAt g descriptors head status
 
 -- a request that waits for the host keeps the status address of its chain
 abbrev pub StatusIsKept : World → Call → Outcome → Type 0
@@ -269,7 +269,7 @@ StatusIsKept w c o = (call : HostCall) → AsksFor o call → statusOfPending (o
 
 -- and without a response no byte of guest memory changes
 abbrev pub SilenceWritesNothing : Type 0
-SilenceWritesNothing = (w : World) (g : Guest) → ((table head : ℕ) → responseOf (step w (Request g table head) .answer) ≡ none → step w (Request g table head) .bytes ≡ g .mem)
+SilenceWritesNothing = (w : World) (g : Guest) → ((descriptors head : ℕ) → responseOf (step w (Request g descriptors head) .answer) ≡ none → step w (Request g descriptors head) .bytes ≡ g .mem)
     × ((ok : Bool) (host : ℕ) → responseOf (step w (HostAnswer g ok host) .answer) ≡ none → step w (HostAnswer g ok host) .bytes ≡ g .mem)
 
 -- ---- M10: a request is carried out as a whole and acknowledged, or nothing of it is carried out. Narrower: not an unplug-all (M15)

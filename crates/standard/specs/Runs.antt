@@ -62,7 +62,7 @@ pub data AsksToUnplug (w : World) (o : Open) (c : Call) (i : ℕ) : Type 0 where
 unfoldable pub hostAgrees : Call → Bool
 hostAgrees (Place at size slots blocks rows) = false
 hostAgrees (SetRequestedSize mib) = false
-hostAgrees (Request guest table head) = false
+hostAgrees (Request guest descriptors head) = false
 hostAgrees (HostAnswer guest ok host) = ok
 hostAgrees (ReadConfig offset buffer) = false
 hostAgrees (WriteConfig offset buffer) = false
