@@ -28,6 +28,7 @@ use Rattle.resize.specs.declared.Growth.the-variants.{Asks, Settled}
 use Rattle.resize.specs.Resize.{growthOf}
 use Rattle.step.specs.declared.Answer.{Answer}
 use Rattle.step.specs.declared.Answer.the-variants.{Refused, Wants, Sized, Unserved, Served, Done}
+use Rattle.step.specs.Answers.{servedWith}
 use Rattle.step.specs.World.{World, Guest, Call, Place, SetRequestedSize, Request, HostAnswer, ReadConfig, WriteConfig, Outcome}
 use Rattle.step.specs.Step.{start, newUsable, regionRows, sizes, asksCreate, resizes, resized, placing, step, request, serve, hostAnswer, tablesFit, region, usable, several, served, refused, cleared, coveredBy, placed, deviceOf}
 use Rattle.history.specs.Rules.{isPlace}
@@ -45,7 +46,7 @@ speaks (Wants (CreateCall guest size slot)) = false
 speaks (Wants (DiscardCall offset size host)) = true
 speaks Sized = false
 speaks (Unserved reason) = false
-speaks (Served resp length) = true
+speaks (Served reply) = true
 speaks Done = false
 
 -- a config call lends a buffer, which is no guest memory
@@ -81,7 +82,7 @@ pub record Quiet (w : World) (c : Call) (o : Outcome) : Type 0 where
 
 -- ---- a call that may end a request, whose response goes to the address `status`
 pub data Says (g : Guest) (status : ℕ) (o : Outcome) : Type 0 where
-  Responded : (resp : VirtioMemResp) → o .answer ≡ Served resp (cond (reaches (g .mem) (g .base) status) 10 0) → o .bytes ≡ delivered (g .mem) (g .base) status resp → Says g status o
+  Responded : (resp : VirtioMemResp) → o .answer ≡ servedWith resp (cond (reaches (g .mem) (g .base) status) 10 0) → o .bytes ≡ delivered (g .mem) (g .base) status resp → Says g status o
   Silent : responseOf (o .answer) ≡ none → o .bytes ≡ g .mem → Says g status o
 
 pub record Leaf (w : World) (g : Guest) (status : ℕ) (o : Outcome) : Type 0 where

@@ -26,6 +26,7 @@ use Rattle.chain.proofs.Laws.{length-delivered, delivered-reads, undelivered, d
 use Rattle.record.specs.declared.Pending.the-variants.{Discard}
 use Rattle.step.specs.declared.Answer.{Answer}
 use Rattle.step.specs.declared.Answer.the-variants.{Refused, Wants, Sized, Unserved, Served, Done}
+use Rattle.step.specs.declared.Reply.{Reply}
 use Rattle.step.specs.World.{World, Guest, Call, Place, SetRequestedSize, Request, HostAnswer, ReadConfig, WriteConfig, Outcome}
 use Rattle.step.specs.Step.{step, hostAnswer}
 use Rattle.history.specs.Rules.{FromEveryWorld}
@@ -53,20 +54,19 @@ room : (g : Guest) (status : ℕ) → g .base ≤ status → status + 10 ≤ g .
 unfolding reaches inside
 room g status p q r = rw (le-leb (g .base) status p, le-leb (status + 10) (g .base + length (g .mem)) q, le-leb (status + 10) (2 ^ 64) r)
 
-delivery : (g : Guest) (status : ℕ) (resp : VirtioMemResp) → Delivered g status resp (cond (reaches (g .mem) (g .base) status) 10 0) (delivered (g .mem) (g .base) status resp)
+delivery : (g : Guest) (status : ℕ) (resp : VirtioMemResp) → Delivered g status (record { response = resp; used = cond (reaches (g .mem) (g .base) status) 10 0 }) (delivered (g .mem) (g .base) status resp)
 unfolding among
 delivery g status resp =
     by-test (reaches (g .mem) (g .base) status)
     (λ t. record { whole = λ _. laid g status resp t; nothing = λ e. let z = rw t at e in absurd (omega arith); no-other = rw t; with-room = λ _ _ _. rw t })
     (λ t. record { whole = λ e. let z = rw t at e in absurd (omega arith); nothing = λ _. undelivered (g .mem) (g .base) status resp t; no-other = rw t; with-room = λ p q r. clash (room g status p q r) t })
 
-delivers : (g : Guest) (status : ℕ) (o : Outcome) → Says g status o → (resp : VirtioMemResp) (used : ℕ) → o .answer ≡ Served resp used → Delivered g status resp used (o .bytes)
+delivers : (g : Guest) (status : ℕ) (o : Outcome) → Says g status o → (reply : Reply) → o .answer ≡ Served reply → Delivered g status reply (o .bytes)
 unfolding responseOf
-delivers g status o (Responded given a b) resp used e =
-    let same : given ≡ resp = cc in
-    let long : cond (reaches (g .mem) (g .base) status) 10 0 ≡ used = cc in
-    rw (b, ← same, ← long) (delivery g status given)
-delivers g status o (Silent n b) resp used e = let z : none ≡ some (resp .«resp_type») = sym n ∙ ap responseOf e in let y : _≡_ {A = ℕ} 0 1 = cc in absurd (omega arith)
+delivers g status o (Responded given a b) reply e =
+    let same : record { response = given; used = cond (reaches (g .mem) (g .base) status) 10 0 } ≡ reply = cc in
+    rw (b, ← same) (delivery g status given)
+delivers g status o (Silent n b) reply e = let z : none ≡ some (reply .response .«resp_type») = sym n ∙ ap responseOf e in let y : _≡_ {A = ℕ} 0 1 = cc in absurd (omega arith)
 
 -- what says nothing is no response, and no question for a discard
 pub mute : (a : Answer) → speaks a ≡ false → responseOf a ≡ none
@@ -75,18 +75,18 @@ mute (Refused n) e = refl
 mute (Wants call) e = refl
 mute Sized e = refl
 mute (Unserved reason) e = refl
-mute (Served resp length) e = clash refl e
+mute (Served reply) e = clash refl e
 mute Done e = refl
 
 response-by : (w : World) → Ways w (ResponseIsDelivered w)
 unfolding lentBy statusFor statusOfChain statusOfPending responseOf
 response-by w =
     record {
-      quiet = λ c o q resp used e. let y : none ≡ some (resp .«resp_type») = sym (mute (o .answer) (q .silent)) ∙ ap responseOf e in let z : _≡_ {A = ℕ} 0 1 = cc in absurd (omega arith);
-      hears = λ g descriptors head req status h l resp used e. record { status = status .0; goes-to = rw (h .reads); delivered = delivers g (status .0) _ (l .says) resp used e };
-      unplug-ends = λ first count status a g ok host resp used e.
-          record { status = status .0; goes-to = rw (a .waits); delivered = delivers g (status .0) _ (leaf-unplug w g first count status ok host .says) resp used e };
-      one-ends = λ j status a g ok host o _ l resp used e. record { status = status .0; goes-to = rw (a .waits); delivered = delivers g (status .0) o (l .says) resp used e };
+      quiet = λ c o q reply e. let y : none ≡ some (reply .response .«resp_type») = sym (mute (o .answer) (q .silent)) ∙ ap responseOf e in let z : _≡_ {A = ℕ} 0 1 = cc in absurd (omega arith);
+      hears = λ g descriptors head req status h l reply e. record { status = status .0; goes-to = rw (h .reads); delivered = delivers g (status .0) _ (l .says) reply e };
+      unplug-ends = λ first count status a g ok host reply e.
+          record { status = status .0; goes-to = rw (a .waits); delivered = delivers g (status .0) _ (leaf-unplug w g first count status ok host .says) reply e };
+      one-ends = λ j status a g ok host o _ l reply e. record { status = status .0; goes-to = rw (a .waits); delivered = delivers g (status .0) o (l .says) reply e };
     }
 
 pub response-is-delivered : FromEveryWorld ResponseIsDelivered

@@ -24,6 +24,7 @@ use Rattle.record.specs.declared.Pending.the-variants.{Nothing, Create, Discard
 use Rattle.record.proofs.Laws.{shaped-is as facts-of, parts as parts-of}
 use Rattle.step.specs.declared.Answer.{Answer}
 use Rattle.step.specs.declared.Answer.the-variants.{Refused, Wants, Sized, Unserved, Served, Done}
+use Rattle.step.specs.Answers.{servedWith}
 use Rattle.step.specs.World.{World, Guest, Call, Place, SetRequestedSize, Request, HostAnswer, ReadConfig, WriteConfig, Outcome}
 use Rattle.step.specs.Step.{step, hostAnswer, usable, blockSize, plugged, regionBlocks, cleared}
 use Rattle.history.specs.History.{Event, UnplugAllAck, Open, acknowledges, ackToRequest, ackToType, ackToHost, ifAck, eventsOf, Story, next}
@@ -115,7 +116,7 @@ ack-tells (Refused n) es e = let z : _≡_ {A = ℕ} 0 1 = cc in absurd (omega a
 ack-tells (Wants call) es e = let z : _≡_ {A = ℕ} 0 1 = cc in absurd (omega arith)
 ack-tells Sized es e = let z : _≡_ {A = ℕ} 0 1 = cc in absurd (omega arith)
 ack-tells (Unserved reason) es e = let z : _≡_ {A = ℕ} 0 1 = cc in absurd (omega arith)
-ack-tells (Served resp length) es e = let t : resp .«resp_type» ≡ 0 = cc in rw t
+ack-tells (Served reply) es e = let t : reply .response .«resp_type» ≡ 0 = cc in rw t
 ack-tells Done es e = let z : _≡_ {A = ℕ} 0 1 = cc in absurd (omega arith)
 
 no-place : (w : World) (o : Open) (c : Call) → acknowledges w o c ≡ UnplugAllAck ∷ [] → isPlace c ≡ false
@@ -216,7 +217,7 @@ Discards w c o = (offset : RegionOffset) (size : ℕ) (host : HostAddr) → Asks
     → AsksToUnplug w (openOf (w .device .pending)) c i × IsPlugged (o .world) i
 
 -- a response asks for nothing
-no-question : (resp : VirtioMemResp) (n : ℕ) (call : HostCall) → Served resp n ≡ Wants call → ⊥
+no-question : (resp : VirtioMemResp) (n : ℕ) (call : HostCall) → servedWith resp n ≡ Wants call → ⊥
 no-question resp n call e = let z : _≡_ {A = ℕ} 0 1 = cc in omega arith
 
 -- the block of an unplug-all that the host is asked for is plugged

@@ -97,7 +97,7 @@ settledBy before (Refused n) = before
 settledBy before (Wants call) = settledByCall before call
 settledBy before Sized = true
 settledBy before (Unserved reason) = before
-settledBy before (Served resp length) = before
+settledBy before (Served reply) = before
 settledBy before Done = before
 
 -- after these calls from a world on

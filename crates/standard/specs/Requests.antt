@@ -29,6 +29,7 @@ use Rattle.record.specs.declared.Pending.the-variants.{Nothing, Create, Discard
 use Rattle.record.specs.Shape.{shapedOf, isIdle}
 use Rattle.step.specs.declared.Answer.{Answer}
 use Rattle.step.specs.declared.Answer.the-variants.{Refused, Wants, Sized, Unserved, Served, Done}
+use Rattle.step.specs.declared.Reply.{Reply}
 use Rattle.step.specs.World.{World, Guest, noGuest, Call, Place, SetRequestedSize, Request, HostAnswer, ReadConfig, WriteConfig, Outcome}
 use Rattle.step.specs.Step.{step, blockSize, usable, plugged, requested, start, several, regionBlocks, tablesFit, cleared}
 use Rattle.standard.specs.Config.{configOf}
@@ -74,7 +75,7 @@ responseOf (Refused n) = none
 responseOf (Wants call) = none
 responseOf Sized = none
 responseOf (Unserved reason) = none
-responseOf (Served resp length) = some (resp .«resp_type»)
+responseOf (Served reply) = some (reply .response .«resp_type»)
 responseOf Done = none
 
 -- and its state
@@ -83,7 +84,7 @@ stateFieldOf (Refused n) = none
 stateFieldOf (Wants call) = none
 stateFieldOf Sized = none
 stateFieldOf (Unserved reason) = none
-stateFieldOf (Served resp length) = some (resp .state)
+stateFieldOf (Served reply) = some (reply .response .state)
 stateFieldOf Done = none
 
 abbrev pub Responds : Outcome → (type : ℕ) → Type 0
@@ -236,19 +237,19 @@ pub record Written (g : Guest) (status : ℕ) (resp : VirtioMemResp) (bytes : Li
   pub same-length : length bytes ≡ length (g .mem)
 
 -- a used length of 10 says that the response is written, and 0 that nothing is; it is 10 wherever there is room
-pub record Delivered (g : Guest) (status : ℕ) (resp : VirtioMemResp) (used : ℕ) (bytes : List ℕ) : Type 0 where
-  pub whole : used ≡ 10 → Written g status resp bytes
-  pub nothing : used ≡ 0 → bytes ≡ g .mem
-  pub no-other : among (10 ∷ 0 ∷ []) used ≡ true
-  pub with-room : g .base ≤ status → status + 10 ≤ g .base + length (g .mem) → status + 10 ≤ 2 ^ 64 → used ≡ 10
+pub record Delivered (g : Guest) (status : ℕ) (reply : Reply) (bytes : List ℕ) : Type 0 where
+  pub whole : reply .used ≡ 10 → Written g status (reply .response) bytes
+  pub nothing : reply .used ≡ 0 → bytes ≡ g .mem
+  pub no-other : among (10 ∷ 0 ∷ []) (reply .used) ≡ true
+  pub with-room : g .base ≤ status → status + 10 ≤ g .base + length (g .mem) → status + 10 ≤ 2 ^ 64 → reply .used ≡ 10
 
-pub record ResponseTo (w : World) (c : Call) (resp : VirtioMemResp) (used : ℕ) (bytes : List ℕ) : Type 0 where
+pub record ResponseTo (w : World) (c : Call) (reply : Reply) (bytes : List ℕ) : Type 0 where
   pub status : ℕ
   pub goes-to : statusFor w c ≡ some status
-  pub delivered : Delivered (lentBy c) status resp used bytes
+  pub delivered : Delivered (lentBy c) status reply bytes
 
 abbrev pub ResponseIsDelivered : World → Call → Outcome → Type 0
-ResponseIsDelivered w c o = (resp : VirtioMemResp) (used : ℕ) → o .answer ≡ Served resp used → ResponseTo w c resp used (o .bytes)
+ResponseIsDelivered w c o = (reply : Reply) → o .answer ≡ Served reply → ResponseTo w c reply (o .bytes)
 
 -- Q4: the status address is that of a buffer which the driver gave for writing, the second descriptor of the chain
 pub record WritableAt (g : Guest) (descriptors head : ℕ) (status : GuestAddr) : Type 0 where
