@@ -25,6 +25,7 @@ use Rattle.change.specs.declared.Change.the-variants.{Legal, Outside, WrongStat
 use Rattle.change.proofs.Laws.{legal-is, whole-blocks}
 use Rattle.step.specs.declared.Answer.{Answer}
 use Rattle.step.specs.declared.Answer.the-variants.{Refused as Refuses, Wants, Sized, Unserved, Served, Done}
+use Rattle.step.specs.Answers.{servedWith}
 use Rattle.step.specs.World.{World, Guest, Request}
 use Rattle.step.specs.Step.{blockSize, region, usable, plugged, requested, start, several, unless, changing, plugAs, plug, serve, request, step, ack}
 use Rattle.driver.specs.declared.Proposal.the-variants.{Plug, Refused}
@@ -93,7 +94,7 @@ clash p q = let z : _≡_ {A = ℕ} 0 1 = cc in absurd (omega arith)
 
 -- the type of a response, of the answers that are one
 abbrev typeIn : Answer → ℕ
-typeIn (Served resp len) = resp .«resp_type»
+typeIn (Served reply) = reply .response .«resp_type»
 typeIn (Refuses n) = 9
 typeIn (Wants call) = 9
 typeIn Sized = 9
@@ -102,7 +103,7 @@ typeIn Done = 9
 
 -- ---- 17: no address has an acknowledged plug of one block
 module _ (w : World) (r : Ready w) (e : planOf (w .device .config) (w .blocks) ≡ Refused 17) (addr : GuestAddr) (status : GuestAddr) (g : Guest) where
-  not-legal : (x : Change) → changing w (addr .0) 1 true ≡ x → plugged w + bytesOf (blockSize w) 1 ≤ requested w → (len : ℕ) → plugAs x w 1 (status .0) g .answer ≡ Served ack len → ⊥
+  not-legal : (x : Change) → changing w (addr .0) 1 true ≡ x → plugged w + bytesOf (blockSize w) 1 ≤ requested w → (len : ℕ) → plugAs x w 1 (status .0) g .answer ≡ servedWith ack len → ⊥
   unfolding plugAs
   not-legal (Outside part) q t len a = let z : _≡_ {A = ℕ} 3 0 = ap typeIn a in omega arith
   not-legal WrongState q t len a = let z : _≡_ {A = ℕ} 3 0 = ap typeIn a in omega arith
@@ -126,7 +127,7 @@ module _ (w : World) (r : Ready w) (e : planOf (w .device .config) (w .blocks) �
       (p .why)
 
   pub none-acknowledged : (descriptors head : ℕ) → parsed (g .mem) (g .base) descriptors head ≡ Got (record { «req_type» = 0; addr = addr; «nb_blocks» = 1 }) status
-      → (len : ℕ) → step w (Request g descriptors head) .answer ≡ Served ack len → ⊥
+      → (len : ℕ) → step w (Request g descriptors head) .answer ≡ servedWith ack len → ⊥
   unfolding step unless request serve plug
   none-acknowledged descriptors head q len a =
       let p = spent-is (w .device .config) (w .blocks) e in

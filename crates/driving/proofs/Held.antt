@@ -27,7 +27,7 @@ use Rattle.descriptors.proofs.Standard.{descriptor-laid}
 use Rattle.chain.specs.declared.Parsed.the-variants.{Request as Got}
 use Rattle.chain.specs.Chain.{withSecond, withFirst, parsed}
 use Rattle.record.proofs.Laws.{config-shaped-is}
-use Rattle.step.specs.declared.Answer.the-variants.{Served}
+use Rattle.step.specs.Answers.{servedWith}
 use Rattle.step.specs.World.{World, Guest, Request}
 use Rattle.step.specs.Step.{step, ack}
 use Rattle.driver.specs.declared.Proposal.the-variants.{Plug, Refused}
@@ -230,5 +230,5 @@ module _ (w : World) (r : Ready w) (addr : GuestAddr) (n : ℕ) (e : planOf (w .
 
 pub none-acknowledged-held : (w : World) → Ready w → planOf (w .device .config) (w .blocks) ≡ Refused 17
     → (addr : GuestAddr) (g : Guest) (descriptors head : ℕ) (status : GuestAddr) → Holds g descriptors head (plugOf addr 1) status
-    → (len : ℕ) → step w (Request g descriptors head) .answer ≡ Served ack len → ⊥
+    → (len : ℕ) → step w (Request g descriptors head) .answer ≡ servedWith ack len → ⊥
 none-acknowledged-held w r e addr g descriptors head status h = none-acknowledged w r e addr status g descriptors head (held-parses g descriptors head (plugOf addr 1) status h)

@@ -25,7 +25,7 @@ use Rattle.rows.specs.declared.MapRow.{MapRow}
 use Rattle.record.specs.declared.Device.{Device}
 use Rattle.record.specs.declared.Pending.{Pending}
 use Rattle.record.specs.declared.Pending.the-variants.{Nothing, Create, Discard, DiscardOne}
-use Rattle.record.specs.Shape.{shapedOf, startOk}
+use Rattle.record.specs.Shape.{shapedOf, sizeOk}
 use Rattle.record.proofs.Laws.{shaped-is, config-shaped-of}
 use Rattle.resize.specs.declared.Growth.{Growth}
 use Rattle.resize.specs.declared.Growth.the-variants.{Asks, Settled}
@@ -36,6 +36,8 @@ use Rattle.change.specs.declared.Change.the-variants.{Legal, Outside, WrongStat
 use Rattle.change.specs.Change.{stateIn, stateOf}
 use Rattle.step.specs.declared.Answer.{Answer}
 use Rattle.step.specs.declared.Answer.the-variants.{Refused, Wants, Sized, Unserved, Served, Done}
+use Rattle.step.specs.declared.Reply.{Reply}
+use Rattle.step.specs.Answers.{servedWith}
 use Rattle.step.specs.World.{World, Guest, Call, Place, SetRequestedSize, Request, HostAnswer, ReadConfig, WriteConfig, Outcome}
 use Rattle.step.specs.Step.{blockSize, region, plugged, requested, several, regionRows, coveredBy, ack, nack, error, served, stateType, unless, plugAs, plug, unplugAs, oneAs, nextAs, serve, request, resizes, placing, place, setRequestedSize, hostAnswer, readConfig, writeConfig, step}
 use Rattle.driver.specs.declared.GotConfig.{GotConfig}
@@ -72,18 +74,18 @@ unfolding stateOf
 state-known b start region addr count bs = at-most (ltb addr start) 0 _ 2 (omega arith) (state-in-known _)
 
 -- ---- the walk: K holds of each response that an outcome gives, with its used length and the bytes afterwards
-unfoldable Tells : (K : VirtioMemResp → ℕ → List ℕ → Type 0) → Answer → List ℕ → Type 0
+unfoldable Tells : (K : Reply → List ℕ → Type 0) → Answer → List ℕ → Type 0
 Tells K (Refused n) bytes = _≡_ {A = ℕ} 0 0
 Tells K (Wants call) bytes = _≡_ {A = ℕ} 0 0
 Tells K Sized bytes = _≡_ {A = ℕ} 0 0
 Tells K (Unserved reason) bytes = _≡_ {A = ℕ} 0 0
-Tells K (Served resp used) bytes = K resp used bytes
+Tells K (Served reply) bytes = K reply bytes
 Tells K Done bytes = _≡_ {A = ℕ} 0 0
 
-record Told (K : VirtioMemResp → ℕ → List ℕ → Type 0) (o : Outcome) : Type 0 where
+record Told (K : Reply → List ℕ → Type 0) (o : Outcome) : Type 0 where
   told : Tells K (o .answer) (o .bytes)
 
-module _ (K : VirtioMemResp → ℕ → List ℕ → Type 0) where
+module _ (K : Reply → List ℕ → Type 0) where
   either : (t : Bool) (x y : Outcome) → Told K x → Told K y → Told K (cond t x y)
   either true x y p q = p
   either false x y p q = q
@@ -103,15 +105,12 @@ module _ (K : VirtioMemResp → ℕ → List ℕ → Type 0) where
   placing-told w = either (several w) _ _ (resizes-told _ w) (record { told = refl })
 
   place-told : (w : World) (at size : ℕ) (slots : List ℕ) (bs : List Bool) (rows : List MapRow) → Told K (place w at size slots bs rows)
-  unfolding place Tells
-  place-told w at size slots bs rows =
-      either (not (eqb (length slots) (regionRows w) && eqb size (region w))) _ _ (record { told = refl })
-      (either (not (startOk at (region w) (several w) (w .device .alignment))) _ _ (record { told = refl }) (placing-told _))
+  unfolding place
+  place-told w at size slots bs rows = unless-told _ w [] _ (placing-told _)
 
   size-told : (w : World) (mib : ℕ) → Told K (setRequestedSize w mib)
   unfolding setRequestedSize Tells
-  size-told w mib =
-      either (ltb (region w) (mib * 1048576) || not (eqb (mib * 1048576 % blockSize w) 0)) _ _ (record { told = refl }) (resizes-told _ _)
+  size-told w mib = either (not (sizeOk (blockSize w) (mib * 1048576) (region w))) _ _ (record { told = refl }) (resizes-told _ _)
 
   read-told : (w : World) (offset : ℕ) (buffer : List ℕ) → Told K (readConfig w offset buffer)
   unfolding readConfig Tells
@@ -216,9 +215,9 @@ module _ (w : World) where
   step-told (WriteConfig offset buffer) = write-told _ w buffer
 
   -- ---- every response, of every call in every world
-  pub read-back : (c : Call) (resp : VirtioMemResp) (used : ℕ) → step w c .answer ≡ Served resp used → ReadBack w c resp used (step w c .bytes)
+  pub read-back : (c : Call) (reply : Reply) → step w c .answer ≡ Served reply → ReadBack w c reply (step w c .bytes)
   unfolding Tells
-  read-back c resp used e = rw e at (step-told c .told)
+  read-back c reply e = rw e at (step-told c .told)
 
 -- the place is one: that of the chain
 goes-once : (w : World) (g g′ : Guest) (descriptors head : ℕ) (q : VirtioMemReq) (status status′ : GuestAddr) → parsed (g .mem) (g .base) descriptors head ≡ Got q status
@@ -235,9 +234,9 @@ moved bytes resp a b x = rw (a, b) x
 
 -- the response to a request that guest memory holds
 pub held-read : (w : World) (g : Guest) (descriptors head : ℕ) (q : VirtioMemReq) (status : GuestAddr) → Holds g descriptors head q status
-    → (resp : VirtioMemResp) → step w (Request g descriptors head) .answer ≡ Served resp 10 → ReadAt g status (step w (Request g descriptors head) .bytes) resp
+    → (resp : VirtioMemResp) → step w (Request g descriptors head) .answer ≡ servedWith resp 10 → ReadAt g status (step w (Request g descriptors head) .bytes) resp
 held-read w g descriptors head q status h resp e =
-    let b = read-back w (Request g descriptors head) resp 10 e in
+    let b = read-back w (Request g descriptors head) _ e in
     let o = goes-once w g (b .guest) descriptors head q status (b .status) (held-parses g descriptors head q status h) (b .goes) in
     moved (step w (Request g descriptors head) .bytes) resp (o .0) (o .1) (b .read refl)
 

@@ -17,6 +17,7 @@ use Rattle.record.specs.declared.Pending.the-variants.{Discard, DiscardOne}
 use Rattle.driver.specs.declared.GotResponse.{GotResponse}
 use Rattle.driver.specs.declared.GotResponse.the-variants.{Response}
 use Rattle.driver.specs.Text.{requestBytes, ReadsResponse}
+use Rattle.step.specs.declared.Reply.{Reply}
 use Rattle.step.specs.World.{World, Guest, Call, Request, HostAnswer}
 
 -- the n bytes at a guest address lie inside guest memory, and are these
@@ -30,7 +31,7 @@ pub record RequestFits (q : VirtioMemReq) : Type 0 where
   pub addr-fits : q .addr .0 < 256 ^ 8
   pub blocks-fit : q .«nb_blocks» < 256 ^ 2
 
--- guest memory holds the request q as a chain of two descriptors, the first at index `head` of the table:
+-- guest memory holds the request q as a chain of two descriptors, the first at index `head` of the descriptors:
 -- one of 24 bytes with NEXT (1), which are those of q, and one of 10 bytes or more with WRITE (2), for the response
 pub record Holds (g : Guest) (descriptors head : ℕ) (q : VirtioMemReq) (status : GuestAddr) : Type 0 where
   -- where q stands, the second descriptor's index, and the length and next index that this one gives
@@ -53,7 +54,7 @@ pub record Holds (g : Guest) (descriptors head : ℕ) (q : VirtioMemReq) (status
 abbrev pub plugOf : GuestAddr → (count : ℕ) → VirtioMemReq
 plugOf addr count = record { «req_type» = 0; addr = addr; «nb_blocks» = count }
 
--- where a driver lays a chain: the table, two indices of it, the request, and the response's buffer with its length
+-- where a driver lays a chain: the descriptors, two indices of them, the request, and the response's buffer with its length
 pub record Places : Type 0 where
   pub descriptors : ℕ
   pub head : ℕ
@@ -126,10 +127,10 @@ ReadAt g status bytes resp =
     → (r : GotResponse) → ReadsResponse xs r → r ≡ Response resp
 
 -- a response that a call gives is a known one, and is read back where its used length is 10
-pub record ReadBack (w : World) (c : Call) (resp : VirtioMemResp) (used : ℕ) (bytes : List ℕ) : Type 0 where
-  pub type-known : resp .«resp_type» ≤ 3
-  pub state-known : resp .state ≤ 2
+pub record ReadBack (w : World) (c : Call) (reply : Reply) (bytes : List ℕ) : Type 0 where
+  pub type-known : reply .response .«resp_type» ≤ 3
+  pub state-known : reply .response .state ≤ 2
   pub guest : Guest
   pub status : GuestAddr
   pub goes : GoesTo w c guest status
-  pub read : used ≡ 10 → ReadAt guest status bytes resp
+  pub read : reply .used ≡ 10 → ReadAt guest status bytes (reply .response)

@@ -14,7 +14,7 @@ use Rattle.driver.proofs.Laws.{count-few, starts}
 use Rattle.record.proofs.Laws.{shaped-is as facts-of, parts as parts-of}
 use Rattle.chain.specs.declared.Parsed.the-variants.{Request as Got}
 use Rattle.chain.specs.Chain.{parsed}
-use Rattle.step.specs.declared.Answer.the-variants.{Served}
+use Rattle.step.specs.Answers.{servedWith}
 use Rattle.step.specs.World.{World, Guest, Call, Request, Outcome}
 use Rattle.step.specs.Step.{step, tablesFit, blockSize, usable, plugged, requested, regionBlocks, regionRows, ack}
 use Rattle.driving.specs.Sound.{Ready, planned, driveAt, drives, Counted, freeRuns}
@@ -43,10 +43,10 @@ run-acknowledges s reached c t addr count e =
 -- ---- 17 exactly
 -- an ACK to a plug is the ACK of state 0
 plain-ack : (w : World) → Ready w → (g : Guest) (descriptors head addr count : ℕ) (status : GuestAddr) → parsed (g .mem) (g .base) descriptors head ≡ Got (plugRequest addr count) status
-    → Responds (step w (Request g descriptors head)) «VIRTIO_MEM_RESP_ACK» → (len : ℕ) × (step w (Request g descriptors head) .answer ≡ Served ack len)
+    → Responds (step w (Request g descriptors head)) «VIRTIO_MEM_RESP_ACK» → (len : ℕ) × (step w (Request g descriptors head) .answer ≡ servedWith ack len)
 unfolding responseOf tablesFit
 plain-ack w r g descriptors head addr count status q =
-    let P : Outcome → Type 0 = λ o. Responds o «VIRTIO_MEM_RESP_ACK» → (len : ℕ) × (o .answer ≡ Served ack len) in
+    let P : Outcome → Type 0 = λ o. Responds o «VIRTIO_MEM_RESP_ACK» → (len : ℕ) × (o .answer ≡ servedWith ack len) in
     let fit : tablesFit (w .device) (length (w .blocks)) (length (w .rows)) ≡ true = rw (le-leb (regionBlocks w) (length (w .blocks)) (r .blocks-fit)) (le-leb (regionRows w) (length (w .rows)) (r .rows-fit)) in
     let h : Hears w g descriptors head (plugRequest addr count) status = record { shaped = r .shaped; is-idle = r .idle; is-placed = r .placed; fits = fit; reads = q } in
     rw (to-plug w g descriptors head (plugRequest addr count) status h refl)
