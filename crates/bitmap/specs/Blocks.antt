@@ -1,3 +1,4 @@
+-- SPDX-License-Identifier: Apache-2.0 AND BSD-3-Clause
 -- What a packed bitmap means: a list of truth values, one for each block, block 0 first, true where the block is plugged.
 -- Every definition but `blocks` and the last two is on that list alone. "Exists" means "is in the list": what lies past the end is in no range.
 use Prim.Native.Nat.{ℕ, zero, suc, _+_, _-_, _*_, _/_, _%_, _≤_}

@@ -1,4 +1,5 @@
--- The laws of `specs/Text.antt` and `specs/Plan.antt`.
+-- SPDX-License-Identifier: Apache-2.0 AND BSD-3-Clause
+-- The laws of `specs/Text.antt` and `specs/Plan.antt`. Assumes nothing.
 use Prim.Native.Nat.{ℕ, zero, suc, _+_, _-_, _*_, _/_, _%_, _^_, _≤_, _<_}
 use mathlib.Core.Path.{_≡_, refl, ap, _∙_, sym}
 use mathlib.Core.Bool.{Bool, true, false}

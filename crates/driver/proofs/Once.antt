@@ -1,4 +1,5 @@
--- Each promise of the bytes leaves one outcome.
+-- SPDX-License-Identifier: Apache-2.0 AND BSD-3-Clause
+-- Each promise of the bytes leaves one outcome. Assumes nothing.
 use Prim.Native.Nat.{ℕ}
 use mathlib.Core.Path.{_≡_, refl, sym, ap, _∙_}
 use mathlib.Core.List.{List}

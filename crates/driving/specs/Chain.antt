@@ -1,3 +1,4 @@
+-- SPDX-License-Identifier: Apache-2.0 AND BSD-3-Clause
 -- Guest memory that holds a request in the bytes of the standard's structs: what a driver lays there and reads back.
 use Prim.Native.Nat.{ℕ, _+_, _-_, _≤_, _<_, _^_}
 use mathlib.Core.Path.{_≡_}

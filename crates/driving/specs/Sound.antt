@@ -1,3 +1,4 @@
+-- SPDX-License-Identifier: Apache-2.0 AND BSD-3-Clause
 -- What the theorems ask of a device: sound rows, and that it is ready for a request. What they say of a proposal, and where planning and plugging leads.
 use Prim.Native.Nat.{ℕ, zero, suc, _+_, _-_, _/_, _%_, _<_, _≤_, min, max}
 use mathlib.Core.Path.{_≡_}

@@ -1,3 +1,4 @@
+// SPDX-License-Identifier: Apache-2.0 AND BSD-3-Clause
 // Lines by their forms: a form is a text in which # stands for a number.
 use text::Number;
 use units::smaller;

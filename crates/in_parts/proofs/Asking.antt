@@ -1,4 +1,5 @@
--- What a call can ask for: any number of blocks up to 65,535.
+-- SPDX-License-Identifier: Apache-2.0 AND BSD-3-Clause
+-- What a call can ask for: any number of blocks up to 65,535. Assumes nothing.
 use Prim.Native.Nat.{ℕ, _+_, _^_, _≤_, _<_}
 use mathlib.Core.Path.{_≡_, refl, ap, _∙_}
 use mathlib.Core.List.{_++_}

@@ -1,3 +1,4 @@
+-- SPDX-License-Identifier: Apache-2.0 AND BSD-3-Clause
 -- Four blocks in one request, in two and in three from behind; the smallest case where the order of two plugs matters; a border between two parts; and a plug under a higher requested size. Computed, by `refl`.
 use Prim.Native.Nat.{ℕ, _+_, _*_}
 use mathlib.Core.Path.{_≡_, refl}

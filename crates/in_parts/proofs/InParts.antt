@@ -1,4 +1,5 @@
--- One big plug or many small ones.
+-- SPDX-License-Identifier: Apache-2.0 AND BSD-3-Clause
+-- One big plug or many small ones. Assumes nothing.
 use Prim.Native.Nat.{ℕ, _+_, _-_, _%_, _≤_, _<_}
 use mathlib.Core.Path.{_≡_, refl, sym, ap, _∙_}
 use mathlib.Core.Bool.{Bool, true, false, _||_}

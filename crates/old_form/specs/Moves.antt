@@ -1,3 +1,4 @@
+-- SPDX-License-Identifier: Apache-2.0 AND BSD-3-Clause
 -- What the moves between the forms promise.
 use Prim.Native.Nat.{ℕ}
 use mathlib.Core.Path.{_≡_}

@@ -1,3 +1,4 @@
+-- SPDX-License-Identifier: Apache-2.0 AND BSD-3-Clause
 -- The old form (02, request 6): "the bitmap of a stopped builder as one byte per block, 0 or 1, the way the Rust's mem_state_map holds it".
 use Prim.Native.Nat.{ℕ}
 use mathlib.Core.Bool.{Bool, true, cond, _&&_}

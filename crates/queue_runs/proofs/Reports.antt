@@ -1,3 +1,4 @@
+-- SPDX-License-Identifier: Apache-2.0 AND BSD-3-Clause
 -- A refused call takes no head and moves nothing, and the n-th report stands in the used ring at entry n modulo 128, whose index then is n + 1.
 use Prim.Native.Nat.{ℕ, _+_, _-_, _%_, _<_}
 use mathlib.Core.Path.{_≡_, refl, ap, _∙_, sym}

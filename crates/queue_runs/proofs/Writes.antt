@@ -1,3 +1,4 @@
+-- SPDX-License-Identifier: Apache-2.0 AND BSD-3-Clause
 -- The device and the clauses Q4, Q6 and Q7: only the used ring and the response are written, the index last, and a length counts the response's bytes.
 use Prim.Native.Nat.{ℕ, _+_, _-_, _*_, _%_}
 use mathlib.Core.Path.{_≡_, refl, ap, _∙_, sym}

@@ -1,3 +1,4 @@
+-- SPDX-License-Identifier: Apache-2.0 AND BSD-3-Clause
 -- Demands 2 and 3 and the rule of the requested size "over the requests taken": a call on the queue is none or one of the device, so what is said of every call of the device, and of every run of them, holds on the queue.
 use Prim.Native.Nat.{ℕ, _+_, _≤_, _<_}
 use mathlib.Core.Path.{_≡_}

@@ -1,3 +1,4 @@
+-- SPDX-License-Identifier: Apache-2.0 AND BSD-3-Clause
 -- A run on the queue: every call, with all that it brings; the calls of the device that it makes; the heads taken and the heads reported, oldest first.
 use Prim.{Unit}
 use Prim.Native.Nat.{ℕ, _<_}

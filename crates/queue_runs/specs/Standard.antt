@@ -1,3 +1,4 @@
+-- SPDX-License-Identifier: Apache-2.0 AND BSD-3-Clause
 -- What Virtio 1.2 asks of a device's queue, beside the layout of its rings (crates/rings/specs/Standard.antt): Q4, Q6 and Q7. The names of clauses are those of docs/STANDARD.md.
 use Prim.Native.Nat.{ℕ, _+_, _-_, _*_, _%_}
 use mathlib.Core.Path.{_≡_}

@@ -1,3 +1,4 @@
+-- SPDX-License-Identifier: Apache-2.0 AND BSD-3-Clause
 -- The text of a save record (02, request 6): "key=value lines in fixed order: form=2, start, region, requested, usable, plugged, then
 -- run=first,count for each longest run of plugged blocks, lowest first". One field a line, each ended by one newline, the last too.
 use Prim.Native.Nat.{ℕ, _-_}

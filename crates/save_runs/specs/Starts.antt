@@ -1,3 +1,4 @@
+-- SPDX-License-Identifier: Apache-2.0 AND BSD-3-Clause
 -- A restore in the runs of the device (02, request 6): "Demand 3's history then starts as if each run had been plugged and acknowledged".
 use Prim.Native.Nat.{ℕ}
 use mathlib.Core.Path.{_≡_}

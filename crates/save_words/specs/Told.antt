@@ -1,3 +1,4 @@
+-- SPDX-License-Identifier: Apache-2.0 AND BSD-3-Clause
 -- What saving, restoring and the moves leave in the words that they were lent.
 use Prim.Native.Nat.{ℕ}
 use mathlib.Core.Path.{_≡_}

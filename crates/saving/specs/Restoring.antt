@@ -1,3 +1,4 @@
+-- SPDX-License-Identifier: Apache-2.0 AND BSD-3-Clause
 -- What restoring promises (02, request 6): "Restoring is laid on a placed device (no bit set, plugged 0) of the same start and region,
 -- whose usable size is at least the form's, else 18; it sets bits, requested and plugged".
 use Prim.Native.Nat.{ℕ}

@@ -1,3 +1,4 @@
+-- SPDX-License-Identifier: Apache-2.0 AND BSD-3-Clause
 -- What saving a device promises: 12, 7, 11, 18, or its text.
 use Prim.Native.Nat.{ℕ}
 use mathlib.Core.Path.{_≡_}

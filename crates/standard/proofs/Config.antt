@@ -1,3 +1,4 @@
+-- SPDX-License-Identifier: Apache-2.0 AND BSD-3-Clause
 -- The device and the clauses M2 to M5 and M7: the features and the config fields.
 use Prim.Native.Nat.{ℕ, _*_, _%_, max, _≤_}
 use mathlib.Core.Path.{_≡_, refl, _∙_}

@@ -1,3 +1,4 @@
+-- SPDX-License-Identifier: Apache-2.0 AND BSD-3-Clause
 -- Q9, which is not met, and the size of a queue, which is 128 here: how a chain may be cut and which indices are read, on the smallest inputs of docs/DIFFERENCES.md. Computed, by `refl`.
 use Prim.Native.Nat.{ℕ}
 use mathlib.Core.Path.{_≡_, refl}

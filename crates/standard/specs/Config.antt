@@ -1,3 +1,4 @@
+-- SPDX-License-Identifier: Apache-2.0 AND BSD-3-Clause
 -- What Virtio 1.2 asks of the features and the config of a memory device: M2 to M7. The names M2, Q9, .. are clauses of sections 5.15 and 2.7, retold and numbered in docs/STANDARD.md. Where one is narrower here, a line says how.
 use Prim.Native.Nat.{ℕ, _+_, _*_, _/_, _%_, _^_, _≤_, _<_}
 use mathlib.Core.Path.{_≡_}

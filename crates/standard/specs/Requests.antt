@@ -1,3 +1,4 @@
+-- SPDX-License-Identifier: Apache-2.0 AND BSD-3-Clause
 -- What Virtio 1.2 asks of the requests and of the response to each: M8 to M17. The names M8, Q4, .. are clauses of sections 5.15 and 2.7, retold and numbered in docs/STANDARD.md. Everything here holds in every world, whether or not a run leads there. Where a clause is narrower, a line says how, and docs/DIFFERENCES.md has the input.
 use Prim.Native.Nat.{ℕ, _+_, _-_, _*_, _%_, _^_, _≤_, _<_}
 use mathlib.Core.Path.{_≡_}

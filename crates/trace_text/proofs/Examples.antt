@@ -1,3 +1,4 @@
+-- SPDX-License-Identifier: Apache-2.0 AND BSD-3-Clause
 -- A line of 01's whole example, by computation.
 use mathlib.Core.Path.{_≡_}
 use lib.Dec.{lit<}

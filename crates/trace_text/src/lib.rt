@@ -1,3 +1,4 @@
+// SPDX-License-Identifier: Apache-2.0 AND BSD-3-Clause
 // Trace lines: house lines to values. Each line is defined by its text, in specs/Lines.antt.
 use units::GuestAddr;
 use units::HostAddr;

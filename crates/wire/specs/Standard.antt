@@ -1,3 +1,4 @@
+-- SPDX-License-Identifier: Apache-2.0 AND BSD-3-Clause
 -- The structures of a memory device, member after member: M3 and M8. The names of clauses are those of docs/STANDARD.md: sections 5.15 and 2.7 of Virtio 1.2, retold and numbered there, from knowledge of the text, and held against the kernel's <linux/virtio_mem.h>.
 use Prim.Native.Nat.{ℕ}
 use mathlib.Core.List.{List, _++_}

@@ -1,4 +1,5 @@
--- `bitmap::all_in_state` meets its contract: the answers for the three parts are the answer. No loop.
+-- SPDX-License-Identifier: Apache-2.0 AND BSD-3-Clause
+-- `bitmap::all_in_state` meets its contract: the answers for the three parts are the answer. No loop. Assumes nothing.
 use Prim.Native.Nat.{_+_, _-_, _*_, _/_, _%_, min}
 use mathlib.Core.Path.{_≡_}
 use mathlib.Core.Bool.{_&&_}

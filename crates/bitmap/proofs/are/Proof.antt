@@ -1,4 +1,5 @@
--- `bitmap::are` meets its contract. No loop.
+-- SPDX-License-Identifier: Apache-2.0 AND BSD-3-Clause
+-- `bitmap::are` meets its contract. No loop. Assumes nothing.
 use borrow.Author.Needs.{needs}
 use Rattle.bitmap.proofs.Bits.{run-is}
 use Rattle.bitmap.proofs.Bytes.{are-run}

@@ -1,4 +1,5 @@
--- `bitmap::bit` meets its contract. No loop.
+-- SPDX-License-Identifier: Apache-2.0 AND BSD-3-Clause
+-- `bitmap::bit` meets its contract. No loop. Assumes nothing.
 use borrow.Author.Needs.{needs}
 use mathlib.Core.Path.{sym}
 use Rattle.bitmap.proofs.Bits.{low-at}

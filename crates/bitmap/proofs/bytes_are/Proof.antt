@@ -1,3 +1,4 @@
+-- SPDX-License-Identifier: Apache-2.0 AND BSD-3-Clause
 -- `bitmap::bytes_are` meets its contract. The invariant of both loops: the answer for the bytes from byte j on is the answer.
 -- The measure is the number of bytes that are left.
 use Prim.Native.Nat.{ℕ, _+_, _-_, _≤_}

@@ -1,3 +1,4 @@
+-- SPDX-License-Identifier: Apache-2.0 AND BSD-3-Clause
 -- `bitmap::count_set` meets its contract. The loop's invariant: what is counted so far and the set blocks of what is left are those of the range.
 -- The measure is what is left.
 use Prim.Native.Nat.{_+_, _≤_, _<_}

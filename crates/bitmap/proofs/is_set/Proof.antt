@@ -1,4 +1,5 @@
--- `bitmap::is_set` meets its contract. No loop.
+-- SPDX-License-Identifier: Apache-2.0 AND BSD-3-Clause
+-- `bitmap::is_set` meets its contract. No loop. Assumes nothing.
 use borrow.Author.Needs.{needs}
 use mathlib.Core.Path.{_∙_}
 use Rattle.bitmap.proofs.Turns.{at-place, at-out}

@@ -1,3 +1,4 @@
+-- SPDX-License-Identifier: Apache-2.0 AND BSD-3-Clause
 -- `bitmap::next_of` meets its contract. The loop's invariant: `at` is the block at bit k of byte j, and the search from there gives the answer.
 -- The measure is the number of blocks up to `end`.
 use Prim.Native.Nat.{ℕ, _-_, _<_, _+_, _≤_}

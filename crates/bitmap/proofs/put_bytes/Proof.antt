@@ -1,3 +1,4 @@
+-- SPDX-License-Identifier: Apache-2.0 AND BSD-3-Clause
 -- `bitmap::put_bytes` meets its contract. The loop's invariant: the bytes before byte j are filled, and nothing else.
 -- The measure is the number of bytes that are left.
 use Prim.Native.Nat.{_+_, _-_, _*_, _≤_}

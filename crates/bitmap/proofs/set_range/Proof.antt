@@ -1,4 +1,5 @@
--- `bitmap::set_range` meets its contract: the three parts are filled, one after the other. No loop.
+-- SPDX-License-Identifier: Apache-2.0 AND BSD-3-Clause
+-- `bitmap::set_range` meets its contract: the three parts are filled, one after the other. No loop. Assumes nothing.
 use Prim.Native.Nat.{_+_, _-_, _*_, _/_, _%_, min}
 use mathlib.Core.Path.{_≡_}
 use native.Mathlib.Omega.{arith}

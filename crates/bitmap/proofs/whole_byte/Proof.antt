@@ -1,4 +1,5 @@
--- `bitmap::whole_byte` meets its contract. No loop.
+-- SPDX-License-Identifier: Apache-2.0 AND BSD-3-Clause
+-- `bitmap::whole_byte` meets its contract. No loop. Assumes nothing.
 use Rattle.bitmap.specs.Whole.{whole}
 use Rattle.bitmap.proofs.whole_byte.Statement.{statement}
 use Rattle.bitmap.proofs.whole_byte.Tie as tie

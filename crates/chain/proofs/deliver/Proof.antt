@@ -1,3 +1,4 @@
+-- SPDX-License-Identifier: Apache-2.0 AND BSD-3-Clause
 -- `chain::deliver` meets its contract: the response is put where its 10 bytes are placed, and nothing is where they are not.
 use borrow.Author.Needs.{needs}
 use Rattle.chain.specs.Chain.{reaches, delivered}

@@ -1,3 +1,4 @@
+-- SPDX-License-Identifier: Apache-2.0 AND BSD-3-Clause
 -- `chain::parse` meets its contract: its two calls are those of `parsed`.
 use borrow.Author.Needs.{needs}
 use Rattle.chain.specs.Chain.{parsed}

@@ -1,3 +1,4 @@
+-- SPDX-License-Identifier: Apache-2.0 AND BSD-3-Clause
 -- `chain::with_first` meets its contract: each return is the leaf of `withFirst` at the tests that led there.
 use Rattle.chain.specs.Chain.{withFirst}
 use Rattle.descriptors.proofs.Laws.{place-found, place-outside}

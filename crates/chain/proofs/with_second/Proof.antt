@@ -1,3 +1,4 @@
+-- SPDX-License-Identifier: Apache-2.0 AND BSD-3-Clause
 -- `chain::with_second` meets its contract: each return is the leaf of `withSecond` at the tests that led there.
 use Rattle.chain.specs.Chain.{withSecond}
 use borrow.Author.Needs.{needs}

@@ -1,3 +1,4 @@
+-- SPDX-License-Identifier: Apache-2.0 AND BSD-3-Clause
 -- `descriptors::descriptor_at` meets its contract: each field is what is read at its offset.
 use borrow.Author.Needs.{needs}
 use Rattle.descriptors.specs.Standard.{descriptorAt}

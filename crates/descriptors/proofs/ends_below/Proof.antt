@@ -1,3 +1,4 @@
+-- SPDX-License-Identifier: Apache-2.0 AND BSD-3-Clause
 -- `descriptors::ends_below` meets its contract: no bytes end at the address, which is below 2^64; of more, the last one's address is tested.
 use Prim.Native.Nat.{_+_, _-_, _^_}
 use mathlib.Core.Path.{sym}

@@ -1,3 +1,4 @@
+-- SPDX-License-Identifier: Apache-2.0 AND BSD-3-Clause
 -- `descriptors::link_after` meets its contract: with the next flag it is the descriptor at `next`, and without it there is none.
 use borrow.Author.Needs.{needs}
 use Rattle.descriptors.specs.Descriptors.{linkAfter}

@@ -1,3 +1,4 @@
+-- SPDX-License-Identifier: Apache-2.0 AND BSD-3-Clause
 -- `descriptors::link_at` meets its contract: an index below 128 whose 16 bytes would pass 2^64 - 1, or are not placed, is missing.
 use Prim.Native.Nat.{_+_, _*_}
 use native.Mathlib.Omega.{arith}

@@ -1,4 +1,5 @@
--- `border_after` meets its contract.
+-- SPDX-License-Identifier: Apache-2.0 AND BSD-3-Clause
+-- `border_after` meets its contract. Assumes nothing.
 use Prim.Native.Nat.{_+_, _*_, _/_, _≤_}
 use native.Mathlib.Omega.{arith}
 use Rattle.units.specs.Numbers.{blocksIn, mapRegion}

@@ -1,4 +1,5 @@
--- `read_response` meets its contract.
+-- SPDX-License-Identifier: Apache-2.0 AND BSD-3-Clause
+-- `read_response` meets its contract. Assumes nothing.
 use mathlib.Core.Path.{sym}
 use native.Mathlib.Omega.{arith}
 use Rattle.driver.proofs.Laws.{response-means, response-text, response-refused, response-read}

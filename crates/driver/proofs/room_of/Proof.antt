@@ -1,4 +1,5 @@
--- `room_of` meets its contract.
+-- SPDX-License-Identifier: Apache-2.0 AND BSD-3-Clause
+-- `room_of` meets its contract. Assumes nothing.
 use Rattle.units.specs.Numbers.{blocksIn}
 use mathlib.Core.Path.{ap}
 use borrow.Author.Needs.{needs}

@@ -1,3 +1,4 @@
+-- SPDX-License-Identifier: Apache-2.0 AND BSD-3-Clause
 -- `forms::put_form_at` meets its contract. The invariant: the text put so far, with what is left of the form filled, is the whole (`Puts`).
 use Prim.Native.Nat.{_-_}
 use native.Mathlib.Omega.{arith}

@@ -1,3 +1,4 @@
+-- SPDX-License-Identifier: Apache-2.0 AND BSD-3-Clause
 -- `forms::scan` meets its contract: the scan at 0, if it ends where the text does.
 use borrow.Author.Needs.{needs}
 use Rattle.forms.proofs.Turns.{scan-nowhere, scan-at-end}

@@ -1,3 +1,4 @@
+-- SPDX-License-Identifier: Apache-2.0 AND BSD-3-Clause
 -- `forms::scan_at` meets its contract. The invariant: with the values so far, what is left to scan gives the whole's answer (`Left`).
 use Prim.Native.Nat.{_-_}
 use native.Mathlib.Omega.{arith}

@@ -1,3 +1,4 @@
+-- SPDX-License-Identifier: Apache-2.0 AND BSD-3-Clause
 -- `copy` meets its contract. The loop's invariant: writing what is left of `what` from `i` on gives what writing all of it gives.
 -- The measure is what is left of the count.
 use Prim.Native.Nat.{ℕ, _+_, _-_, _≤_, _<_, min}

@@ -1,4 +1,5 @@
--- `put_two` meets its contract: two stores are the two lowest bytes.
+-- SPDX-License-Identifier: Apache-2.0 AND BSD-3-Clause
+-- `put_two` meets its contract: two stores are the two lowest bytes. Assumes nothing.
 use native.Mathlib.Omega.{arith}
 use native.Mathlib.Numerals.{add-one}
 use lib.ListN.{length-set}

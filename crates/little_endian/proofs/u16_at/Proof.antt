@@ -1,4 +1,5 @@
--- `u16_at` meets its contract: a number is read by its halves, and a half of two bytes is a byte.
+-- SPDX-License-Identifier: Apache-2.0 AND BSD-3-Clause
+-- `u16_at` meets its contract: a number is read by its halves, and a half of two bytes is a byte. Assumes nothing.
 use Prim.Native.Nat.{ℕ, _<_, _+_}
 use mathlib.Core.Path.{_≡_}
 use mathlib.Core.List.{List}

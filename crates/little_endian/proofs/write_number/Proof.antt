@@ -1,3 +1,4 @@
+-- SPDX-License-Identifier: Apache-2.0 AND BSD-3-Clause
 -- `write_number` meets its contract. The loop's invariant: writing what is left of the number from `i` on gives what writing all of it from `at` on gives.
 -- The measure is what is left of the buffer.
 use Prim.Native.Nat.{ℕ, zero, suc, _+_, _-_, _/_, _%_}

@@ -1,3 +1,4 @@
+-- SPDX-License-Identifier: Apache-2.0 AND BSD-3-Clause
 -- `old_form::to_new` meets its contract.
 use mathlib.Core.List.{[]}
 use Rattle.old_form.proofs.Turns.{no-scratch, no-shape, wrong-number, wrong-byte, has-room, moved}

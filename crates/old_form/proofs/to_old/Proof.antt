@@ -1,3 +1,4 @@
+-- SPDX-License-Identifier: Apache-2.0 AND BSD-3-Clause
 -- `old_form::to_old` meets its contract.
 use mathlib.Core.Path.{refl}
 use Rattle.old_form.proofs.Turns.{number-at, fits-both, unpacked}

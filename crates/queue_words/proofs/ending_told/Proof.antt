@@ -1,3 +1,4 @@
+-- SPDX-License-Identifier: Apache-2.0 AND BSD-3-Clause
 -- `queue_words::ending_told` meets its contract: by the kind, and by the length of a response.
 use borrow.Author.Tests.{eq-eqb, ne-eqb}
 use Rattle.queue_words.specs.Words.{endingWords}

@@ -1,4 +1,5 @@
--- `queue_words::taken_of` meets its contract.
+-- SPDX-License-Identifier: Apache-2.0 AND BSD-3-Clause
+-- `queue_words::taken_of` meets its contract. Assumes nothing.
 use borrow.Author.Tests.{ne-eqb}
 use Rattle.queue_words.specs.Words.{takenOf}
 use borrow.Author.Needs.{needs}

@@ -1,4 +1,5 @@
--- `queue_words::taken_word` meets its contract, case by case.
+-- SPDX-License-Identifier: Apache-2.0 AND BSD-3-Clause
+-- `queue_words::taken_word` meets its contract, case by case. Assumes nothing.
 use native.Mathlib.Omega.{arith}
 use borrow.Author.Needs.{needs}
 use Rattle.queue_words.proofs.taken_word.Statement.{statement}

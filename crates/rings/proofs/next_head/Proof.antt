@@ -1,4 +1,5 @@
--- `rings::next_head` meets its contract: each return is one of 14, 15, none and a head, in their order.
+-- SPDX-License-Identifier: Apache-2.0 AND BSD-3-Clause
+-- `rings::next_head` meets its contract: each return is one of 14, 15, none and a head, in their order. Assumes nothing.
 use native.Mathlib.Omega.{arith}
 use borrow.Author.Tests.{lt-ltb, le-ltb, eq-eqb, ne-eqb}
 use denote.Ref.{now}

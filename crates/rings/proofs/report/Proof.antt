@@ -1,4 +1,5 @@
--- `rings::report` meets its contract: the element and the index are put where the ring is placed, and nothing where it is not.
+-- SPDX-License-Identifier: Apache-2.0 AND BSD-3-Clause
+-- `rings::report` meets its contract: the element and the index are put where the ring is placed, and nothing where it is not. Assumes nothing.
 use native.Mathlib.Omega.{arith}
 use borrow.Author.Needs.{needs}
 use denote.Ref.{now}

@@ -1,3 +1,4 @@
+-- SPDX-License-Identifier: Apache-2.0 AND BSD-3-Clause
 -- `runs::count_from` meets its contract.
 use Prim.Native.Nat.{min}
 use mathlib.Core.Path.{ap, sym, _∙_}

@@ -1,3 +1,4 @@
+-- SPDX-License-Identifier: Apache-2.0 AND BSD-3-Clause
 -- `runs::next_run` meets its contract.
 use Rattle.bitmap.specs.Blocks.{blocks}
 use Rattle.runs.proofs.Turns.{next-found, next-none}

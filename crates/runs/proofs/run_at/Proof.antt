@@ -1,3 +1,4 @@
+-- SPDX-License-Identifier: Apache-2.0 AND BSD-3-Clause
 -- `runs::run_at` meets its contract.
 use Rattle.forms.proofs.Parts.{part-nowhere}
 use Rattle.runs.specs.Text.{runLine}

@@ -1,3 +1,4 @@
+-- SPDX-License-Identifier: Apache-2.0 AND BSD-3-Clause
 -- `runs::run_ok` meets its contract.
 use Rattle.runs.specs.Reading.{runOk}
 use borrow.Author.Needs.{needs}

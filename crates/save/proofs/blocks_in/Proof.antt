@@ -1,3 +1,4 @@
+-- SPDX-License-Identifier: Apache-2.0 AND BSD-3-Clause
 -- `save::blocks_in` meets its contract.
 use mathlib.Core.Path.{_∙_, sym, ap}
 use native.Mathlib.Nat.{div-zero}

@@ -1,3 +1,4 @@
+-- SPDX-License-Identifier: Apache-2.0 AND BSD-3-Clause
 -- `save::check` meets its contract.
 use Rattle.save.proofs.Heading.{heads-at, heads-refused, checked-whole}
 use borrow.Author.Needs.{needs}

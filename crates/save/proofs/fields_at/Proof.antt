@@ -1,3 +1,4 @@
+-- SPDX-License-Identifier: Apache-2.0 AND BSD-3-Clause
 -- `save::fields_at` meets its contract.
 use mathlib.Core.Path.{refl}
 use Rattle.forms.proofs.Parts.{part-nowhere}

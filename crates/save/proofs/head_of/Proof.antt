@@ -1,3 +1,4 @@
+-- SPDX-License-Identifier: Apache-2.0 AND BSD-3-Clause
 -- `save::head_of` meets its contract: a law for each of its ways out.
 use Rattle.forms.proofs.Parts.{part-nowhere}
 use Rattle.save.specs.Text.{formLine}

@@ -1,3 +1,4 @@
+-- SPDX-License-Identifier: Apache-2.0 AND BSD-3-Clause
 -- `save::is_short` meets its contract.
 use Rattle.save.proofs.Turns.{whole-bytes, part-byte}
 use Rattle.save.proofs.is_short.Statement.{statement}

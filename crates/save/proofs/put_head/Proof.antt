@@ -1,3 +1,4 @@
+-- SPDX-License-Identifier: Apache-2.0 AND BSD-3-Clause
 -- `save::put_head` meets its contract.
 use Rattle.text.proofs.Puts.{then}
 use borrow.Author.Needs.{needs}

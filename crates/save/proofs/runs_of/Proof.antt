@@ -1,3 +1,4 @@
+-- SPDX-License-Identifier: Apache-2.0 AND BSD-3-Clause
 -- `save::runs_of` meets its contract: a law for each of its ways out.
 use mathlib.Core.Path.{refl}
 use native.Mathlib.Omega.{arith}

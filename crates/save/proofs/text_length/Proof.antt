@@ -1,3 +1,4 @@
+-- SPDX-License-Identifier: Apache-2.0 AND BSD-3-Clause
 -- `save::text_length` meets its contract.
 use native.Mathlib.Omega.{arith}
 use Rattle.save.proofs.Turns.{length-short, length-bad, length-fits, length-is}

@@ -1,3 +1,4 @@
+-- SPDX-License-Identifier: Apache-2.0 AND BSD-3-Clause
 -- `save::valid` meets its contract.
 use mathlib.Core.List.{[]}
 use native.Mathlib.Omega.{arith}

@@ -1,3 +1,4 @@
+-- SPDX-License-Identifier: Apache-2.0 AND BSD-3-Clause
 -- `save::write` meets its contract.
 use mathlib.Core.Path.{refl}
 use Rattle.save.proofs.Turns.{write-refused, write-short, write-fits, text-put}

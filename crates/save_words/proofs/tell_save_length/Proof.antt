@@ -1,3 +1,4 @@
+-- SPDX-License-Identifier: Apache-2.0 AND BSD-3-Clause
 -- `save_words::tell_save_length` meets its contract.
 use Rattle.save_words.proofs.Ways.{length-no-room, length-foreign, length-told}
 use borrow.Author.Needs.{needs}

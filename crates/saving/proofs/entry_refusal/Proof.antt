@@ -1,3 +1,4 @@
+-- SPDX-License-Identifier: Apache-2.0 AND BSD-3-Clause
 -- `saving::entry_refusal` meets its contract.
 use Rattle.saving.proofs.Turns.{no-shape, busy, ready}
 use borrow.Author.Needs.{needs}

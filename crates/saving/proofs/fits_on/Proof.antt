@@ -1,3 +1,4 @@
+-- SPDX-License-Identifier: Apache-2.0 AND BSD-3-Clause
 -- `saving::fits_on` meets its contract.
 use Rattle.saving.proofs.Turns.{other-place, other-size, all-clear}
 use borrow.Author.Needs.{needs}

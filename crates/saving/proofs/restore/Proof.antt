@@ -1,3 +1,4 @@
+-- SPDX-License-Identifier: Apache-2.0 AND BSD-3-Clause
 -- `saving::restore` meets its contract.
 use Rattle.saving.proofs.Turns.{shut-out, bitmap-short, unfit, text-bad, laid}
 use borrow.Author.Needs.{needs}

@@ -1,3 +1,4 @@
+-- SPDX-License-Identifier: Apache-2.0 AND BSD-3-Clause
 -- `saving::save` meets its contract.
 use Rattle.saving.proofs.Turns.{not-saved, saved}
 use borrow.Author.Needs.{needs}

@@ -1,3 +1,4 @@
+-- SPDX-License-Identifier: Apache-2.0 AND BSD-3-Clause
 -- `saving::save_length` meets its contract.
 use Rattle.saving.proofs.Turns.{not-measured, measured}
 use borrow.Author.Needs.{needs}

@@ -1,3 +1,4 @@
+-- SPDX-License-Identifier: Apache-2.0 AND BSD-3-Clause
 -- `text::put_number` meets its contract: the digits of n / 10, and after them the last. The measure is the number.
 use mathlib.Core.Path.{_∙_}
 use native.Mathlib.Omega.{arith}

@@ -1,3 +1,4 @@
+-- SPDX-License-Identifier: Apache-2.0 AND BSD-3-Clause
 -- `text::digit` meets its contract: the byte at the position is a digit, or lies outside of them.
 use borrow.Author.Needs.{needs}
 use mathlib.Core.Bool.{true, false}

@@ -1,3 +1,4 @@
+-- SPDX-License-Identifier: Apache-2.0 AND BSD-3-Clause
 -- `text::put` meets its contract: one byte stored, or no room.
 use mathlib.Core.Path.{sym}
 use native.Mathlib.Omega.{arith}

@@ -1,3 +1,4 @@
+-- SPDX-License-Identifier: Apache-2.0 AND BSD-3-Clause
 -- `text::read_number` meets its contract: by the first digit, and by the second where that is 0.
 use borrow.Author.Needs.{needs}
 use mathlib.Core.Path.{_∙_}

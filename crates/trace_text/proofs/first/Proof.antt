@@ -1,3 +1,4 @@
+-- SPDX-License-Identifier: Apache-2.0 AND BSD-3-Clause
 -- `trace_text::first` meets its contract: by cases on the first line.
 use mathlib.Core.Path.{ap, sym}
 use Rattle.trace_text.specs.Reading.{earlier}

@@ -1,3 +1,4 @@
+-- SPDX-License-Identifier: Apache-2.0 AND BSD-3-Clause
 -- `trace_text::first_line` meets its contract: by the test of the two ranges.
 use Rattle.trace_text.proofs.first_line.Statement.{statement}
 use Rattle.trace_text.proofs.first_line.Tie as tie

@@ -1,3 +1,4 @@
+-- SPDX-License-Identifier: Apache-2.0 AND BSD-3-Clause
 -- `trace_text::of_kind` meets its contract: the scan is found, or lost.
 use mathlib.Core.Path.{refl}
 use Rattle.forms.proofs.Laws.{scan-found, scan-lost}

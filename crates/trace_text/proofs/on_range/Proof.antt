@@ -1,3 +1,4 @@
+-- SPDX-License-Identifier: Apache-2.0 AND BSD-3-Clause
 -- `trace_text::on_range` meets its contract: op by op.
 use borrow.Author.Needs.{needs}
 use Rattle.trace_text.proofs.on_range.Statement.{statement}

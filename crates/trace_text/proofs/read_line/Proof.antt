@@ -1,3 +1,4 @@
+-- SPDX-License-Identifier: Apache-2.0 AND BSD-3-Clause
 -- `trace_text::read_line` meets its contract: the line is too long, or the kinds are tried in their order.
 use Rattle.trace_text.proofs.Laws.{any-cons, any-last, exact, too-long}
 use borrow.Author.Needs.{needs}

@@ -1,3 +1,4 @@
+-- SPDX-License-Identifier: Apache-2.0 AND BSD-3-Clause
 -- `read_config` meets its contract. The loop's invariant: laying the fields that are left gives what laying all eight gives.
 -- The measure is how many are left.
 use Prim.Native.Nat.{ℕ, _+_, _-_, _%_, _≤_, _<_}

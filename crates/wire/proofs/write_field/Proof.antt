@@ -1,3 +1,4 @@
+-- SPDX-License-Identifier: Apache-2.0 AND BSD-3-Clause
 -- `write_field` meets its contract: each store of two bytes makes the number two bytes longer.
 use mathlib.Core.Path.{_≡_}
 use native.Mathlib.Omega.{arith}

@@ -1,4 +1,5 @@
--- `words::pending_words` meets its contract, case by case.
+-- SPDX-License-Identifier: Apache-2.0 AND BSD-3-Clause
+-- `words::pending_words` meets its contract, case by case. Assumes nothing.
 use borrow.Author.Needs.{needs}
 use Rattle.words.proofs.pending_words.Statement.{statement}
 use Rattle.words.proofs.pending_words.Tie as tie

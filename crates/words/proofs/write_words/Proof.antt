@@ -1,3 +1,4 @@
+-- SPDX-License-Identifier: Apache-2.0 AND BSD-3-Clause
 -- `words::write_words` meets its contract. The loop's invariant: writing what is left of `what` from `i` on gives what writing all of it from the first word on gives.
 -- The measure is what is left of the words.
 use Prim.Native.Nat.{_-_}
