@@ -1,5 +1,5 @@
 -- SPDX-License-Identifier: Apache-2.0 AND BSD-3-Clause
--- The blocks of a list of bytes against the bytes: reading one, filling a part of one, and that the blocks tell the bytes. Assumes nothing.
+-- The blocks of a list of bytes against the bytes: reading one, filling a part of one, and that the blocks tell the bytes.
 use Prim.Native.Nat.{ℕ, zero, suc, _+_, _-_, _*_, _/_, _%_, _^_, _≤_, _<_}
 use mathlib.Core.Path.{_≡_, refl, ap, _∙_, sym}
 use mathlib.Core.Bool.{Bool, true, false}

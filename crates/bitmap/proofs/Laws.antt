@@ -1,5 +1,5 @@
 -- SPDX-License-Identifier: Apache-2.0 AND BSD-3-Clause
--- The laws of `specs/Blocks.antt` that a caller cites. Assumes nothing. By the first word of a law's name:
+-- The laws of `specs/Blocks.antt` that a caller cites. By the first word of a law's name:
 --     blocks-     of bytes: how many blocks they have, and those of a part of them
 --     range-      a range: one block at a time, past the end, in two parts, one of its blocks, its length, in the first n blocks
 --     every-      a list all in one state, in two parts

@@ -1,5 +1,5 @@
 -- SPDX-License-Identifier: Apache-2.0 AND BSD-3-Clause
--- What one turn of a loop over the blocks does, where the loop stands at bit k of byte j, with `left` blocks to go; and a range by its parts. Assumes nothing.
+-- What one turn of a loop over the blocks does, where the loop stands at bit k of byte j, with `left` blocks to go; and a range by its parts.
 use Prim.Native.Nat.{ℕ, zero, suc, _+_, _-_, _*_, _/_, _%_, _≤_, _<_}
 use mathlib.Core.Path.{_≡_, refl, ap, _∙_, sym}
 use mathlib.Core.Bool.{Bool, true, false, not, _&&_, Bool·beq}

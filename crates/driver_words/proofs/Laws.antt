@@ -1,5 +1,5 @@
 -- SPDX-License-Identifier: Apache-2.0 AND BSD-3-Clause
--- The ways that a call ends in: no room, a refusal, or the words of a value. Assumes nothing.
+-- The ways that a call ends in: no room, a refusal, or the words of a value.
 use Prim.Native.Nat.{ℕ, _≤_, _<_}
 use mathlib.Core.Path.{_≡_}
 use mathlib.Core.List.{List}

@@ -1,5 +1,5 @@
 -- SPDX-License-Identifier: Apache-2.0 AND BSD-3-Clause
--- 17 is given exactly if no plug of one block is acknowledged, and a proposal is as long as can be. Assumes nothing.
+-- 17 is given exactly if no plug of one block is acknowledged, and a proposal is as long as can be.
 use Prim.Native.Nat.{ℕ, suc, _+_, _-_, _*_, _/_, _%_, _≤_, _<_}
 use mathlib.Core.Path.{_≡_, refl, ap, sym}
 use mathlib.Core.Bool.{Bool, true, false, not, Bool·beq}

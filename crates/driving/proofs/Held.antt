@@ -1,5 +1,5 @@
 -- SPDX-License-Identifier: Apache-2.0 AND BSD-3-Clause
--- Guest memory that holds a request is parsed as that request, so the theorems on plugs need no word of the parse; and guest memory can be made to hold any. Assumes nothing.
+-- Guest memory that holds a request is parsed as that request, so the theorems on plugs need no word of the parse; and guest memory can be made to hold any.
 use Prim.Native.Nat.{ℕ, _+_, _-_, _≤_, _<_, _^_}
 use mathlib.Core.Path.{_≡_, refl, sym, ap, _∙_}
 use mathlib.Core.Bool.{Bool, true}

@@ -1,5 +1,5 @@
 -- SPDX-License-Identifier: Apache-2.0 AND BSD-3-Clause
--- Every response and every config that the device gives is read back by the driver: by one walk over `step`, of what a response leaves. Assumes nothing.
+-- Every response and every config that the device gives is read back by the driver: by one walk over `step`, of what a response leaves.
 use Prim.Native.Nat.{ℕ, _+_, _-_, _*_, _%_, _≤_, _<_, _^_}
 use mathlib.Core.Path.{_≡_, refl, sym, ap, _∙_}
 use mathlib.Core.Bool.{Bool, true, false, cond, not, _&&_, _||_}

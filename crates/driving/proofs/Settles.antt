@@ -1,5 +1,5 @@
 -- SPDX-License-Identifier: Apache-2.0 AND BSD-3-Clause
--- Where planning and plugging ends, and in how many plugs: each fills a run of free blocks, or spends the requested size. Assumes nothing.
+-- Where planning and plugging ends, and in how many plugs: each fills a run of free blocks, or spends the requested size.
 use Prim.Native.Nat.{ℕ, zero, suc, _+_, _-_, _*_, _/_, _%_, _≤_, _<_, min}
 use mathlib.Core.Path.{_≡_, refl, ap, _∙_}
 use mathlib.Core.Bool.{Bool, true, false, not, cond}

@@ -1,5 +1,5 @@
 -- SPDX-License-Identifier: Apache-2.0 AND BSD-3-Clause
--- A form that was filled scans to what it was filled with, and what was scanned was a filled form, whatever the form. Assumes nothing.
+-- A form that was filled scans to what it was filled with, and what was scanned was a filled form, whatever the form.
 use Prim.Native.Nat.{ℕ, zero, suc, _+_, _-_, _*_, _≤_, _<_}
 use mathlib.Core.Path.{_≡_, refl, sym, ap, _∙_}
 use mathlib.Core.Bool.{Bool, true, false, cond, not, _&&_}

@@ -1,5 +1,5 @@
 -- SPDX-License-Identifier: Apache-2.0 AND BSD-3-Clause
--- A plug that is acknowledged, opened: what is so of the world, whatever chain asks for it. Assumes nothing.
+-- A plug that is acknowledged, opened: what is so of the world, whatever chain asks for it.
 use Prim.Native.Nat.{ℕ, _+_, _-_, _%_, _≤_, _<_}
 use mathlib.Core.Path.{_≡_, refl, ap, _∙_}
 use mathlib.Core.Bool.{true}

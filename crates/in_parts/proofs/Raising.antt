@@ -1,5 +1,5 @@
 -- SPDX-License-Identifier: Apache-2.0 AND BSD-3-Clause
--- A plug under a higher requested size. Assumes nothing.
+-- A plug under a higher requested size.
 use Prim.Native.Nat.{ℕ, _*_, max, _≤_}
 use mathlib.Core.Path.{_≡_, refl, sym}
 use mathlib.Core.Bool.{true, false}

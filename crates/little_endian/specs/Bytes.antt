@@ -1,5 +1,5 @@
 -- SPDX-License-Identifier: Apache-2.0 AND BSD-3-Clause
--- Numbers as bytes, lowest byte first, and bytes written at a place. Assumes nothing.
+-- Numbers as bytes, lowest byte first, and bytes written at a place.
 use Prim.Native.Nat.{ℕ, zero, suc, _+_, _*_, _/_, _%_}
 use mathlib.Core.List.{List, [], _∷_}
 use lib.ListN.{take, drop, set}

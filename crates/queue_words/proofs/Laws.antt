@@ -1,5 +1,5 @@
 -- SPDX-License-Identifier: Apache-2.0 AND BSD-3-Clause
--- Encoding and decoding are inverse: a queue reads back from its words, and words that are a queue's are what it is written as. Assumes nothing.
+-- Encoding and decoding are inverse: a queue reads back from its words, and words that are a queue's are what it is written as.
 use Prim.Native.Nat.{ℕ, _+_, _-_, _≤_}
 use mathlib.Core.Path.{_≡_, refl, sym, ap}
 use mathlib.Core.Bool.{Bool, true, false, cond, _&&_}

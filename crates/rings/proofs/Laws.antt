@@ -1,5 +1,5 @@
 -- SPDX-License-Identifier: Apache-2.0 AND BSD-3-Clause
--- Laws on the rings, for callers: what a report leaves, whatever overlaps, and what indices that wrap come to. Assumes nothing.
+-- Laws on the rings, for callers: what a report leaves, whatever overlaps, and what indices that wrap come to.
 use Prim.Native.Nat.{ℕ, _+_, _-_, _*_, _%_, _≤_, _<_, _^_}
 use mathlib.Core.Path.{_≡_, ap, _∙_}
 use mathlib.Core.Bool.{true}

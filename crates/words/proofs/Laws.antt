@@ -1,5 +1,5 @@
 -- SPDX-License-Identifier: Apache-2.0 AND BSD-3-Clause
--- Words written one at a time are words written at once. Encoding and decoding are inverse: a record reads back from its words, and words that are a record's are what it is written as. Assumes nothing.
+-- Words written one at a time are words written at once. Encoding and decoding are inverse: a record reads back from its words, and words that are a record's are what it is written as.
 use Prim.Native.Nat.{ℕ, _+_, _≤_, _<_}
 use mathlib.Core.Path.{_≡_, refl, sym, ap, _∙_}
 use mathlib.Core.Bool.{Bool, true, false, _&&_}

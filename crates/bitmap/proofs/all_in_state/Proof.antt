@@ -1,5 +1,5 @@
 -- SPDX-License-Identifier: Apache-2.0 AND BSD-3-Clause
--- `bitmap::all_in_state` meets its contract: the answers for the three parts are the answer. No loop. Assumes nothing.
+-- `bitmap::all_in_state` meets its contract: the answers for the three parts are the answer. No loop.
 use Prim.Native.Nat.{_+_, _-_, _*_, _/_, _%_, min}
 use mathlib.Core.Path.{_≡_}
 use mathlib.Core.Bool.{_&&_}

@@ -1,5 +1,5 @@
 -- SPDX-License-Identifier: Apache-2.0 AND BSD-3-Clause
--- `bitmap::bit` meets its contract. No loop. Assumes nothing.
+-- `bitmap::bit` meets its contract. No loop.
 use borrow.Author.Needs.{needs}
 use mathlib.Core.Path.{sym}
 use Rattle.bitmap.proofs.Bits.{low-at}

@@ -1,5 +1,5 @@
 -- SPDX-License-Identifier: Apache-2.0 AND BSD-3-Clause
--- `bitmap::is_set` meets its contract. No loop. Assumes nothing.
+-- `bitmap::is_set` meets its contract. No loop.
 use borrow.Author.Needs.{needs}
 use mathlib.Core.Path.{_∙_}
 use Rattle.bitmap.proofs.Turns.{at-place, at-out}

@@ -1,5 +1,5 @@
 -- SPDX-License-Identifier: Apache-2.0 AND BSD-3-Clause
--- `bitmap::next_clear` meets its contract. Assumes nothing.
+-- `bitmap::next_clear` meets its contract.
 use borrow.Author.Needs.{needs}
 use Rattle.bitmap.proofs.next_clear.Statement.{statement}
 use Rattle.bitmap.proofs.next_clear.Tie as tie

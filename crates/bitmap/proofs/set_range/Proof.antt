@@ -1,5 +1,5 @@
 -- SPDX-License-Identifier: Apache-2.0 AND BSD-3-Clause
--- `bitmap::set_range` meets its contract: the three parts are filled, one after the other. No loop. Assumes nothing.
+-- `bitmap::set_range` meets its contract: the three parts are filled, one after the other. No loop.
 use Prim.Native.Nat.{_+_, _-_, _*_, _/_, _%_, min}
 use mathlib.Core.Path.{_≡_}
 use native.Mathlib.Omega.{arith}

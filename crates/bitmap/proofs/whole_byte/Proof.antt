@@ -1,5 +1,5 @@
 -- SPDX-License-Identifier: Apache-2.0 AND BSD-3-Clause
--- `bitmap::whole_byte` meets its contract. No loop. Assumes nothing.
+-- `bitmap::whole_byte` meets its contract. No loop.
 use Rattle.bitmap.specs.Whole.{whole}
 use Rattle.bitmap.proofs.whole_byte.Statement.{statement}
 use Rattle.bitmap.proofs.whole_byte.Tie as tie

@@ -1,5 +1,5 @@
 -- SPDX-License-Identifier: Apache-2.0 AND BSD-3-Clause
--- `bitmap::whole_word` meets its contract. No loop. Assumes nothing.
+-- `bitmap::whole_word` meets its contract. No loop.
 use Rattle.bitmap.specs.Whole.{whole, wholes}
 use Rattle.bitmap.proofs.whole_word.Statement.{statement}
 use Rattle.bitmap.proofs.whole_word.Tie as tie

@@ -1,5 +1,5 @@
 -- SPDX-License-Identifier: Apache-2.0 AND BSD-3-Clause
--- `border_after` meets its contract. Assumes nothing.
+-- `border_after` meets its contract.
 use Prim.Native.Nat.{_+_, _*_, _/_, _≤_}
 use native.Mathlib.Omega.{arith}
 use Rattle.units.specs.Numbers.{blocksIn, mapRegion}

@@ -1,5 +1,5 @@
 -- SPDX-License-Identifier: Apache-2.0 AND BSD-3-Clause
--- `read_response` meets its contract. Assumes nothing.
+-- `read_response` meets its contract.
 use mathlib.Core.Path.{sym}
 use native.Mathlib.Omega.{arith}
 use Rattle.driver.proofs.Laws.{response-means, response-text, response-refused, response-read}

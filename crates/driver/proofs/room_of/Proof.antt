@@ -1,5 +1,5 @@
 -- SPDX-License-Identifier: Apache-2.0 AND BSD-3-Clause
--- `room_of` meets its contract. Assumes nothing.
+-- `room_of` meets its contract.
 use Rattle.units.specs.Numbers.{blocksIn}
 use mathlib.Core.Path.{ap}
 use borrow.Author.Needs.{needs}

@@ -1,5 +1,5 @@
 -- SPDX-License-Identifier: Apache-2.0 AND BSD-3-Clause
--- `stop_at` meets its contract. Assumes nothing.
+-- `stop_at` meets its contract.
 use mathlib.Core.Path.{ap, sym, _∙_}
 use Rattle.bitmap.specs.declared.Found.{Found}
 use Rattle.driver.specs.Plan.{stopAt}

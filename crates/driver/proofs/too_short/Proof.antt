@@ -1,5 +1,5 @@
 -- SPDX-License-Identifier: Apache-2.0 AND BSD-3-Clause
--- `too_short` meets its contract. Assumes nothing.
+-- `too_short` meets its contract.
 use Prim.Native.Nat.{ℕ, _*_, _+_, _/_, _%_}
 use mathlib.Core.Path.{_≡_}
 use native.Mathlib.Omega.{arith}

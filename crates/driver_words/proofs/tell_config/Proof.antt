@@ -1,5 +1,5 @@
 -- SPDX-License-Identifier: Apache-2.0 AND BSD-3-Clause
--- `driver_words::tell_config` meets its contract: no room, a refusal, or the words. Assumes nothing.
+-- `driver_words::tell_config` meets its contract: no room, a refusal, or the words.
 use Rattle.driver_words.specs.Told.{configGives}
 use Rattle.driver_words.proofs.Laws.{no-room, refused, given}
 use borrow.Author.Needs.{needs}

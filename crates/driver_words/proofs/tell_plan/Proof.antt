@@ -1,5 +1,5 @@
 -- SPDX-License-Identifier: Apache-2.0 AND BSD-3-Clause
--- `driver_words::tell_plan` meets its contract: no room, a refusal of the bytes or of the planner, or the words. Assumes nothing.
+-- `driver_words::tell_plan` meets its contract: no room, a refusal of the bytes or of the planner, or the words.
 use Rattle.driver_words.specs.Told.{planGives, proposalGives}
 use Rattle.driver_words.proofs.Laws.{no-room, refused, given}
 use borrow.Author.Needs.{needs}

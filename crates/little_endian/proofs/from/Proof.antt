@@ -1,5 +1,5 @@
 -- SPDX-License-Identifier: Apache-2.0 AND BSD-3-Clause
--- `from` meets its contract: what stands from `at` on, and nothing where the slice ends before. Assumes nothing.
+-- `from` meets its contract: what stands from `at` on, and nothing where the slice ends before.
 use mathlib.Core.Path.{sym}
 use Prim.Native.Nat.{_-_}
 use native.Mathlib.Omega.{arith}

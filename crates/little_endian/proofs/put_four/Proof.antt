@@ -1,5 +1,5 @@
 -- SPDX-License-Identifier: Apache-2.0 AND BSD-3-Clause
--- `put_four` meets its contract: a number is written by its halves. Assumes nothing.
+-- `put_four` meets its contract: a number is written by its halves.
 use Rattle.little_endian.proofs.Laws.{put-halves}
 use borrow.Author.Needs.{needs}
 use Rattle.little_endian.proofs.put_four.Statement.{statement}

@@ -1,5 +1,5 @@
 -- SPDX-License-Identifier: Apache-2.0 AND BSD-3-Clause
--- `put_two` meets its contract: two stores are the two lowest bytes. Assumes nothing.
+-- `put_two` meets its contract: two stores are the two lowest bytes.
 use native.Mathlib.Omega.{arith}
 use native.Mathlib.Numerals.{add-one}
 use lib.ListN.{length-set}

@@ -1,5 +1,5 @@
 -- SPDX-License-Identifier: Apache-2.0 AND BSD-3-Clause
--- `read_cut` meets its contract: the bytes that are there, with zeros behind them, mean the same number. Assumes nothing.
+-- `read_cut` meets its contract: the bytes that are there, with zeros behind them, mean the same number.
 use Prim.Native.Nat.{ℕ, _+_, _≤_, _<_}
 use mathlib.Core.Path.{_≡_, sym, ap, _∙_}
 use mathlib.Core.List.{List}

@@ -1,5 +1,5 @@
 -- SPDX-License-Identifier: Apache-2.0 AND BSD-3-Clause
--- `u16_at` meets its contract: a number is read by its halves, and a half of two bytes is a byte. Assumes nothing.
+-- `u16_at` meets its contract: a number is read by its halves, and a half of two bytes is a byte.
 use Prim.Native.Nat.{ℕ, _<_, _+_}
 use mathlib.Core.Path.{_≡_}
 use mathlib.Core.List.{List}

@@ -1,5 +1,5 @@
 -- SPDX-License-Identifier: Apache-2.0 AND BSD-3-Clause
--- `queue_words::decode_queue` meets its contract, test by test and then field by field. Assumes nothing.
+-- `queue_words::decode_queue` meets its contract, test by test and then field by field.
 use mathlib.Core.Path.{refl}
 use mathlib.Core.Bool.{_&&_}
 use native.Mathlib.Omega.{arith}

@@ -1,5 +1,5 @@
 -- SPDX-License-Identifier: Apache-2.0 AND BSD-3-Clause
--- `queue_words::encode_queue` meets its contract: both ways write the words of the queue. Assumes nothing.
+-- `queue_words::encode_queue` meets its contract: both ways write the words of the queue.
 use Prim.Native.Nat.{ℕ, _≤_}
 use mathlib.Core.Path.{_≡_, ap, _∙_}
 use mathlib.Core.Bool.{true}

@@ -1,5 +1,5 @@
 -- SPDX-License-Identifier: Apache-2.0 AND BSD-3-Clause
--- `queue_words::queue_words` meets its contract: they are words of a queue, since the indices and a head are of 16 bits. Assumes nothing.
+-- `queue_words::queue_words` meets its contract: they are words of a queue, since the indices and a head are of 16 bits.
 use native.Mathlib.Omega.{arith}
 use Rattle.queue_words.specs.Words.{queueWords}
 use Rattle.queue_words.proofs.Laws.{fits-queue}

@@ -1,5 +1,5 @@
 -- SPDX-License-Identifier: Apache-2.0 AND BSD-3-Clause
--- `queue_words::store_queue` meets its contract: six stores write the six words. Assumes nothing.
+-- `queue_words::store_queue` meets its contract: six stores write the six words.
 use Prim.Native.Nat.{ℕ}
 use mathlib.Core.Path.{_≡_, sym, _∙_}
 use mathlib.Core.List.{List}

@@ -1,5 +1,5 @@
 -- SPDX-License-Identifier: Apache-2.0 AND BSD-3-Clause
--- `queue_words::taken_of` meets its contract. Assumes nothing.
+-- `queue_words::taken_of` meets its contract.
 use borrow.Author.Tests.{ne-eqb}
 use Rattle.queue_words.specs.Words.{takenOf}
 use borrow.Author.Needs.{needs}

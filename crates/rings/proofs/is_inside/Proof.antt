@@ -1,5 +1,5 @@
 -- SPDX-License-Identifier: Apache-2.0 AND BSD-3-Clause
--- `rings::is_inside` meets its contract: a place is told exactly where the bytes lie inside. Assumes nothing.
+-- `rings::is_inside` meets its contract: a place is told exactly where the bytes lie inside.
 use mathlib.Core.Path.{sym}
 use Rattle.descriptors.proofs.Laws.{place-found, place-outside}
 use borrow.Author.Needs.{needs}

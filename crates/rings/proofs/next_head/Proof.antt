@@ -1,5 +1,5 @@
 -- SPDX-License-Identifier: Apache-2.0 AND BSD-3-Clause
--- `rings::next_head` meets its contract: each return is one of 14, 15, none and a head, in their order. Assumes nothing.
+-- `rings::next_head` meets its contract: each return is one of 14, 15, none and a head, in their order.
 use native.Mathlib.Omega.{arith}
 use borrow.Author.Tests.{lt-ltb, le-ltb, eq-eqb, ne-eqb}
 use denote.Ref.{now}

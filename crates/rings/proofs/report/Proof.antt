@@ -1,5 +1,5 @@
 -- SPDX-License-Identifier: Apache-2.0 AND BSD-3-Clause
--- `rings::report` meets its contract: the element and the index are put where the ring is placed, and nothing where it is not. Assumes nothing.
+-- `rings::report` meets its contract: the element and the index are put where the ring is placed, and nothing where it is not.
 use native.Mathlib.Omega.{arith}
 use borrow.Author.Needs.{needs}
 use denote.Ref.{now}

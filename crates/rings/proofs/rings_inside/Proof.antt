@@ -1,5 +1,5 @@
 -- SPDX-License-Identifier: Apache-2.0 AND BSD-3-Clause
--- `rings::rings_inside` meets its contract: both tests are made, and both hold. Assumes nothing.
+-- `rings::rings_inside` meets its contract: both tests are made, and both hold.
 use Rattle.rings.specs.Rings.{ringsInside}
 use borrow.Author.Needs.{needs}
 use Rattle.rings.proofs.rings_inside.Statement.{statement}

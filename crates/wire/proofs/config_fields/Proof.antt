@@ -1,5 +1,5 @@
 -- SPDX-License-Identifier: Apache-2.0 AND BSD-3-Clause
--- `config_fields` meets its contract: the constant of the code is the table of the definitions, pair by pair. Assumes nothing.
+-- `config_fields` meets its contract: the constant of the code is the table of the definitions, pair by pair.
 use mathlib.Core.Path.{refl}
 use Rattle.wire.specs.Layout.{configFields}
 use Rattle.wire.proofs.config_fields.Statement.{statement}

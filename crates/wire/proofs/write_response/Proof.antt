@@ -1,5 +1,5 @@
 -- SPDX-License-Identifier: Apache-2.0 AND BSD-3-Clause
--- `write_response` meets its contract: the type as a number of eight bytes, and behind it the state, where it has a place. Assumes nothing.
+-- `write_response` meets its contract: the type as a number of eight bytes, and behind it the state, where it has a place.
 use Prim.Native.Nat.{ℕ, _+_, _/_, _<_}
 use mathlib.Core.Path.{_≡_, sym}
 use mathlib.Core.List.{List, _++_}

@@ -1,5 +1,5 @@
 -- SPDX-License-Identifier: Apache-2.0 AND BSD-3-Clause
--- `words::decode` meets its contract, test by test and then field by field. Assumes nothing.
+-- `words::decode` meets its contract, test by test and then field by field.
 use mathlib.Core.Path.{refl, sym, _∙_}
 use mathlib.Core.Bool.{_&&_}
 use native.Mathlib.Omega.{arith}

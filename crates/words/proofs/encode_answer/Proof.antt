@@ -1,5 +1,5 @@
 -- SPDX-License-Identifier: Apache-2.0 AND BSD-3-Clause
--- `words::encode_answer` meets its contract: seven stores write what a host's answer may change. Assumes nothing.
+-- `words::encode_answer` meets its contract: seven stores write what a host's answer may change.
 use Prim.Native.Nat.{ℕ, _≤_, _<_}
 use mathlib.Core.Path.{_≡_}
 use mathlib.Core.List.{List}
