@@ -1,6 +1,6 @@
 -- SPDX-License-Identifier: Apache-2.0 AND BSD-3-Clause
 -- What a packed bitmap means: a list of truth values, one for each block, block 0 first, true where the block is plugged.
--- Every definition but `blocks` and the last two is on that list alone. "Exists" means "is in the list": what lies past the end is in no range.
+-- Only `lowBits`, `blocks`, `Outside` and `Filled` speak of bytes: every other definition is on that list. A block exists if it is in the list: what lies past the end is in no range (R8.2).
 use Prim.Native.Nat.{ℕ, zero, suc, _+_, _-_, _*_, _/_, _%_, _≤_}
 use mathlib.Core.Path.{_≡_}
 use mathlib.Core.Bool.{Bool, true, false, cond, _&&_, Bool·beq}
@@ -15,12 +15,12 @@ unfoldable pub lowBits : ℕ → ℕ → List Bool
 lowBits zero x = []
 lowBits (suc n) x = eqb (x % 2) 1 ∷ lowBits n (x / 2)
 
--- "block 8j+k is bit k of byte j, set when plugged"
+-- R8.1: block 8j+k is bit k of byte j
 unfoldable pub blocks : List ℕ → List Bool
 blocks [] = []
 blocks (x ∷ xs) = lowBits 8 x ++ blocks xs
 
--- block i; past the end none is plugged
+-- block i; past the end none is plugged (R8.2)
 abbrev pub blockAt : List Bool → ℕ → Bool
 blockAt bs i = getD bs i false
 
@@ -65,7 +65,7 @@ nextSet bs from end = nextOf true bs from end
 abbrev pub nextClear : List Bool → ℕ → ℕ → Found
 nextClear bs from end = nextOf false bs from end
 
--- the lent bytes at entry and at exit differ in no byte that lies wholly outside the blocks from `first` to `end`
+-- R2.11: the lent bytes at entry and at exit differ in no byte that lies wholly outside the blocks from `first` to `end`
 pub record Outside (entry exit : List ℕ) (first end : ℕ) : Type 0 where
   pub same-length : length exit ≡ length entry
   pub same-before : (n : ℕ) → 8 * n ≤ first → take n exit ≡ take n entry

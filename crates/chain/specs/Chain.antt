@@ -1,5 +1,5 @@
 -- SPDX-License-Identifier: Apache-2.0 AND BSD-3-Clause
--- The chain (01, "The chain"), sentence by sentence and test by test, over the bytes of guest memory and its base address.
+-- The chain, test by test (R9), over the bytes of guest memory and its base address.
 use Prim.Native.Nat.{ℕ, _-_}
 use mathlib.Core.Bool.{Bool, cond, not}
 use mathlib.Core.List.{List}
@@ -16,7 +16,7 @@ use Rattle.descriptors.specs.Descriptors.{inside, linkAt, linkAfter}
 use Rattle.chain.specs.declared.Parsed.{Parsed}
 use Rattle.chain.specs.declared.Parsed.the-variants.{Request, Bad}
 
--- ---- the reasons
+-- ---- the reasons: R1.21, R1.22, R1.23, R1.24, R1.25, R1.26, R1.27
 abbrev pub missing : Parsed
 missing = Bad 21
 
@@ -38,7 +38,7 @@ secondUnder10 = Bad 26
 abbrev pub indirect : Parsed
 indirect = Bad 27
 
--- "21 second missing; 27; 25 second not writable; 26 second under 10"; "Later descriptors are ignored"
+-- R9.5; R9.6: no later descriptor is looked at
 unfoldable pub withSecond : VirtioMemReq → Link → Parsed
 withSecond req Missing = missing
 withSecond req (Is second) =
@@ -47,7 +47,7 @@ withSecond req (Is second) =
     (cond (ltb (second .len) 10) secondUnder10
     (Request req (second .addr))))
 
--- "21 first missing; 27 indirect flag; 22 first is write-only; 23 length not 24; 24 request bytes not inside"
+-- R9.4
 unfoldable pub withFirst : List ℕ → ℕ → ℕ → Link → Parsed
 withFirst mem base table Missing = missing
 withFirst mem base table (Is first) =
@@ -57,7 +57,7 @@ withFirst mem base table (Is first) =
     (cond (not (inside (length mem) base (first .addr .0) 24)) requestNotInside
     (withSecond (requestAt mem (first .addr .0 - base)) (linkAfter mem base table first)))))
 
--- "Tests in order, each .. with its reason": the request and the status address, or the first reason against them
+-- the request and the status address, or the first reason against them
 unfoldable pub parsed : List ℕ → ℕ → ℕ → ℕ → Parsed
 parsed mem base table head = withFirst mem base table (linkAt mem base table head)
 
@@ -66,10 +66,10 @@ abbrev pub reasonOf : Parsed → ℕ
 reasonOf (Request req status) = 0
 reasonOf (Bad reason) = reason
 
--- "The response goes to the status address": whether its 10 bytes are wholly inside
+-- R9.10: the response's 10 bytes are wholly inside
 unfoldable pub reaches : List ℕ → ℕ → ℕ → Bool
 reaches mem base status = inside (length mem) base status 10
 
--- "If its 10 bytes are not wholly inside, nothing is written": guest memory afterwards
+-- R9.10: guest memory afterwards
 unfoldable pub delivered : List ℕ → ℕ → ℕ → VirtioMemResp → List ℕ
 delivered mem base status resp = cond (reaches mem base status) (put mem (status - base) (responseBytes resp)) mem

@@ -36,7 +36,7 @@ impl Parsed {
     }
 }
 
-// The tests of the second descriptor, in 01's order.
+// The tests of the second descriptor (R9.5).
 fn with_second(req: VirtioMemReq, found: Link) -> Parsed
     ensures { λ r. ⌜ r ≡ withSecond req found ⌝ }
 {
@@ -59,7 +59,7 @@ fn with_second(req: VirtioMemReq, found: Link) -> Parsed
     Parsed::Request(req, status)
 }
 
-// The tests of the first descriptor, in 01's order; the request is read here and nowhere else.
+// The tests of the first descriptor (R9.4); the request is read here and nowhere else (R9.9).
 fn with_first(mem: &[u8], base: GuestAddr, table: GuestAddr, found: Link) -> Parsed
     ensures { λ r. ⌜ r ≡ withFirst (now (mem .entry)) (base .0) (table .0) found ⌝ }
 {

@@ -1,5 +1,5 @@
 -- SPDX-License-Identifier: Apache-2.0 AND BSD-3-Clause
--- Where bytes lie in guest memory, and the descriptors of a chain (01, "The chain").
+-- Where bytes lie in guest memory, and the descriptors of a chain (R9).
 use Prim.Native.Nat.{ℕ, _+_, _-_, _^_}
 use mathlib.Core.Bool.{Bool, cond, _&&_}
 use mathlib.Core.List.{List}
@@ -12,7 +12,7 @@ use Rattle.descriptors.specs.declared.Link.{Link}
 use Rattle.descriptors.specs.declared.Link.the-variants.{Is, Missing}
 use Rattle.descriptors.specs.Standard.{descriptorAt, descriptorAddr, hasNext}
 
--- "Memory is one lent slice with a base address. .. No byte past 2^64 - 1 is inside": n bytes at addr, of len bytes at base
+-- R9.1: n bytes at addr are inside the len bytes at base
 unfoldable pub inside : ℕ → ℕ → ℕ → ℕ → Bool
 inside len base addr n = leb base addr && (leb (addr + n) (base + len) && leb (addr + n) (2 ^ 64))
 
@@ -20,13 +20,13 @@ inside len base addr n = leb base addr && (leb (addr + n) (base + len) && leb (a
 unfoldable pub placeOf : ℕ → ℕ → ℕ → ℕ → Place
 placeOf len base addr n = cond (inside len base addr n) (At (addr - base)) Outside
 
--- "Missing: .. index 128 or more, or its 16 bytes not inside"
+-- R9.3: the descriptor of an index
 unfoldable pub linkAt : List ℕ → ℕ → ℕ → ℕ → Link
 linkAt mem base table index =
     cond (ltb index 128 && inside (length mem) base (descriptorAddr table index) 16)
     (Is (descriptorAt mem (descriptorAddr table index - base)))
     Missing
 
--- "Missing: no next flag, ..": the descriptor after a descriptor
+-- R9.3: the descriptor after a descriptor
 unfoldable pub linkAfter : List ℕ → ℕ → ℕ → Descriptor → Link
 linkAfter mem base table d = cond (hasNext d) (linkAt mem base table (d .next)) Missing

@@ -11,7 +11,7 @@ use Rattle.descriptors.specs.declared.Descriptor.{Descriptor}
 unfoldable pub virtqDesc : ℕ → ℕ → ℕ → ℕ → List ℕ
 virtqDesc addr len flags next = littleEndian 8 addr ++ littleEndian 4 len ++ littleEndian 2 flags ++ littleEndian 2 next
 
--- the descriptor that stands from byte `at` on
+-- R9.2: the descriptor that stands from byte `at` on
 unfoldable pub descriptorAt : List ℕ → ℕ → Descriptor
 descriptorAt mem at =
     record {

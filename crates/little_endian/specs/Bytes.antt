@@ -4,21 +4,21 @@ use Prim.Native.Nat.{ℕ, zero, suc, _+_, _*_, _/_, _%_}
 use mathlib.Core.List.{List, [], _∷_}
 use lib.ListN.{take, drop, set}
 
--- 01, Bytes: "All little-endian". The number that bytes mean.
+-- R7.1: the number that bytes mean
 unfoldable pub value : List ℕ → ℕ
 value [] = 0
 value (b ∷ bs) = b + 256 * value bs
 
--- 01, Bytes: "All little-endian". The n bytes of v.
+-- R7.1: the n bytes of v
 unfoldable pub littleEndian : ℕ → ℕ → List ℕ
 littleEndian zero v = []
 littleEndian (suc n) v = v % 256 ∷ littleEndian n (v / 256)
 
--- the n bytes of xs from `at` on, fewer where xs ends
+-- R7.8: the n bytes of xs from `at` on, fewer where xs ends
 unfoldable pub part : List ℕ → ℕ → ℕ → List ℕ
 part xs at n = take n (drop at xs)
 
--- xs with ys written from `at` on; what would pass the end is dropped
+-- R7.8: xs with ys written from `at` on; what would pass the end is dropped
 unfoldable pub put : List ℕ → ℕ → List ℕ → List ℕ
 put xs at [] = xs
 put xs at (y ∷ ys) = put (set xs at y) (suc at) ys

@@ -1,5 +1,5 @@
 -- SPDX-License-Identifier: Apache-2.0 AND BSD-3-Clause
--- The queue (02, request 1): the next head of the available ring, and a head put into the used ring.
+-- The rings of the queue (R13): the next head of the available ring, and a head put into the used ring.
 use Prim.Native.Nat.{ℕ, _+_, _-_, _*_, _%_}
 use mathlib.Core.Bool.{Bool, cond, not, _&&_}
 use mathlib.Core.List.{List}
@@ -12,24 +12,24 @@ use Rattle.rings.specs.declared.Next.{Next}
 use Rattle.rings.specs.declared.Next.the-variants.{Head, Empty, Refused}
 use Rattle.rings.specs.Standard.{availableBytes, usedBytes, availableIndex, availableHead, usedElement}
 
--- "Queue size 128"
+-- R13.2
 abbrev pub queueSize : ℕ
 queueSize = 128
 
--- "with 16-bit indices that wrap"
+-- R13.3
 abbrev pub indexAfter : ℕ → ℕ
 indexAfter index = (index + 1) % 65536
 
--- how far an index is ahead of another
+-- R13.6: how far an index is ahead of another
 abbrev pub aheadOf : (index of : ℕ) → ℕ
 aheadOf index of = (index + 65536 - of) % 65536
 
--- "A ring not wholly inside guest memory is refused as new number 14"
+-- R13.5
 unfoldable pub ringsInside : (len base : ℕ) → Queue → Bool
 ringsInside len base q =
     inside len base (q .available .0) (availableBytes queueSize) && inside len base (q .used .0) (usedBytes queueSize)
 
--- 14; "An available index more than 128 ahead is refused as 15, tested after 14"; then "take the next head", if there is one
+-- R13.4 to R13.6: 14 (R1.14), 15 (R1.15), no head, or the next one
 unfoldable pub nextHead : List ℕ → (base : ℕ) → Queue → Next
 nextHead mem base q =
     let at = q .available .0 - base in
@@ -39,7 +39,7 @@ nextHead mem base q =
     (cond (eqb ahead 0) Empty
     (Head (availableHead mem at (q .«next_available» % queueSize)))))
 
--- "put head and length in the used ring": the element, then the index after it
+-- R13.8: the element, then the index after it
 unfoldable pub reported : List ℕ → (base used index head length : ℕ) → List ℕ
 reported mem base used index head len =
     cond (inside (length mem) base used (usedBytes queueSize))

@@ -4,7 +4,7 @@ use Prim.Native.Nat.{ℕ, _+_, _*_, _≤_, _<_}
 use mathlib.Core.List.{List, [], _∷_, _++_}
 use Rattle.little_endian.specs.Bytes.{value, littleEndian, part}
 
--- Q1: how long the rings of a queue are, with the two bytes behind the entries
+-- Q1, R13.2: how long the rings of a queue are, with the two bytes behind the entries
 abbrev pub availableBytes : (size : ℕ) → ℕ
 availableBytes size = 6 + 2 * size
 

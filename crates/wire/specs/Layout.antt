@@ -1,5 +1,5 @@
 -- SPDX-License-Identifier: Apache-2.0 AND BSD-3-Clause
--- The request, the response and the config as 01 lays them out.
+-- The request, the response and the config, byte by byte (R7).
 use Prim.Native.Nat.{ℕ, _+_}
 use mathlib.Core.List.{List, [], _∷_, _++_}
 use lib.ListN.{replicate}
@@ -9,7 +9,7 @@ use Rattle.wire.specs.declared.VirtioMemConfig.{VirtioMemConfig}
 use Rattle.wire.specs.declared.Field.{Field}
 use Rattle.little_endian.specs.Bytes.{value, littleEndian, part, put}
 
--- "Request, 24: type at 0 (2 bytes), address at 8 (8), blocks at 16 (2); others ignored."
+-- R7.2: the request that stands from byte `at` on
 unfoldable pub requestAt : List ℕ → ℕ → VirtioMemReq
 requestAt xs at =
     record {
@@ -18,11 +18,11 @@ requestAt xs at =
       «nb_blocks» = value (part xs (at + 16) 2);
     }
 
--- "Response, 10: type at 0, six zeros, state at 8."
+-- R7.3
 unfoldable pub responseBytes : VirtioMemResp → List ℕ
 responseBytes r = littleEndian 2 (r .«resp_type») ++ (replicate 6 0 ++ littleEndian 2 (r .state))
 
--- "block size 0/8, node 8/2, zeros 10/6, start 16/8, region 24/8, usable 32/8, plugged 40/8, requested 48/8"
+-- R7.5: the offset and the width of each field
 unfoldable pub configFields : List Field
 configFields =
     record { 0 = 0; 1 = 8 }
@@ -54,11 +54,11 @@ laid xs [] vs = xs
 laid xs (f ∷ fs) [] = xs
 laid xs (f ∷ fs) (v ∷ vs) = laid (put xs (f .0) (littleEndian (f .1) v)) fs vs
 
--- "Config is 56 bytes, and one table of field offsets and widths serves every read"
+-- R7.5: the 56 bytes of a config
 unfoldable pub configBytes : VirtioMemConfig → List ℕ
 configBytes c = laid (replicate 56 0) configFields (configValues c)
 
--- a config before the device is placed: no start, nothing usable, nothing plugged
+-- R4.7: a config before the device is placed: no start, nothing usable, nothing plugged
 abbrev pub newConfig : ℕ → ℕ → ℕ → ℕ → VirtioMemConfig
 newConfig blockSize node region requested =
     record {
