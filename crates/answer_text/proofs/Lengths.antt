@@ -1,5 +1,5 @@
 -- SPDX-License-Identifier: Apache-2.0 AND BSD-3-Clause
--- "lines up to 200 bytes": so is every answer, and a buffer of 200 bytes has room for it.
+-- Every answer has at most 200 bytes (R12.1), and a buffer of 200 bytes has room for it.
 use Prim.Native.Nat.{ℕ, _+_, _*_, _≤_}
 use mathlib.Core.List.{List}
 use native.Mathlib.Omega.{arith}

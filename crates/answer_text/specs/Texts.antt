@@ -1,5 +1,5 @@
 -- SPDX-License-Identifier: Apache-2.0 AND BSD-3-Clause
--- What a trace prints (01, "Trace lines"): the text of each answer.
+-- What a trace prints (R12.6): the text of each answer.
 use Prim.Native.Nat.{ℕ}
 use mathlib.Core.List.{List, [], _∷_}
 use Rattle.units.specs.declared.GuestAddr.{GuestAddr}
@@ -24,6 +24,6 @@ sizedText requested usable = filled (bytes "sized=0 requested=# usable=#") (requ
 abbrev pub responseText : ℕ → ℕ → ℕ → ℕ → List ℕ
 responseText resp state plugged usable = filled (bytes "resp=# state=# plugged=# usable=#") (resp ∷ state ∷ plugged ∷ usable ∷ [])
 
--- "A refusal, 10 too, prints `refuse=N`"
+-- a refusal, 10 too: `refuse=13`
 abbrev pub refusalText : ℕ → List ℕ
 refusalText number = filled (bytes "refuse=#") (number ∷ [])

@@ -102,7 +102,7 @@ state-moved f bs scratch room st long fits =
 pub first-of : (text out : List ℕ) → length text ≤ length out → take (length text) (sets out 0 text) ≡ text
 first-of text out h = ap (take (length text)) (sets-eq text out 0 (omega arith)) ∙ take-at text (drop (0 + length text) out) (length text) refl
 
--- "Old to new to old gives the same bytes": from whatever was written, with any scratch, into any buffer with room
+-- R15.10: from whatever was written, with any scratch, into any buffer with room
 pub old-new-old : {f : Fields} {old scratch scratch′ out out′ : List ℕ} {n : ℕ} → ToNew f old scratch scratch′ out out′ (Text n)
     → (work work′ into into′ : List ℕ) (r : Got) → noRoom work ≡ false → length old ≤ length into → ToOld (take n out′) work work′ into into′ r
     → (r ≡ got.Fields f) × (take (length old) into′ ≡ old)
@@ -124,7 +124,7 @@ old-new-old {f} {old} {scratch} {scratch′} {out} {out′} {n} m work work′ i
         let b = bits-length old in
         absurd (o .0 .none f (bitsOf old) (record { long = long; says = says; fits = omega arith }))
 
--- "new to old to new gives the same text"
+-- R15.10
 pub new-old-new : (s scratch scratch′ old old′ : List ℕ) (f : Fields) (o : ToOld s scratch scratch′ old old′ (got.Fields f))
     → (work work′ out out′ : List ℕ) (r : Wrote) → noRoom work ≡ false → length s ≤ length out → ToNew f (take (allOf f) old′) work work′ out out′ r
     → (r ≡ Text (length s)) × (take (length s) out′ ≡ s)

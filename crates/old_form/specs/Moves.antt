@@ -18,20 +18,20 @@ use Rattle.old_form.specs.Old.{oldOf, isOld, bitsOf}
 
 -- ---- old to new
 
--- old bytes of a region of this shape: neither "a wrong number of old bytes" nor "a byte above 1"
+-- R15.8: old bytes of a region of this shape, one for each block and none above 1
 unfoldable pub oldOk : Fields → List ℕ → Bool
 oldOk f old = shapeOk f && (eqb (length old) (allOf f) && isOld old)
 
 abbrev pub newText : Fields → List ℕ → List ℕ
 newText f old = textOf 2 f (bitsOf old)
 
--- 11 for a short scratch; 18 for what is no state, and where there is no room for its text
+-- R15.8: 11 for a short scratch; 18 for what is no state, and where there is no room for its text
 unfoldable pub movedOf : Fields → (old scratch : List ℕ) → (room : ℕ) → Wrote
 movedOf f old scratch room =
     cond (noRoom scratch) (Refused 11)
     (cond (oldOk f old && (validOf f (bitsOf old) && leb (length (newText f old)) room)) (Text (length (newText f old))) (Refused 18))
 
--- the text stands in the buffer, or the buffer is as it was; the scratch holds the blocks of old bytes that are of the form, and is as it was for any other
+-- the text stands in the buffer, or the buffer is as it was; R15.11: the scratch holds the blocks of old bytes that are of the form, and is as it was for any other
 pub record ToNew (f : Fields) (old scratch scratch′ out out′ : List ℕ) (r : Wrote) : Type 0 where
   pub answer : r ≡ movedOf f old scratch (length out)
   pub buffer : out′ ≡ writtenOn r (newText f old) out
@@ -40,7 +40,7 @@ pub record ToNew (f : Fields) (old scratch scratch′ out out′ : List ℕ) (r 
 
 -- ---- new to old
 
--- a longer buffer keeps its rest; a shorter one is refused as 18
+-- R15.9: a longer buffer keeps its rest; a shorter one is refused as 18
 abbrev pub ToOld : (s scratch scratch′ old old′ : List ℕ) → Got → Type 0
 ToOld s scratch scratch′ old old′ (got.Fields f) =
     (bs : List Bool) × Takes (noRoom scratch) (AtMost (length old)) s f bs × Holds bs scratch scratch′ × (old′ ≡ oldOf bs ++ drop (length bs) old)

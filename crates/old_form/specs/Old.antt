@@ -1,5 +1,5 @@
 -- SPDX-License-Identifier: Apache-2.0 AND BSD-3-Clause
--- The old form (02, request 6): "the bitmap of a stopped builder as one byte per block, 0 or 1, the way the Rust's mem_state_map holds it".
+-- The old form (R15.8): a byte for each block, as `mem_state_map` of mem.rs holds it.
 use Prim.Native.Nat.{ℕ}
 use mathlib.Core.Bool.{Bool, true, cond, _&&_}
 use mathlib.Core.List.{List, [], _∷_}
@@ -10,7 +10,7 @@ unfoldable pub oldOf : List Bool → List ℕ
 oldOf [] = []
 oldOf (b ∷ bs) = cond b 1 0 ∷ oldOf bs
 
--- no "byte above 1"
+-- no byte is above 1
 unfoldable pub isOld : List ℕ → Bool
 isOld [] = true
 isOld (x ∷ xs) = leb x 1 && isOld xs

@@ -1,5 +1,5 @@
 -- SPDX-License-Identifier: Apache-2.0 AND BSD-3-Clause
--- The runs of plugged blocks (02, request 6): "run=first,count for each longest run of plugged blocks, lowest first".
+-- The longest runs of plugged blocks, the lowest first (R15.2).
 use Prim.Native.Nat.{ℕ, zero, suc, _+_, _-_, _≤_, _<_}
 use mathlib.Core.Bool.{Bool, true, false}
 use mathlib.Core.List.{List, [], _∷_, _++_}
@@ -29,7 +29,7 @@ unfoldable pub spread : (i end : ℕ) → List Run → List Bool
 spread i end [] = replicate (end - i) false
 spread i end (r ∷ rs) = replicate (r .first - i) false ++ (replicate (r .count) true ++ spread (r .first + r .count) end rs)
 
--- runs that neither touch nor fall back, from block `from` on, none empty and none past `end`
+-- R15.4: runs that neither touch nor fall back, from block `from` on, none empty and none past `end`
 abbrev pub Apart : (from end : ℕ) → List Run → Type 0
 Apart from end [] = Prim.Unit {0}
 Apart from end (r ∷ rs) = (from ≤ r .first) × (0 < r .count) × (r .first + r .count ≤ end) × Apart (suc (r .first + r .count)) end rs

@@ -1,5 +1,5 @@
 -- SPDX-License-Identifier: Apache-2.0 AND BSD-3-Clause
--- The lines of runs: "run=first,count", each ended by one newline, the last too.
+-- The lines of runs (R15.2), each ended by one newline, the last too (R15.1).
 use Prim.Native.Nat.{ℕ}
 use mathlib.Core.List.{List, [], _∷_, _++_}
 use Rattle.text.specs.Words.{bytes}

@@ -21,7 +21,7 @@ use Rattle.save.specs.Text.{formLine, fieldLines, fieldsOf, State, Says}
 
 -- ---- 19 before 18
 
--- "A later form number is refused by name, as 19": the text begins `form=N` and a newline with N above 2, whatever follows
+-- R15.5, R1.19: the text begins `form=N` and a newline with N above 2, whatever follows
 unfoldable pub laterPart : Part → Bool
 laterPart (part [] rest) = false
 laterPart (part (n ∷ us) rest) = ltb 2 n
@@ -30,7 +30,7 @@ laterPart (none us) = false
 abbrev pub isLater : List ℕ → Bool
 isLater s = laterPart (partOf 1 formLine s)
 
--- "refused by name, as 19, before 18"
+-- R15.5; R1.18 for any other that is refused
 abbrev pub refusalOf : List ℕ → ℕ
 refusalOf s = cond (isLater s) 19 18
 
@@ -75,7 +75,7 @@ pub record Accepts (s : List ℕ) (f : Fields) (runs : ℕ) : Type 0 where
   pub rest : runsText (runsOf bs) ≡ drop runs s
   pub inside : runs ≤ length s
 
--- a text is accepted with the state whose text it is, and refused if there is none
+-- R15.4: a text is accepted with the state whose text it is, and refused if there is none
 abbrev pub Checks : List ℕ → Checked → Type 0
 Checks s (checked.State f runs) = Accepts s f runs
 Checks s (checked.Refused number) = Refuses s number
@@ -93,7 +93,7 @@ pub record Takes (short : Bool) (Fits : Fields → List Bool → Type 0) (s : Li
   pub says : Says s f bs
   pub fits : Fits f bs
 
--- or it is refused: 11, 19, 18
+-- R15.7: or it is refused, with 11, 19 or 18 in this order
 pub record NotTaken (short : Bool) (Fits : Fields → List Bool → Type 0) (s : List ℕ) (number : ℕ) : Type 0 where
   pub number-is : number ≡ cond short 11 (refusalOf s)
   pub none : (f : Fields) (bs : List Bool) → Takes short Fits s f bs → ⊥
@@ -102,7 +102,7 @@ pub record NotTaken (short : Bool) (Fits : Fields → List Bool → Type 0) (s :
 abbrev pub AtMost : (most : ℕ) → Fields → List Bool → Type 0
 AtMost most f bs = length bs ≤ most
 
--- room for the largest bitmap is asked for, so that 11 does not wait for the text
+-- R15.7: room for the largest bitmap is asked for, so that 11 does not wait for the text
 abbrev pub noRoom : List ℕ → Bool
 noRoom bitmap = ltb (length bitmap) 32768
 

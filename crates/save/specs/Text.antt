@@ -1,6 +1,5 @@
 -- SPDX-License-Identifier: Apache-2.0 AND BSD-3-Clause
--- The text of a save record (02, request 6): "key=value lines in fixed order: form=2, start, region, requested, usable, plugged, then
--- run=first,count for each longest run of plugged blocks, lowest first". One field a line, each ended by one newline, the last too.
+-- The text of a save record, and which states have one: one field a line, each ended by one newline, the last too (R15.1, R15.3).
 use Prim.Native.Nat.{ℕ, _-_}
 use mathlib.Core.Path.{_≡_}
 use mathlib.Core.Bool.{Bool, true, false, _&&_}
@@ -35,7 +34,7 @@ fieldsOf f = f .start ∷ f .region ∷ f .requested ∷ f .usable ∷ f .plugge
 abbrev pub headText : (form : ℕ) → Fields → List ℕ
 headText form f = filled formLine (form ∷ []) ++ filled (fieldLines form) (fieldsOf f)
 
--- the text of the fields f and the blocks bs in this form
+-- R15.1: the text of the fields f and the blocks bs in this form
 unfoldable pub textOf : (form : ℕ) → Fields → List Bool → List ℕ
 textOf form f bs = headText form f ++ runsText (runsOf bs)
 
@@ -54,7 +53,7 @@ configOf f =
       «requested_size» = f .requested;
     }
 
--- "fields .. of the record shape (alignment 128 MiB, one region)"
+-- R3.10: the shape of a config alone
 abbrev pub shapeOk : Fields → Bool
 shapeOk f = configShapedOf (configOf f)
 
@@ -65,7 +64,7 @@ allOf f = blocksIn (f .block) (f .region)
 abbrev pub usedOf : Fields → ℕ
 usedOf f = blocksIn (f .block) (f .usable)
 
--- the fields are of the shape, no block at or past the usable size is set, and plugged is the block size times the set blocks
+-- R15.3: the fields are of the shape, no block at or past the usable size is set, and plugged is the block size times the set blocks
 unfoldable pub validOf : Fields → List Bool → Bool
 validOf f bs = shapeOk f && (allAre bs (usedOf f) (allOf f - usedOf f) false && eqb (f .plugged) (bytesOf (f .block) (ones bs)))
 

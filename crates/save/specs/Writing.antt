@@ -17,7 +17,7 @@ use Rattle.save.specs.Text.{textOf, validOf, allOf}
 abbrev pub blocksFor : Fields → List ℕ → List Bool
 blocksFor f bitmap = take (allOf f) (blocks bitmap)
 
--- the bitmap has not a bit for each block
+-- R1.11: the bitmap has not a bit for each block
 abbrev pub isShort : Fields → List ℕ → Bool
 isShort f bitmap = ltb (length bitmap) ((allOf f + 7) / 8)
 
@@ -27,7 +27,7 @@ validIn f bitmap = validOf f (blocksFor f bitmap)
 abbrev pub textIn : Fields → List ℕ → List ℕ
 textIn f bitmap = textOf 2 f (blocksFor f bitmap)
 
--- 11 for a short bitmap, 18 for what is no state, and else the length of its text
+-- R15.6: 11 for a short bitmap, 18 for what is no state, and else the length of its text
 unfoldable pub lengthOf : Fields → List ℕ → Wrote
 lengthOf f bitmap = cond (isShort f bitmap) (Refused 11) (cond (validIn f bitmap) (Text (length (textIn f bitmap))) (Refused 18))
 

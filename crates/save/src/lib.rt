@@ -1,5 +1,5 @@
 // SPDX-License-Identifier: Apache-2.0 AND BSD-3-Clause
-// Save records as text (02, request 6): the fields, one a line, then the runs of plugged blocks. Written from a packed bitmap, and
+// Save records as text (R15): the fields, one a line, then the runs of plugged blocks. Written from a packed bitmap, and
 // read back whole or not at all.
 use forms::Place;
 use runs::Counted;

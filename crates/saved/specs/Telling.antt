@@ -8,7 +8,7 @@ use Rattle.save.specs.Reading.{Refuses}
 use Rattle.saved.specs.declared.Wrong.{Wrong}
 use Rattle.saved.specs.declared.Wrong.the-variants as wrong
 
--- nothing is wrong exactly with the text of a state; else the number is that of the refusal, 19 for a later form and 18
+-- R15.17: nothing is wrong exactly with the text of a state; else the number is that of the refusal, 19 for a later form and 18
 abbrev pub Tells : List ℕ → Wrong → Type 0
 Tells s wrong.Nothing = (f : Fields) × (bs : List Bool) × Says s f bs
 Tells s (wrong.Is number found) = Refuses s number

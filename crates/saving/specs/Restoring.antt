@@ -1,6 +1,5 @@
 -- SPDX-License-Identifier: Apache-2.0 AND BSD-3-Clause
--- What restoring promises (02, request 6): "Restoring is laid on a placed device (no bit set, plugged 0) of the same start and region,
--- whose usable size is at least the form's, else 18; it sets bits, requested and plugged".
+-- What restoring promises: where a text may be laid, and what that leaves (R15.13, R15.14).
 use Prim.Native.Nat.{ℕ}
 use mathlib.Core.Path.{_≡_}
 use mathlib.Core.Bool.{Bool, true, false, cond, _&&_}
@@ -17,7 +16,7 @@ use Rattle.saving.specs.declared.Restored.{Restored}
 use Rattle.saving.specs.declared.Restored.the-variants.{Device as Laid, Refused}
 use Rattle.saving.specs.Saving.{fieldsIn, entryRefusal}
 
--- a state with the fields f may be laid on the device d, whose bitmap has the blocks bs
+-- R15.13: a state with the fields f may be laid on the device d, whose bitmap has the blocks bs
 unfoldable pub fitsOn : Device → (bs : List Bool) → Fields → Bool
 fitsOn d bs f =
     let c = d .config in
@@ -25,7 +24,7 @@ fitsOn d bs f =
     && (leb (f .usable) (c .«usable_region_size») && (eqb (c .«plugged_size») 0
     && allAre bs 0 (blocksIn (c .«block_size») (c .«region_size»)) false))))
 
--- "it sets bits, requested and plugged": no other field changes
+-- R15.14: no other field changes
 abbrev pub restoredTo : Fields → Device → Device
 restoredTo f d = pluggedTo (f .plugged) (requestedTo (f .requested) d)
 
@@ -36,7 +35,7 @@ Fits d bitmap f bs = fitsOn d (blocks bitmap) f ≡ true
 abbrev pub TakenOn : Device → (s bitmap : List ℕ) → Fields → List Bool → Type 0
 TakenOn d s bitmap f bs = Takes (isShort (fieldsIn d) bitmap) (Fits d bitmap) s f bs
 
--- "12, 7, 11, 19, 18"
+-- R15.13: 12, 7, 11, 19, 18
 unfoldable pub restoreRefusal : Device → (s bitmap : List ℕ) → ℕ
 restoreRefusal d s bitmap = cond (eqb (entryRefusal d) 0) (cond (isShort (fieldsIn d) bitmap) 11 (refusalOf s)) (entryRefusal d)
 

@@ -1,5 +1,5 @@
 -- SPDX-License-Identifier: Apache-2.0 AND BSD-3-Clause
--- What saving a device promises: 12, 7, 11, 18, or its text.
+-- What saving a device promises (R15.12): 12, 7, 11, 18, or its text.
 use Prim.Native.Nat.{ℕ}
 use mathlib.Core.Path.{_≡_}
 use mathlib.Core.Bool.{cond, not}
@@ -26,7 +26,7 @@ fieldsIn d =
       plugged = c .«plugged_size»;
     }
 
--- 12, then 7, and 0 for a record that may be saved or restored
+-- R15.12, R15.13: 12, then 7, and 0 for a record that may be saved or restored
 unfoldable pub entryRefusal : Device → ℕ
 entryRefusal d = cond (not (shapedOf d)) 12 (cond (not (isIdle (d .pending))) 7 0)
 

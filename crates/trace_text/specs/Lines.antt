@@ -1,5 +1,5 @@
 -- SPDX-License-Identifier: Apache-2.0 AND BSD-3-Clause
--- The trace lines of 01, section "Trace lines", each defined by its text: a form in which # stands for a number.
+-- The lines of a trace (R12), each defined by its text: a form in which # stands for a number.
 use Prim.Native.Nat.{ℕ, _≤_}
 use mathlib.Core.Path.{_≡_}
 use mathlib.Core.Bool.{Bool, true, false}
@@ -24,12 +24,12 @@ abbrev pub flag : Bool → ℕ
 flag true = 1
 flag false = 0
 
--- the text of the first line, by its node: `none` or a number
+-- R12.2: the text of the first line, by its node: `none` or a number
 abbrev pub firstText : Node → FirstLine → List ℕ
 firstText (Number node) f = filled (bytes "capacity_mib=# requested_mib=# multi=# node=# boot=# addr=# slot=#") (f .«capacity_mib» ∷ f .«requested_mib» ∷ flag (f .multi) ∷ node ∷ f .boot ∷ f .addr .0 ∷ f .slot ∷ [])
 firstText None f = filled (bytes "capacity_mib=# requested_mib=# multi=# node=none boot=# addr=# slot=#") (f .«capacity_mib» ∷ f .«requested_mib» ∷ flag (f .multi) ∷ f .boot ∷ f .addr .0 ∷ f .slot ∷ [])
 
--- the text of a later line: each op, with its fields in 01's order
+-- R12.3: the text of a later line
 abbrev pub opText : Op → List ℕ
 opText (Host ok addr) = filled (bytes "op=host ok=# addr=#") (flag ok ∷ addr .0 ∷ [])
 opText (Plug addr blocks) = filled (bytes "op=plug addr=# blocks=#") (addr .0 ∷ blocks ∷ [])
@@ -49,7 +49,7 @@ abbrev pub nodeInRange : Node → Type 0
 nodeInRange None = Prim.Unit {0}
 nodeInRange (Number node) = node ≤ 65535
 
--- the numbers of the first line are in their ranges: 64 bits, but "Slots count up from `slot`; above 4,294,966,000 it is 13."
+-- R12.4: the numbers of the first line are in their ranges
 pub record FirstInRange (f : FirstLine) : Type 0 where
   pub capacity : f .«capacity_mib» ≤ largest
   pub requested : f .«requested_mib» ≤ largest
@@ -58,7 +58,7 @@ pub record FirstInRange (f : FirstLine) : Type 0 where
   pub addr : f .addr .0 ≤ largest
   pub slot : f .slot ≤ 4294966000
 
--- the numbers of a later line are in their ranges: 64 bits, and 16 for blocks
+-- R12.4: the numbers of a later line are in their ranges: 64 bits, and 16 for blocks
 abbrev pub opInRange : Op → Type 0
 opInRange (Host ok addr) = addr .0 ≤ largest
 opInRange (Plug addr blocks) = (addr .0 ≤ largest) × (blocks ≤ 65535)
@@ -73,13 +73,13 @@ InRange (First f) = FirstInRange f
 InRange (Later op) = opInRange op
 InRange Bad = ⊥
 
--- s is the text of a line; "lines up to 200 bytes"
+-- R12.1: s is the text of a line, of at most 200 bytes
 pub record Text (line : Line) (s : List ℕ) : Type 0 where
   pub range : InRange line
   pub text : textOf line ≡ s
   pub short : length s ≤ 200
 
--- r is what s reads as: the line whose text it is, if there is one, and only that; else "13+ bad trace line"
+-- R12.5, R1.13: r is what s reads as: the line whose text it is, if there is one, and only that; else a bad line
 pub record Reads (s : List ℕ) (r : Line) : Type 0 where
   pub whole : (line : Line) → Text line s → r ≡ line
   pub only : (r ≡ Bad) ⊎ Text r s

@@ -60,7 +60,7 @@ enum Kind {
 // The numbers of a line, which has at most seven, in their order.
 struct Numbers(u64, u64, u64, u64, u64, u64, u64);
 
-// "lines up to 200 bytes". No text that is in range has more than 155.
+// R12.1. No text that is in range has more than 155.
 const LONGEST: usize = 200;
 
 // The largest `slot` that a first line may have.
