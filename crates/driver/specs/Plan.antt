@@ -1,5 +1,5 @@
 -- SPDX-License-Identifier: Apache-2.0 AND BSD-3-Clause
--- The planner (02, request 3), over numbers and the list of blocks. b is the block size.
+-- The planner (R14.5 to R14.8), over numbers and the list of blocks. b is the block size.
 use Prim.Native.Nat.{ℕ, suc, _+_, _-_, _*_, _/_, min}
 use mathlib.Core.Bool.{Bool, cond, not}
 use mathlib.Core.List.{List}
@@ -14,7 +14,7 @@ use Rattle.record.specs.Shape.{configShapedOf}
 use Rattle.driver.specs.declared.Proposal.{Proposal}
 use Rattle.driver.specs.declared.Proposal.the-variants.{Plug, Refused}
 
--- the block behind the 2 GiB border of offsets that comes next
+-- R14.7: the block behind the 2 GiB border of offsets that comes next
 abbrev pub borderAfter : (b first : ℕ) → ℕ
 borderAfter b first = suc (first / blocksIn b mapRegion) * blocksIn b mapRegion
 
@@ -26,24 +26,25 @@ unfoldable pub stopAt : Found → ℕ → ℕ
 stopAt (At next) limit = next
 stopAt Nothing limit = limit
 
--- "all blocks up to the next plugged one, 2 GiB border of offsets, usable end": where they stop
+-- R14.7: where the next plugged block, the border or the usable end stops the plug
 abbrev pub stopOf : (b usable : ℕ) → List Bool → (first : ℕ) → ℕ
 stopOf b usable bs first = stopAt (nextSet bs first (limitOf b usable first)) (limitOf b usable first)
 
--- "or spent requested size": the blocks that it has room for
+-- R14.7: the blocks that the requested size has room for
 abbrev pub roomOf : (b plugged requested : ℕ) → ℕ
 roomOf b plugged requested = blocksIn b (requested - plugged)
 
 abbrev pub countOf : (b usable plugged requested : ℕ) → List Bool → (first : ℕ) → ℕ
 countOf b usable plugged requested bs first = min (stopOf b usable bs first - first) (roomOf b plugged requested)
 
+-- R14.6, R14.8, R1.17: a plug from the lowest free block on, or 17
 unfoldable pub planAt : Found → (b start usable plugged requested : ℕ) → List Bool → Proposal
 planAt Nothing b start usable plugged requested bs = Refused 17
 planAt (At first) b start usable plugged requested bs =
     cond (eqb (roomOf b plugged requested) 0) (Refused 17)
     (Plug (record { 0 = start + bytesOf b first }) (countOf b usable plugged requested bs first))
 
--- 12, 11, then 17 or the plug
+-- R14.5: 12, 11, then 17 or the plug
 unfoldable pub planOf : VirtioMemConfig → List Bool → Proposal
 planOf c bs =
     let b = c .«block_size» in

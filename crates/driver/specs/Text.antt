@@ -1,5 +1,5 @@
 -- SPDX-License-Identifier: Apache-2.0 AND BSD-3-Clause
--- The driver's bytes: what it writes, and that it reads a value exactly if the bytes are that value's text.
+-- The guest's side of the bytes (R14.1 to R14.3): what it writes, and that it reads a value exactly if the bytes are that value's text.
 use Prim.Native.Nat.{ℕ, _≤_, _<_, _^_}
 use mathlib.Core.Path.{_≡_}
 use mathlib.Core.List.{List}
@@ -15,16 +15,16 @@ use Rattle.driver.specs.declared.GotResponse.the-variants.{Response, Ref
 use Rattle.driver.specs.declared.GotConfig.{GotConfig}
 use Rattle.driver.specs.declared.GotConfig.the-variants.{Config, Refused as NoConfig}
 
--- the 24 bytes of a request as the standard lays them out, its padding zero
+-- R14.1: the 24 bytes of a request as the standard lays them out, its padding zero
 abbrev pub requestBytes : VirtioMemReq → List ℕ
 requestBytes q = virtioMemReq (q .«req_type») 0 0 0 (q .addr .0) (q .«nb_blocks») 0 0 0
 
--- r is 0 and the first 24 bytes are the request's, or r is 16 and nothing was written
+-- R14.1: r is 0 and the first 24 bytes are the request's, or r is 16 (R1.16) and nothing was written
 pub record Wrote (q : VirtioMemReq) (entry exit : List ℕ) (r : ℕ) : Type 0 where
   pub whole : 24 ≤ length entry → (r ≡ 0) × (exit ≡ put entry 0 (requestBytes q))
   pub short : length entry < 24 → (r ≡ 16) × (exit ≡ entry)
 
--- the first 10 bytes are the text of v, whose type and state are known ones
+-- R14.2: the first 10 bytes are the text of v, whose type and state are known ones
 pub record ResponseText (xs : List ℕ) (v : VirtioMemResp) : Type 0 where
   pub text : take 10 xs ≡ responseBytes v
   pub type-known : v .«resp_type» ≤ 3
@@ -46,7 +46,7 @@ pub record ConfigFits (c : VirtioMemConfig) : Type 0 where
   pub plugged : c .«plugged_size» < 256 ^ 8
   pub requested : c .«requested_size» < 256 ^ 8
 
--- the first 56 bytes are the text of c
+-- R14.3: the first 56 bytes are the text of c
 pub record ConfigText (xs : List ℕ) (c : VirtioMemConfig) : Type 0 where
   pub text : take 56 xs ≡ configBytes c
   pub fits : ConfigFits c

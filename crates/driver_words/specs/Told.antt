@@ -1,5 +1,5 @@
 -- SPDX-License-Identifier: Apache-2.0 AND BSD-3-Clause
--- What the calls of the guest's side leave in the words that they were lent.
+-- What the calls of the guest's side leave in the words that they were lent (R19.6).
 use Prim.Native.Nat.{ℕ}
 use mathlib.Core.Path.{_≡_}
 use mathlib.Core.Bool.{Bool, cond}
@@ -30,7 +30,7 @@ unfoldable pub wordsIn : Gives → List ℕ → List ℕ
 wordsIn (Words ws) words = put words 0 ws
 wordsIn (Number n) words = words
 
--- 16 where there is no room for n words, and nothing is written
+-- R19.6: 16 where there is no room for n words, and nothing is written
 pub record Told (n : ℕ) (g : Gives) (words words′ : List ℕ) (number : ℕ) : Type 0 where
   pub numbered : number ≡ cond (leb n (length words)) (numberIn g) 16
   pub written : words′ ≡ cond (leb n (length words)) (wordsIn g words) words

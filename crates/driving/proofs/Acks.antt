@@ -109,7 +109,7 @@ module _ (w : World) (r : Ready w) (addr : GuestAddr) (n : ℕ) (e : planOf (w .
             record { first = p .first; addr-is = p .addr-is; outcome = simp (z, q, le-ltb (requested w) (plugged w + bytesOf (blockSize w) m) (l .within), legal) },
       )
 
--- ---- "A device with that config and bitmap, sound rows and nothing pending acknowledges it"
+-- ---- R14.9: a device that is ready acknowledges what is proposed
 pub acknowledged : (w : World) → Ready w → (addr : GuestAddr) (n : ℕ) → planOf (w .device .config) (w .blocks) ≡ Plug addr n
     → (g : Guest) (descriptors head : ℕ) (status : GuestAddr) → parsed (g .mem) (g .base) descriptors head ≡ Got (record { «req_type» = 0; addr = addr; «nb_blocks» = n }) status
     → Acknowledged w (addr .0) n (status .0) g (step w (Request g descriptors head))

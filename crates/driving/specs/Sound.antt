@@ -21,13 +21,13 @@ use Rattle.step.specs.World.{World, Guest, Outcome}
 use Rattle.record.specs.Changes.{pluggedTo}
 use Rattle.step.specs.Step.{blockSize, usable, plugged, requested, start, several, regionBlocks, regionRows, plugs}
 
--- sound rows: each offset below the usable size lies in a mapped row, whose host address leaves room for it below 2^64 - 1
+-- R14.9: sound rows: each offset below the usable size lies in a mapped row, whose host address leaves room for it below 2^64 - 1
 pub record SoundRows (several : Bool) (usable : ℕ) (rows : List MapRow) : Type 0 where
   pub mapped : (offset : ℕ) → offset < usable → rowAt rows (cond several (offset / mapRegion) 0) .mapped ≡ 0 → ⊥
   pub fits : (offset : ℕ) → offset < usable
       → rowAt rows (cond several (offset / mapRegion) 0) .host .0 + cond several (offset % mapRegion) offset < top
 
--- a device that takes requests: shaped, nothing pending, placed, both tables long enough, and what is usable is mapped
+-- R14.9: a device that takes requests: shaped, nothing pending, placed, both tables long enough, and what is usable is mapped
 pub record Ready (w : World) : Type 0 where
   pub shaped : shapedOf (w .device) ≡ true
   pub idle : isIdle (w .device .pending) ≡ true
@@ -42,7 +42,7 @@ pub record Acknowledged (w : World) (addr count status : ℕ) (g : Guest) (o : O
   pub addr-is : addr ≡ start w + bytesOf (blockSize w) first
   pub outcome : o ≡ plugs w first count status g
 
--- ---- a proposal is as long as can be: it starts at the lowest free block, and one block more would meet a plugged block, the 2 GiB border, the usable end or the requested size
+-- ---- R14.6, R14.7: a proposal starts at the lowest free block, and is as long as can be: one block more would meet a plugged block, the 2 GiB border, the usable end or the requested size
 abbrev pub Stops : VirtioMemConfig → List Bool → (first n : ℕ) → Type 0
 Stops c bs first n =
     (blockAt bs (first + n) ≡ true)
@@ -92,7 +92,7 @@ pluggedBlocks w = ones (take (usableBlocks w) (w .blocks))
 abbrev pub Counted : World → Type 0
 Counted w = plugged w ≡ bytesOf (blockSize w) (pluggedBlocks w)
 
--- planning and plugging has ended: the planner gives 17, and the plugged size is the smaller of the requested and the usable size, or what it was where that was more already; the requested and the usable size are as they were
+-- R14.11: planning and plugging has ended: the planner gives 17, and the plugged size is the smaller of the requested and the usable size, or what it was where that was more already; the requested and the usable size are as they were
 pub record There (from to : World) : Type 0 where
   pub spent : planned to ≡ Refused 17
   pub size : plugged to ≡ max (plugged from) (min (requested from) (usable from))

@@ -1,5 +1,5 @@
 -- SPDX-License-Identifier: Apache-2.0 AND BSD-3-Clause
--- The planner and the device, in every run (02, request 3): what it proposes is acknowledged, 17 says that nothing can be plugged, and it gets there. The planner has the device's config and bitmap; guest memory is any that holds the chain.
+-- The planner and the device, in every run (R14.9 to R14.11): what it proposes is acknowledged, 17 says that nothing can be plugged, and it gets there. The planner has the device's config and bitmap; guest memory is any that holds the chain.
 use Prim.Native.Nat.{ℕ, _≤_}
 use mathlib.Core.Path.{_≡_}
 use mathlib.Core.Bool.{true}
@@ -24,7 +24,7 @@ pub record TakesRequests (w : World) : Type 0 where
 abbrev pub ReadyAndCounted : Story → Call → Type 0
 ReadyAndCounted s c = TakesRequests (s .world) → Ready (s .world) × Counted (s .world)
 
--- ---- what is proposed is acknowledged, and so is a plug of the block at its start alone
+-- ---- R14.9: what is proposed is acknowledged, and so is a plug of the block at its start alone
 abbrev pub AcksTo : World → Call → (addr : GuestAddr) (count : ℕ) → Type 0
 AcksTo w c addr count = (a : Asks c (addr .0) count)
     → Acknowledged w (addr .0) count (a .status .0) (a .guest) (step w c)
@@ -33,7 +33,7 @@ abbrev pub ProposalAcknowledged : Story → Call → Type 0
 ProposalAcknowledged s c = let w = s .world in TakesRequests w → (addr : GuestAddr) (count : ℕ) → planned w ≡ Plug addr count
     → AcksTo w c addr count × AcksTo w c addr 1
 
--- ---- 17 is given exactly if no plug of one block is acknowledged, at whatever address; and no other refusal is given
+-- ---- R14.10: 17 is given exactly if no plug of one block is acknowledged, at whatever address; and no other refusal is given
 abbrev pub NothingToPlug : World → Type 0
 NothingToPlug w = (c : Call) (addr : ℕ) → Asks c addr 1 → Responds (step w c) «VIRTIO_MEM_RESP_ACK» → ⊥
 
@@ -45,7 +45,7 @@ pub record Exactly17 (w : World) : Type 0 where
 abbrev pub SeventeenExactly : Story → Call → Type 0
 SeventeenExactly s c = TakesRequests (s .world) → Exactly17 (s .world)
 
--- ---- planning and plugging again and again
+-- ---- R14.11: planning and plugging again and again
 -- the call asks for what the planner proposes
 pub record Proposed (w : World) (c : Call) : Type 0 where
   pub addr : GuestAddr

@@ -26,7 +26,7 @@ use Rattle.standard.specs.Requests.{responseOf, «VIRTIO_MEM_RESP_ACK», «VIRT
 use Rattle.in_parts.specs.InParts.{plugRequest, Asks, Acknowledged, AllAcknowledged, endOf, SameAs, InTwo, Part, borderBetween, Raised}
 use Rattle.in_parts.proofs.Asking.{asking}
 
--- the device of 01's example, placed, with nothing plugged and so much requested
+-- the device of the whole example (R12.12), placed, with nothing plugged and so much requested
 pub device : (requested : ℕ) → World
 device requested =
     record {

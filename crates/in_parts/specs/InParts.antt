@@ -1,5 +1,5 @@
 -- SPDX-License-Identifier: Apache-2.0 AND BSD-3-Clause
--- One big plug or many small ones (02, request 10/12): what holds of the plug of a range, of the plugs of its parts, and of a plug under a higher requested size. In any world: no run need have led to it, and the tables may be spoiled.
+-- One big plug or many small ones (R16): what holds of the plug of a range, of the plugs of its parts, and of a plug under a higher requested size. In any world: no run need have led to it, and the tables may be spoiled.
 use Prim.Native.Nat.{ℕ, _+_, _-_, _*_, _^_, _%_, _≤_, _<_}
 use mathlib.Core.Path.{_≡_}
 use mathlib.Core.Bool.{Bool, true, false, _&&_, _||_}
@@ -31,7 +31,7 @@ pub record Asks (c : Call) (addr count : ℕ) : Type 0 where
   pub is-request : c ≡ Request guest descriptors head
   pub reads : parsed (guest .mem) (guest .base) descriptors head ≡ Got (plugRequest addr count) status
 
--- "provided n is at most 65,535": so many blocks a call can ask for, whatever the address, and no more in memory whose every byte is below 256
+-- R16.3: so many blocks a call can ask for, whatever the address, and no more in memory whose every byte is below 256
 pub record Askable (addr count : ℕ) : Type 0 where
   pub call : Call
   pub asks : Asks call addr count
@@ -70,12 +70,12 @@ pub record InTwo (b addr n k : ℕ) (whole first second : Call) : Type 0 where
   pub asks-first : Asks first addr k
   pub asks-second : Asks second (addr + bytesOf b k) (n - k)
 
--- "If a plug of n blocks is acknowledged, then for any k from 1 to n - 1 the plug of the first k and then the other n - k are both acknowledged and end in the same record, bits and rows"
+-- R16.1
 abbrev pub OneThenTwo : Type 0
 OneThenTwo = (w : World) (addr n k : ℕ) (whole first second : Call) → InTwo (blockSize w) addr n k whole first second → 0 < k → k < n
     → Acknowledged (step w whole) → SameAs w (first ∷ second ∷ []) whole
 
--- "The other way, if both parts are acknowledged one after the other, the whole would have been, provided .., with several regions, no 2 GiB border lies between". With a border between it is ERROR
+-- R16.2, of the whole where its parts are acknowledged: without a border between so is it, and it ends as they do; with one it is ERROR
 pub record Joined (w : World) (border : Bool) (cs : List Call) (whole : Call) : Type 0 where
   pub same : border ≡ false → Acknowledged (step w whole) × (step w whole .world ≡ endOf w cs)
   pub stopped : border ≡ true → Responds (step w whole) «VIRTIO_MEM_RESP_ERROR»
@@ -84,7 +84,7 @@ abbrev pub TwoThenOne : Type 0
 TwoThenOne = (w : World) (addr n k : ℕ) (whole first second : Call) → InTwo (blockSize w) addr n k whole first second
     → AllAcknowledged w (first ∷ second ∷ []) → Joined w (onBorder (several w) (addr - start w + bytesOf (blockSize w) k)) (first ∷ second ∷ []) whole
 
--- ---- in many: the same of any way to cut a range
+-- ---- R16.4, in many: the same of any way to cut a range
 -- a part: how many blocks, and the call that asks for them
 pub record Part : Type 0 where
   pub blocks : ℕ
@@ -122,7 +122,7 @@ abbrev pub ManyThenOne : Type 0
 ManyThenOne = (w : World) (addr : ℕ) (whole : Call) (p : Part) (ps : List Part) → let parts = p ∷ ps in Asks whole addr (total parts) → InTurn (blockSize w) addr parts
     → AllAcknowledged w (callsOf parts) → Joined w (borderBetween (several w) (blockSize w) (addr - start w) parts) (callsOf parts) whole
 
--- ---- in any order: plugs that are all acknowledged in one order are so in every other, and the end is the same. They need not be parts of one range
+-- ---- R16.4, in any order: plugs that are all acknowledged in one order are so in every other, and the end is the same. They need not be parts of one range
 pub record IsPlug (c : Call) : Type 0 where
   pub addr : ℕ
   pub count : ℕ
@@ -141,7 +141,7 @@ abbrev pub OneThenAnyOrder : Type 0
 OneThenAnyOrder = (w : World) (addr : ℕ) (whole : Call) (parts : List Part) (ds : List Call) → Asks whole addr (total parts) → InTurn (blockSize w) addr parts → EachSome parts
     → List·Permᴰ (callsOf parts) ds → Acknowledged (step w whole) → SameAs w ds whole
 
--- ---- "with all else equal, raising only the requested size never turns an acknowledged plug into another answer"
+-- ---- R16.5: a higher requested size, with all else equal
 abbrev pub requestedAt : ℕ → World → World
 requestedAt r w = deviceOf (requestedTo r (w .device)) w
 
@@ -151,12 +151,12 @@ pub record Raised (r : ℕ) (w : World) (c : Call) : Type 0 where
   pub same-bytes : step (requestedAt r w) c .bytes ≡ step w c .bytes
   pub same-end : step (requestedAt r w) c .world ≡ requestedAt r (step w c .world)
 
--- to a size that a record may have, whole blocks and at most the region; with any other it has lost its shape, and every call is refused
+-- R16.5: to a size that a record may have, whole blocks and at most the region; with any other it has lost its shape, and every call is refused
 abbrev pub RaisingKeeps : Type 0
 RaisingKeeps = (w : World) (r addr count : ℕ) (c : Call) → Asks c addr count → requested w ≤ r → Acknowledged (step w c)
     → (sizeOk (blockSize w) r (region w) ≡ true → Raised r w c) × (sizeOk (blockSize w) r (region w) ≡ false → step (requestedAt r w) c .answer ≡ Refused 12)
 
--- as an owner raises it, by a size change to no less. More may then be usable too; where that needs a creation, requests are refused (7) until the host has answered. Where the change is done at once the plug is answered as before
+-- R16.6: as an owner raises it, by a size change to no less. More may then be usable too; where that needs a creation, requests are refused (7) until the host has answered. Where the change is done at once the plug is answered as before
 abbrev pub RaisingByCall : Type 0
 RaisingByCall = (w : World) (mib addr count : ℕ) (c : Call) → Asks c addr count → requested w ≤ mib * 1048576 → step w (SetRequestedSize mib) .answer ≡ Sized
     → Acknowledged (step w c) → step (step w (SetRequestedSize mib) .world) c .answer ≡ step w c .answer

@@ -1,5 +1,5 @@
 -- SPDX-License-Identifier: Apache-2.0 AND BSD-3-Clause
--- What becomes of the heads (02, request 1), sentence by sentence.
+-- What becomes of the heads: each that is taken is reported used once, and a refused call takes none (R13.9, R13.12).
 use Prim.Native.Nat.{ℕ, _+_, _-_, _%_}
 use mathlib.Core.Path.{_≡_}
 use mathlib.Core.Bool.{Bool, true, false}
@@ -17,7 +17,7 @@ use Rattle.queue.specs.declared.Ending.the-variants.{Used}
 use Rattle.queue.specs.Queue.{QueueOutcome, discarding}
 use Rattle.queue_runs.specs.Runs.{Beside, Placing, Sizing, Reading, Writing, QueueCall, TakeNext, Host, PastIt, queueStep, lentTo, endingTold, newlyTaken, newlyReported, outOf, QueueStory, QueueReached, LendsBytes, AllLendBytes}
 
--- ---- "Every taken head is reported used exactly once, in the order taken, when its request has ended"
+-- ---- R13.12: once, in the order taken, when its request has ended
 pub record InOrder (s : QueueStory) (c : QueueCall) : Type 0 where
   -- the heads taken are those reported, in that order, and then the one that is out, if any
   pub in-order : s .reports ++ outOf (s .queue .taken) ≡ s .taken
@@ -33,7 +33,7 @@ isOut (Head head) = true
 abbrev pub OutWhileOpen : QueueStory → QueueCall → Type 0
 OutWhileOpen s c = isOut (s .queue .taken) ≡ discarding (s .world .device .pending)
 
--- ---- "put head and length in the used ring, with 16-bit indices that wrap"
+-- ---- R13.3, R13.8: what stands in the used ring
 -- what the guest reads of the n-th report, counted from 0, in the used ring that begins at byte `at`
 pub record Stands (mem : List ℕ) (at n head len : ℕ) : Type 0 where
   pub counted : usedIndex mem at ≡ (n + 1) % 65536
@@ -50,7 +50,7 @@ abbrev pub NthReport : Type 0
 NthReport = (s : QueueStory) (r : QueueReached s) → AllLendBytes r → (c : QueueCall) → LendsBytes c → let o = queueStep (s .world) (s .queue) c in
     (head len : ℕ) → Reports (s .queue) c o head len → Stands (o .bytes) (s .queue .used .0 - lentTo c .base) (length (s .reports)) head len
 
--- ---- "a refused call takes none", and neither does one that finds the ring empty
+-- ---- R13.9: a refused call takes none, and neither does one that finds the ring empty (R13.6)
 pub record TakesNone (w : World) (q : Queue) (c : QueueCall) (o : QueueOutcome) : Type 0 where
   pub none-taken : newlyTaken q c (o .answer) ≡ []
   pub none-reported : newlyReported q c (o .answer) ≡ []
@@ -78,10 +78,10 @@ RefusedMovesNothing w q c o = (n : ℕ) → o .answer ≡ Of (Refused n) → (n 
 abbrev pub EmptyMovesNothing : World → Queue → QueueCall → QueueOutcome → Type 0
 EmptyMovesNothing w q c o = o .answer ≡ Empty → TakesNone w q c o × (o .world ≡ w) × (o .bytes ≡ bytesTo c)
 
--- ---- "While a host call is pending no head is taken (7)"
+-- ---- R13.9: none is taken while a host call is pending
 abbrev pub NoneWhilePending : QueueStory → QueueCall → Type 0
 NoneWhilePending s c = (g : Guest) → isIdle (s .world .device .pending) ≡ false → queueStep (s .world) (s .queue) (TakeNext g) .answer ≡ Of (Refused 7)
 
--- 12 never appears
+-- R13.11, R18.11: 12 never appears
 abbrev pub Never12 : QueueStory → QueueCall → Type 0
 Never12 s c = queueStep (s .world) (s .queue) c .answer ≡ Of (Refused 12) → ⊥

@@ -1,5 +1,5 @@
 -- SPDX-License-Identifier: Apache-2.0 AND BSD-3-Clause
--- Demands 2 and 3 and the rule of the requested size "over the requests taken": a call on the queue is none or one of the device, so what is said of every call of the device, and of every run of them, holds on the queue.
+-- Demands 2 and 3 and the rule of the requested size over the requests taken (R13.14): a call on the queue is none or one of the device, so what is said of every call of the device, and of every run of them, holds on the queue.
 use Prim.Native.Nat.{ℕ, _+_, _≤_, _<_}
 use mathlib.Core.Path.{_≡_}
 use mathlib.Core.Bool.{Bool, true, false}
@@ -15,7 +15,7 @@ use Rattle.history.specs.Rules.{InEveryRun, askedIn, takenIn, waits, Whole, Kee
 use Rattle.history.specs.Questions.{OnlyOpenUnplugsDiscard}
 use Rattle.queue_runs.specs.Runs.{Beside, Placing, Sizing, Reading, Writing, QueueCall, TakeNext, Host, PastIt, callsOf, queueStep, QueueStory, nextStory, afterAll, QueueReached, InEveryQueueRun, FromEveryQueue}
 
--- ---- demand 2: a call makes none or one call of the device, leaves its world and tells its answer
+-- ---- demand 2 (R18.2): a call makes none or one call of the device, leaves its world and tells its answer
 pub record IsCall (w : World) (o : QueueOutcome) (call : Call) : Type 0 where
   pub same-world : o .world ≡ step w call .world
   pub same-answer : o .answer ≡ Of (step w call .answer)
@@ -43,11 +43,11 @@ OfAnyCall P s c = (call : Call) → P (s .story) call
 abbrev pub LiftsRules : Type 1
 LiftsRules = (P : Story → Call → Type 0) → InEveryRun P → InEveryQueueRun (OfAnyCall P)
 
--- ---- demand 3: a block is plugged exactly if the last event on it was an acknowledged plug, and the plugged size counts the blocks
+-- ---- demand 3 (R18.3, R18.4)
 abbrev pub Demand3 : QueueStory → QueueCall → Type 0
 Demand3 s c = Told (s .world) (s .story .events)
 
--- ---- the rule
+-- ---- the rule of the requested size
 unfoldable pub isSizing : QueueCall → Bool
 isSizing (TakeNext g) = false
 isSizing (Host g ok host) = false
@@ -64,22 +64,22 @@ isPlacing (PastIt (Sizing mib)) = false
 isPlacing (PastIt (Reading offset buffer)) = false
 isPlacing (PastIt (Writing offset buffer)) = false
 
--- the requested size is the only lever
+-- R18.6: the requested size is the only lever
 abbrev pub OnlySizingMovesRequested : World → Queue → QueueCall → QueueOutcome → Type 0
 OnlySizingMovesRequested w q c o = isSizing c ≡ false → requested (o .world) ≡ requested w
 
--- a plug never goes past it
+-- R18.6: a plug never goes past it
 abbrev pub PlugWithinRequested : World → Queue → QueueCall → QueueOutcome → Type 0
 PlugWithinRequested w q c o = plugged w < plugged (o .world) → plugged (o .world) ≤ requested w
 
--- lowering it takes nothing away by force
+-- R18.7: lowering it takes nothing away by force
 abbrev pub SizingTouchesNothing : World → Queue → QueueCall → QueueOutcome → Type 0
 SizingTouchesNothing w q c o = isSizing c ≡ true → Untouched w (o .world)
 
 abbrev pub UsableNeverShrinks : World → Queue → QueueCall → QueueOutcome → Type 0
 UsableNeverShrinks w q c o = usable w ≤ usable (o .world)
 
--- each plug or unplug happens whole or not at all: a call changes the blocks by its events alone, those of the one call of the device that it makes
+-- R18.8: each plug or unplug happens whole or not at all: a call changes the blocks by its events alone, those of the one call of the device that it makes
 unfoldable pub newEvents : Story → List Call → List Event
 newEvents s [] = []
 newEvents s (call ∷ calls) = eventsOf (s .world) (s .«open») call (step (s .world) call .answer)
@@ -92,7 +92,7 @@ unfoldable pub allCalls : QueueStory → List QueueCall → List Call
 allCalls s [] = []
 allCalls s (c ∷ cs) = callsOf (s .world) (s .queue) c ++ allCalls (nextStory s c) cs
 
--- each question to the host has one answer before the next is asked, from any point of a run on
+-- R18.9: each question to the host has one answer before the next is asked, from any point of a run on
 abbrev pub EachAskedAnswered : Type 0
 EachAskedAnswered = (s : QueueStory) → QueueReached s → (cs : List QueueCall) → let calls = allCalls s cs in
     waits (s .world .device .pending) + askedIn (s .world) calls ≡ takenIn (s .world) calls + waits (afterAll s cs .world .device .pending)

@@ -130,7 +130,7 @@ afterAll s [] = s
 afterAll s (c ∷ cs) = afterAll (nextStory s c) cs
 
 -- ---- how it begins
--- a queue as it is made: no head is out, and both indices are 0 (Q3)
+-- R13.1: a queue as it is made: no head is out, and both indices are 0 (Q3)
 pub record New (q : Queue) : Type 0 where
   pub none-out : q .taken ≡ Nothing
   pub available-first : q .«next_available» ≡ 0

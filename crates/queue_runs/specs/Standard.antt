@@ -24,7 +24,7 @@ onGuest (TakeNext g) = true
 onGuest (Host g ok host) = true
 onGuest (PastIt b) = false
 
--- ---- Q4: the device writes the used ring and buffers that are given to it for writing, nothing else
+-- ---- Q4, R13.13: the device writes the used ring and buffers that are given to it for writing, nothing else
 -- byte i lies outside of the response that a call may give: the ten bytes at the status address of the chain that it takes, or of the request that waits for the host (by `StatusIsWritable` and `StatusIsKept` of `standard`, a buffer that the driver gave for writing)
 abbrev pub OutsideResponse : World → Queue → QueueCall → (i : ℕ) → Type 0
 OutsideResponse w q c i = (call : Call) (status : ℕ) → callsOf w q c ≡ call ∷ [] → statusFor w call ≡ some status → Apart i (status - lentTo c .base) 10
@@ -49,7 +49,7 @@ pub record Written (w : World) (q : Queue) (c : QueueCall) (o : QueueOutcome) (h
   -- Q6: the length counts the bytes of the response: ten or, where there is none or it could not be delivered, 0
   pub counts : (resp : VirtioMemResp) (used : ℕ) → step w call .answer ≡ Served resp used → (len ≡ used) × ResponseTo w call resp used (step w call .bytes)
   pub none-counted : responseOf (step w call .answer) ≡ none → (len ≡ 0) × (step w call .bytes ≡ lentTo c .mem)
-  -- Q7: the response is written, then the element, and the index last
+  -- Q7, R13.13: the response is written, then the element, and the index last
   pub in-turn : o .bytes ≡ reported (step w call .bytes) (lentTo c .base) (q .used .0) (q .«next_used») head len
 
 abbrev pub ReportIsWritten : World → Queue → QueueCall → QueueOutcome → Type 0

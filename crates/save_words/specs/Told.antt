@@ -1,5 +1,5 @@
 -- SPDX-License-Identifier: Apache-2.0 AND BSD-3-Clause
--- What saving, restoring and the moves leave in the words that they were lent.
+-- What saving, restoring and the moves leave in the words that they were lent (R19.7).
 use Prim.Native.Nat.{ℕ}
 use mathlib.Core.Path.{_≡_}
 use mathlib.Core.Bool.{Bool, true, false, cond, _&&_}
@@ -45,7 +45,7 @@ pub record WroteTold (w : Wrote) (length length′ : List ℕ) (number : ℕ) : 
   pub numbered : number ≡ wroteNumber w
   pub told : length′ ≡ wroteWords w length
 
--- 18 where there is no room for the length, and 12 for words that are no record
+-- R19.7: 18 where there is no room for the length; R19.2: 12 for words that are no record
 unfoldable pub onRecord : Decoded → (Device → Wrote) → Wrote
 onRecord (Is d) call = call d
 onRecord NoRecord call = Refused 12
@@ -84,7 +84,7 @@ pub record Laid (d : Device) (text words words′ bitmap bitmap′ : List ℕ) (
   pub numbered : number ≡ restoredNumber answer
   pub recorded : words′ ≡ restoredWords answer words
 
--- 12: the words are no record, and nothing is written
+-- R19.2: 12, the words are no record, and nothing is written
 pub record Foreign (words words′ bitmap bitmap′ : List ℕ) (number : ℕ) : Type 0 where
   pub numbered : number ≡ 12
   pub recorded : words′ ≡ words
@@ -103,7 +103,7 @@ pub record NewTold (f : Fields) (old scratch scratch′ text text′ length leng
   pub moves : ToNew f old scratch scratch′ text text′ answer
   pub told : WroteTold answer length length′ number
 
--- no room: 18, and nothing is written
+-- R19.7: no room, 18, and nothing is written
 pub record NoRoom (scratch scratch′ bytes bytes′ words words′ : List ℕ) (number : ℕ) : Type 0 where
   pub numbered : number ≡ 18
   pub scratch-same : scratch′ ≡ scratch

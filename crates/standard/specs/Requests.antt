@@ -35,7 +35,7 @@ use Rattle.step.specs.World.{World, Guest, noGuest, Call, Place, SetRequestedSi
 use Rattle.step.specs.Step.{step, blockSize, usable, plugged, requested, start, several, regionBlocks, tablesFit, cleared}
 use Rattle.standard.specs.Config.{configOf}
 
--- ---- M9: the types of requests and responses, and the states
+-- ---- M9, R7.4: the types of requests and responses, and the states
 abbrev pub «VIRTIO_MEM_REQ_PLUG» : ℕ
 «VIRTIO_MEM_REQ_PLUG» = 0
 
@@ -142,7 +142,7 @@ pub record Valid (w : World) (req : VirtioMemReq) : Type 0 where
   pub from-start : start w ≤ req .addr .0
   pub to-usable : req .addr .0 + sizeOf w req ≤ start w + usable w
 
--- the host has memory for `size` bytes from this offset on, in one mapping: 01's test (d), of which the standard has nothing
+-- the host has memory for `size` bytes from this offset on, in one mapping: test (d), R10.6, of which the standard has nothing
 pub record OneMapping (w : World) (offset size : ℕ) : Type 0 where
   pub host : HostAddr
   pub maps : hostOf (several w) (w .rows) offset size ≡ At host

@@ -1,5 +1,5 @@
 -- SPDX-License-Identifier: Apache-2.0 AND BSD-3-Clause
--- The record as fifteen words, and what words mean.
+-- The record as fifteen words, and what words mean (R19.1, R19.2).
 use Prim.Native.Nat.{ℕ}
 use mathlib.Core.Bool.{Bool, true, false, cond, _&&_}
 use mathlib.Core.List.{List, [], _∷_}
@@ -18,14 +18,14 @@ use Rattle.words.specs.declared.Decoded.the-variants.{Is, NoRecord}
 abbrev pub bit : Bool → ℕ
 bit flag = cond flag 1 0
 
--- the pending call: its kind; its first row or block; its last row or how many blocks; where its response goes; 0 for what a kind has no use for
+-- R19.1: the pending call: its kind; its first row or block; its last row or how many blocks; where its response goes; 0 for what a kind has no use for
 abbrev pub pendingWords : Pending → List ℕ
 pendingWords Nothing = 0 ∷ 0 ∷ 0 ∷ 0 ∷ []
 pendingWords (Create first last) = 1 ∷ first ∷ last ∷ 0 ∷ []
 pendingWords (Discard first count status) = 2 ∷ first ∷ count ∷ status .0 ∷ []
 pendingWords (DiscardOne block status) = 3 ∷ block ∷ 0 ∷ status .0 ∷ []
 
--- a record, word by word
+-- R19.1, R3.1: a record, word by word
 unfoldable pub wordsOf : Device → List ℕ
 wordsOf d =
     let c = d .config in
@@ -64,7 +64,7 @@ pendingOf kind first second status =
     (cond (eqb kind 3) (DiscardOne first (record { 0 = status }))
     Nothing))
 
--- a known kind, and 0 in each word that the kind has no use for
+-- R19.2: a known kind, and 0 in each word that the kind has no use for
 unfoldable pub pendingFits : (kind first second status : ℕ) → Bool
 pendingFits kind first second status =
     cond (eqb kind 0) (eqb first 0 && (eqb second 0 && eqb status 0))
@@ -82,7 +82,7 @@ callOf kind first second status =
 abbrev pub word : List ℕ → ℕ → ℕ
 word ws i = getD ws i 0
 
--- whether words begin with a record's: there are fifteen, the node is a number of 16 bits, the flags are flags, and the pending call fits
+-- R19.2: words begin with a record's: there are fifteen, the node is a number of 16 bits, the flags are flags, and the pending call fits
 unfoldable pub isRecord : List ℕ → Bool
 isRecord ws =
     leb 15 (length ws)
