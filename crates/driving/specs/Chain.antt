@@ -128,9 +128,9 @@ ReadAt g status bytes resp =
     → (r : GotResponse) → ReadsResponse xs r → r ≡ Response resp
 
 -- R14.4: a response that a call gives is a known one, and is read back where its used length is 10
-pub record ReadBack (w : World) (c : Call) (resp : VirtioMemResp) (used : ℕ) (bytes : List ℕ) : Type 0 where
-  pub type-known : resp .«resp_type» ≤ 3
-  pub state-known : resp .state ≤ 2
+pub record ReadBack (w : World) (c : Call) (reply : Reply) (bytes : List ℕ) : Type 0 where
+  pub type-known : reply .response .«resp_type» ≤ 3
+  pub state-known : reply .response .state ≤ 2
   pub guest : Guest
   pub status : GuestAddr
   pub goes : GoesTo w c guest status
