@@ -1,14 +1,14 @@
 -- The laws of `specs/Numbers.antt` that the crates above cite.
 use Prim.Native.Nat.{ℕ, zero, suc, _+_, _-_, _*_, _/_, _%_, _^_, _≤_, _<_}
 use mathlib.Core.Path.{_≡_, refl, sym, _∙_}
-use native.Mathlib.Nat.{div-add-mod', mod-lt, mul-zero, add-mul, pow-succ', div-div-eq-div-mul, div-one}
+use native.Mathlib.Nat.{div-add-mod', mod-lt, mul-zero, add-mul, pow-succ', div-div-eq-div-mul, div-one, mul-le-mul}
 use native.Mathlib.Omega.{arith}
 use mathlib.Core.Bool.{Bool, true, false}
 use lib.Dec.{leb}
 use borrow.Author.Tests.{leb-true, leb-false}
 use lib.Arith.{digits-div}
 use lib.Count.{trailingZeros, under}
-use Rattle.units.specs.Numbers.{top, held, twos, nextMultiple}
+use Rattle.units.specs.Numbers.{top, held, bytesOf, twos, nextMultiple}
 
 -- ---- what a test said of a sum or a product n: within the limit, or past it
 pub within : {n limit : ℕ} (r : Bool) → r ≡ leb n limit → r ≡ true → n ≤ limit
@@ -20,6 +20,13 @@ past {n} {limit} r e t = leb-false n limit (sym e ∙ t)
 -- what fits is held as it is
 pub held-fits : {n : ℕ} → n ≤ top → held n ≡ n
 held-fits h = omega arith
+
+-- the blocks of a request, of at most 128 MiB each, have a size that fits
+pub bytes-fit : (b n : ℕ) → b ≤ 134217728 → n < 65536 → bytesOf b n ≤ top
+bytes-fit b n h k =
+    let few : n ≤ 65535 = omega arith in
+    let small : n * b ≤ 65535 * 134217728 = mul-le-mul few h in
+    omega arith
 
 -- ---- rounding up: a multiple stays, anything else goes to the next multiple
 pub round-multiple : (n to : ℕ) → 0 < to → n % to ≡ 0 → nextMultiple n to ≡ n

@@ -2,7 +2,7 @@
 // The numbers of the device: three kinds of address, the sizes, the alignment, rounding, and tests for overflow.
 ghost use mathlib.Core.Path.{_≡_};
 ghost use Prim.Native.Nat.{_+_, _-_, _*_, _/_, _%_, min};
-ghost use lib.Dec.{leb};
+ghost use lib.Dec.{leb, eqb};
 ghost use Rattle.units.specs.Numbers.{held, bytesOf, blocksIn, mapRegion, mapRegions, between, alignmentOf, nextMultiple};
 
 // An address as the guest sees it.
@@ -19,6 +19,9 @@ const BOOT_MEM_SIZE_FOR_LARGE_BLOCK: u64 = 68719476736;
 
 const MAX: u64 = 18446744073709551615;
 
+// 2^32: two numbers below it have a product that fits 64 bits.
+const HALF: u64 = 1 << 32;
+
 // The sizes stay with `MemTool`, as in mem.rs.
 pub struct MemTool {}
 
@@ -33,18 +36,21 @@ impl MemTool {
 
     pub const MIB: u64 = 1048576;
 
-    // The bytes of a request's blocks.
-    pub fn bytes_of(nb_blocks: u16) -> u64
-        ensures { λ r. ⌜ r ≡ bytesOf 4194304 «nb_blocks» ⌝ }
+    // The bytes of a request's blocks, saturating at 2^64 - 1.
+    pub fn bytes_of(nb_blocks: u16, block_size: u64) -> u64
+        ensures { λ r. ⌜ r ≡ held (bytesOf «block_size» «nb_blocks») ⌝ }
     {
-        (nb_blocks as u64) * MemTool::BLOCK_SIZE
+        saturating_mul(nb_blocks as u64, block_size)
     }
 
-    // How many whole blocks a size holds.
-    pub fn blocks_in(size: u64) -> u64
-        ensures { λ r. ⌜ r ≡ blocksIn 4194304 size ⌝ }
+    // How many whole blocks a size holds: none of 0 bytes.
+    pub fn blocks_in(size: u64, block_size: u64) -> u64
+        ensures { λ r. ⌜ r ≡ blocksIn «block_size» size ⌝ }
     {
-        size / MemTool::BLOCK_SIZE
+        if block_size == 0 {
+            return 0;
+        }
+        size / block_size
     }
 }
 
@@ -59,10 +65,10 @@ impl GuestAddr {
 
 impl RegionOffset {
     // Where a block starts, saturating at 2^64 - 1.
-    pub fn of_block(block: u64) -> RegionOffset
-        ensures { λ r. ⌜ r .0 ≡ held (bytesOf 4194304 block) ⌝ }
+    pub fn of_block(block: u64, block_size: u64) -> RegionOffset
+        ensures { λ r. ⌜ r .0 ≡ held (bytesOf «block_size» block) ⌝ }
     {
-        RegionOffset(saturating_mul(block, MemTool::BLOCK_SIZE))
+        RegionOffset(saturating_mul(block, block_size))
     }
 
     // Where a map region starts, saturating at 2^64 - 1.
@@ -101,6 +107,16 @@ impl RegionOffset {
     }
 }
 
+// Whether n is a multiple of `of`. Only 0 is one of 0.
+pub fn is_multiple(n: u64, of: u64) -> bool
+    ensures { λ r. ⌜ r ≡ eqb (n % of) 0 ⌝ }
+{
+    if of == 0 {
+        return n == 0;
+    }
+    n % of == 0
+}
+
 // The smaller of two numbers.
 pub fn smaller(a: u64, b: u64) -> u64
     ensures { λ r. ⌜ r ≡ min a b ⌝ }
@@ -128,10 +144,13 @@ pub fn sum_within(a: u64, b: u64, limit: u64) -> bool
     a <= limit - b
 }
 
-// Whether a * b is at most `limit`, as numbers without end: no product is made.
+// Whether a * b is at most `limit`, as numbers without end: a product is made only where it fits.
 pub fn product_within(a: u64, b: u64, limit: u64) -> bool
     ensures { λ r. ⌜ r ≡ leb (a * b) limit ⌝ }
 {
+    if (a < HALF) & (b < HALF) {
+        return a * b <= limit;
+    }
     if b == 0 {
         return true;
     }

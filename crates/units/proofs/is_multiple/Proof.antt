@@ -1,7 +1,7 @@
 use native.Mathlib.Nat.{mod-zero}
 use borrow.Author.Needs.{needs}
-use Rattle.record.proofs.is_multiple.Statement.{statement}
-use Rattle.record.proofs.is_multiple.Tie as tie
+use Rattle.units.proofs.is_multiple.Statement.{statement}
+use Rattle.units.proofs.is_multiple.Tie as tie
 
 returns : tie.Need-returns
 returns c = rw (c .if1 .taken, mod-zero)
