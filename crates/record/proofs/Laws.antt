@@ -132,9 +132,9 @@ pub record Shaped (d : Device) : Type 0 where
   pub rows-few : mapRegions (d .config .«region_size») (d .several) ≤ 512
   pub several-large : d .several ≡ true → mapRegion < d .config .«region_size»
 
-size-is : (b n region : ℕ) → b ≡ 4194304 → sizeOk b n region ≡ true → (n % 4194304 ≡ 0) × (n ≤ region)
+size-is : (b n region : ℕ) → sizeOk b n region ≡ true → (n % b ≡ 0) × (n ≤ region)
 unfolding sizeOk
-size-is b n region e h = (rw e at (eqb-true (n % b) 0 (and-left (eqb (n % b) 0) _ h)), leb-true n region (and-right (eqb (n % b) 0) _ h))
+size-is b n region h = (eqb-true (n % b) 0 (and-left (eqb (n % b) 0) _ h), leb-true n region (and-right (eqb (n % b) 0) _ h))
 
 pub size-ok : (b n region : ℕ) → b ≡ 4194304 → n % 4194304 ≡ 0 → n ≤ region → sizeOk b n region ≡ true
 unfolding sizeOk
@@ -182,9 +182,9 @@ shaped-is d e =
     let b = eqb-true (c .«block_size») 4194304 (p .block) in
     let r = region-is (c .«region_size») (d .alignment) (p .region) in
     let a = aligned (d .alignment) (r .0) in
-    let q = size-is (c .«block_size») (c .«requested_size») (c .«region_size») b (p .requested) in
-    let u = size-is (c .«block_size») (c .«usable_region_size») (c .«region_size») b (p .usable) in
-    let g = size-is (c .«block_size») (c .«plugged_size») (c .«region_size») b (p .plugged) in
+    let q = size-is (c .«block_size») (c .«requested_size») (c .«region_size») (p .requested) in
+    let u = size-is (c .«block_size») (c .«usable_region_size») (c .«region_size») (p .usable) in
+    let g = size-is (c .«block_size») (c .«plugged_size») (c .«region_size») (p .plugged) in
     let s = start-is (c .addr .0) (c .«region_size») (d .several) (d .alignment) (p .start) in
     let m = spans (c .«region_size») (d .several) in
     record {
@@ -194,11 +194,11 @@ shaped-is d e =
       region-top = r .3;
       region-twice = r .2;
       region-blocks = a .twice (c .«region_size») (r .2);
-      requested-blocks = q .0;
+      requested-blocks = rw b at (q .0);
       requested-in = q .1;
-      usable-blocks = u .0;
+      usable-blocks = rw b at (u .0);
       usable-in = u .1;
-      plugged-blocks = g .0;
+      plugged-blocks = rw b at (g .0);
       plugged-in = g .1;
       start-blocks = a .multiples (c .addr .0) (s .0);
       start-span = s .1;
@@ -262,17 +262,16 @@ config-shaped-is c e = shaped-is (ofConfig c) e
 -- the tests that take a part of the shape together with another
 pub record Tested (d : Device) : Type 0 where
   pub alignment : alignmentOk (d .alignment) ≡ true
-  pub blocks : blocksOk (d .config .«requested_size») (d .config .«usable_region_size») (d .config .«plugged_size») ≡ true
+  pub blocks : blocksOk (d .config .«block_size») (d .config .«requested_size») (d .config .«usable_region_size») (d .config .«plugged_size») ≡ true
   pub inside : insideOk (d .config .«requested_size») (d .config .«usable_region_size») (d .config .«plugged_size») (d .config .«region_size») ≡ true
   pub start : d .config .addr .0 % d .alignment ≡ 0
 
 pub tested : (d : Device) → Parts d → Tested d
 tested d p =
     let c = d .config in
-    let b = eqb-true (c .«block_size») 4194304 (p .block) in
-    let q = size-is (c .«block_size») (c .«requested_size») (c .«region_size») b (p .requested) in
-    let u = size-is (c .«block_size») (c .«usable_region_size») (c .«region_size») b (p .usable) in
-    let g = size-is (c .«block_size») (c .«plugged_size») (c .«region_size») b (p .plugged) in
+    let q = size-is (c .«block_size») (c .«requested_size») (c .«region_size») (p .requested) in
+    let u = size-is (c .«block_size») (c .«usable_region_size») (c .«region_size») (p .usable) in
+    let g = size-is (c .«block_size») (c .«plugged_size») (c .«region_size») (p .plugged) in
     record {
       alignment = region-is (c .«region_size») (d .alignment) (p .region) .0;
       blocks = simp (q .0, u .0, g .0);
@@ -288,12 +287,12 @@ unshaped d t f e =
     (λ s. sym s)
 
 -- past the others, `restOk` is all that is left
-pub rest-is : (d : Device) → d .config .«block_size» ≡ 4194304 → regionOk (d .config .«region_size») (d .alignment) ≡ true → Tested d → shapedOf d ≡ restOk (d .config .addr .0) (d .config .«region_size») (d .several) (d .pending) (d .config .«plugged_size»)
+pub rest-is : (d : Device) → eqb (d .config .«block_size») 4194304 ≡ true → regionOk (d .config .«region_size») (d .alignment) ≡ true → Tested d → shapedOf d ≡ restOk (d .config .«block_size») (d .config .addr .0) (d .config .«region_size») (d .several) (d .pending) (d .config .«plugged_size»)
 unfolding shapedOf startOk sizeOk restOk
 rest-is d b r t =
     let c = d .config in
-    let q = eqb (c .«requested_size» % 4194304) 0 in
-    let u = eqb (c .«usable_region_size» % 4194304) 0 in
+    let q = eqb (c .«requested_size» % c .«block_size») 0 in
+    let u = eqb (c .«usable_region_size» % c .«block_size») 0 in
     let k = leb (c .«requested_size») (c .«region_size») in
     let l = leb (c .«usable_region_size») (c .«region_size») in
     let n = and-right q _ (t .blocks) in
@@ -305,13 +304,13 @@ and-true true = refl
 and-true false = refl
 
 -- a single region that waits for nothing
-pub single : (start region plugged : ℕ) (several : Bool) (p : Pending) → (not several && isIdle p) ≡ true → restOk start region several p plugged ≡ leb (start + region) top
+pub single : (b start region plugged : ℕ) (several : Bool) (p : Pending) → (not several && isIdle p) ≡ true → restOk b start region several p plugged ≡ leb (start + region) top
 unfolding restOk spanOf severalOk pendingOk
-single start region plugged false Nothing e = and-true (leb (start + region) top)
-single start region plugged false (Create first last) e = absurd (let z : _≡_ {A = ℕ} 0 1 = cc in omega arith)
-single start region plugged false (Discard first count status) e = absurd (let z : _≡_ {A = ℕ} 0 1 = cc in omega arith)
-single start region plugged false (DiscardOne block status) e = absurd (let z : _≡_ {A = ℕ} 0 1 = cc in omega arith)
-single start region plugged true p e = absurd (let z : _≡_ {A = ℕ} 0 1 = cc in omega arith)
+single b start region plugged false Nothing e = and-true (leb (start + region) top)
+single b start region plugged false (Create first last) e = absurd (let z : _≡_ {A = ℕ} 0 1 = cc in omega arith)
+single b start region plugged false (Discard first count status) e = absurd (let z : _≡_ {A = ℕ} 0 1 = cc in omega arith)
+single b start region plugged false (DiscardOne block status) e = absurd (let z : _≡_ {A = ℕ} 0 1 = cc in omega arith)
+single b start region plugged true p e = absurd (let z : _≡_ {A = ℕ} 0 1 = cc in omega arith)
 
 -- ---- the pending call in numbers
 pub record RowsInside (d : Device) (first last : ℕ) : Type 0 where

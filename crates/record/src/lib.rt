@@ -4,14 +4,15 @@ use units::GuestAddr;
 use units::HostAddr;
 use units::MemTool;
 use units::RegionOffset;
+use units::is_multiple;
 use units::map_regions;
 use units::product_within;
 use units::sum_within;
 use wire::VirtioMemConfig;
 ghost use mathlib.Core.Path.{_≡_};
 ghost use mathlib.Core.Bool.{true};
-ghost use Prim.Native.Nat.{_+_, _%_};
-ghost use lib.Dec.{leb, eqb};
+ghost use Prim.Native.Nat.{_+_, _<_};
+ghost use lib.Dec.{leb};
 ghost use Rattle.units.specs.Numbers.{top};
 ghost use Rattle.record.specs.Shape.{configShapedOf, alignmentOk, regionOk, spanOf, startOk, severalOk, pendingOk, shapedOf, isIdle, featuresOf};
 ghost use Rattle.record.specs.Tests.{blocksOk, insideOk, restOk};
@@ -73,16 +74,6 @@ pub struct Device {
     pub pending: Pending,
 }
 
-// Whether n is a multiple of `of`. Only 0 is one of 0.
-fn is_multiple(n: u64, of: u64) -> bool
-    ensures { λ r. ⌜ r ≡ eqb (n % of) 0 ⌝ }
-{
-    if of == 0 {
-        return n == 0;
-    }
-    n % of == 0
-}
-
 // One of 128, 256, 512 MiB, 1 or 2 GiB.
 fn alignment_ok(alignment: u64) -> bool
     ensures { λ r. ⌜ r ≡ alignmentOk alignment ⌝ }
@@ -102,11 +93,11 @@ fn region_ok(region: u64, alignment: u64) -> bool
 }
 
 // Three sizes that are multiples of the block size.
-fn blocks_ok(requested: u64, usable: u64, plugged: u64) -> bool
-    ensures { λ r. ⌜ r ≡ blocksOk requested usable plugged ⌝ }
+fn blocks_ok(block_size: u64, requested: u64, usable: u64, plugged: u64) -> bool
+    requires { ⌜ 0 < «block_size» ⌝ }
+    ensures { λ r. ⌜ r ≡ blocksOk «block_size» requested usable plugged ⌝ }
 {
-    (requested % MemTool::BLOCK_SIZE == 0)
-        & ((usable % MemTool::BLOCK_SIZE == 0) & (plugged % MemTool::BLOCK_SIZE == 0))
+    (requested % block_size == 0) & ((usable % block_size == 0) & (plugged % block_size == 0))
 }
 
 // Three sizes that are at most the region.
@@ -145,8 +136,14 @@ fn several_ok(several: bool, region: u64) -> bool
 }
 
 // The blocks and rows of a pending call lie inside the region, and an unplug is at most the plugged size.
-fn pending_ok(pending: Pending, region: u64, several: bool, plugged: u64) -> bool
-    ensures { λ r. ⌜ r ≡ pendingOk pending 4194304 region several plugged ⌝ }
+fn pending_ok(
+    pending: Pending,
+    block_size: u64,
+    region: u64,
+    several: bool,
+    plugged: u64,
+) -> bool
+    ensures { λ r. ⌜ r ≡ pendingOk pending «block_size» region several plugged ⌝ }
 {
     match pending {
         Pending::Nothing => true,
@@ -156,26 +153,35 @@ fn pending_ok(pending: Pending, region: u64, several: bool, plugged: u64) -> boo
             count,
             status: _,
         } => {
-            sum_within(first, count, MemTool::blocks_in(region))
-                & product_within(count, MemTool::BLOCK_SIZE, plugged)
+            sum_within(first, count, MemTool::blocks_in(region, block_size))
+                & product_within(count, block_size, plugged)
         }
-        Pending::DiscardOne { block, status: _ } => block < MemTool::blocks_in(region),
+        Pending::DiscardOne { block, status: _ } => block < MemTool::blocks_in(region, block_size),
     }
 }
 
 // The last parts of the shape: where the regions end, that several are large enough, and the pending call.
-fn rest_ok(start: u64, region: u64, several: bool, pending: Pending, plugged: u64) -> bool
-    ensures { λ r. ⌜ r ≡ restOk start region several pending plugged ⌝ }
+fn rest_ok(
+    block_size: u64,
+    start: u64,
+    region: u64,
+    several: bool,
+    pending: Pending,
+    plugged: u64,
+) -> bool
+    ensures { λ r. ⌜ r ≡ restOk «block_size» start region several pending plugged ⌝ }
 {
     span_within(start, region, several)
-        & (several_ok(several, region) & pending_ok(pending, region, several, plugged))
+        & (several_ok(several, region) & pending_ok(pending, block_size, region, several, plugged))
 }
 
 // Whether the record has the stated shape: 12 is given where it has not.
 // The alignment comes first: past its test it is a power of two, and a remainder by it is a mask.
+// Past the test of the block size that is a number the compiler knows, and a remainder by it is a mask too.
 pub fn shaped(d: Device) -> bool
     ensures { λ r. ⌜ r ≡ shapedOf d ⌝ }
 {
+    let block_size = d.config.block_size;
     let alignment = d.alignment;
     let region = d.config.region_size;
     let requested = d.config.requested_size;
@@ -189,10 +195,10 @@ pub fn shaped(d: Device) -> bool
     if !region_ok(region, alignment) {
         return false;
     }
-    if d.config.block_size != MemTool::BLOCK_SIZE {
+    if block_size != MemTool::BLOCK_SIZE {
         return false;
     }
-    if !blocks_ok(requested, usable, plugged) {
+    if !blocks_ok(block_size, requested, usable, plugged) {
         return false;
     }
     if !inside_ok(requested, usable, plugged, region) {
@@ -207,7 +213,7 @@ pub fn shaped(d: Device) -> bool
     }
     // A copy of its own, so that a device that waits for nothing makes none.
     let waits_for = d.pending;
-    rest_ok(start, region, several, waits_for, plugged)
+    rest_ok(block_size, start, region, several, waits_for, plugged)
 }
 
 // Whether config fields have the shape that every device's have: that of a single region with the least alignment, waiting for nothing.

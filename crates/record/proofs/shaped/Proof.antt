@@ -27,30 +27,30 @@ returns-2 c =
 
 returns-3 : tie.Need-returns-3
 returns-3 c =
-    unshaped (c .before .before .before .before .before .before .args .d) _ (λ p. p .block) (ne-eqb _ _ (c .if3 .taken))
+    unshaped (c .before .before .before .before .before .args .d) _ (λ p. p .block) (ne-eqb _ _ (c .if3 .taken))
 
 blocks-ok-requires : tie.Need-blocks-ok-requires
-blocks-ok-requires c κs = search needs
+blocks-ok-requires c κs = let e = c .if3 .left in omega arith
 
 returns-4 : tie.Need-returns-4
 returns-4 c =
-    unshaped (c .before .before .before .before .before .before .before .before .args .d) _ (λ p. tested _ p .blocks) (refused _ _ (c .before .blocks-ok .ensures) (c .if4 .taken))
+    unshaped (c .before .before .before .before .before .before .before .args .d) _ (λ p. tested _ p .blocks) (refused _ _ (c .before .blocks-ok .ensures) (c .if4 .taken))
 
 inside-ok-requires : tie.Need-inside-ok-requires
 inside-ok-requires c κs = search needs
 
 returns-5 : tie.Need-returns-5
 returns-5 c =
-    unshaped (c .before .before .before .before .before .before .before .before .before .before .args .d) _ (λ p. tested _ p .inside) (refused _ _ (c .before .inside-ok .ensures) (c .if5 .taken))
+    unshaped (c .before .before .before .before .before .before .before .before .before .args .d) _ (λ p. tested _ p .inside) (refused _ _ (c .before .inside-ok .ensures) (c .if5 .taken))
 
 rem-if6 : tie.Need-rem-if6
 rem-if6 c =
-    let h = aligned _ (passed _ _ (c .before .before .before .before .before .before .before .before .before .alignment-ok .ensures) (c .before .before .before .before .before .before .before .before .if1 .left)) in
+    let h = aligned _ (passed _ _ (c .before .before .before .before .before .before .before .before .alignment-ok .ensures) (c .before .before .before .before .before .before .before .if1 .left)) in
     omega arith
 
 returns-6 : tie.Need-returns-6
 returns-6 c =
-    let d = c .before .before .before .before .before .before .before .before .before .before .before .args .d in
+    let d = c .before .before .before .before .before .before .before .before .before .before .args .d in
     unshaped d (eqb (d .config .addr .0 % d .alignment) 0) (λ p. eq-eqb _ _ (tested _ p .start)) (ne-eqb _ _ (c .if6 .taken))
 
 is-idle-requires : tie.Need-is-idle-requires
@@ -60,13 +60,13 @@ sum-within-requires : tie.Need-sum-within-requires
 sum-within-requires c κs = search needs
 
 -- past the six tests
-past-6 : (c : tie.Else6) → let d = c .before .before .before .before .before .before .before .before .before .before .before .args .d in shapedOf d ≡ restOk (d .config .addr .0) (d .config .«region_size») (d .several) (d .pending) (d .config .«plugged_size»)
+past-6 : (c : tie.Else6) → let d = c .before .before .before .before .before .before .before .before .before .before .args .d in shapedOf d ≡ restOk (d .config .«block_size») (d .config .addr .0) (d .config .«region_size») (d .several) (d .pending) (d .config .«plugged_size»)
 past-6 c =
-    rest-is (c .before .before .before .before .before .before .before .before .before .before .before .args .d)
-    (c .before .before .before .before .before .if3 .left)
-    (passed _ _ (c .before .before .before .before .before .before .before .before .region-ok .ensures) (c .before .before .before .before .before .before .before .if2 .left))
+    rest-is (c .before .before .before .before .before .before .before .before .before .before .args .d)
+    (eq-eqb _ _ (c .before .before .before .before .before .if3 .left))
+    (passed _ _ (c .before .before .before .before .before .before .before .region-ok .ensures) (c .before .before .before .before .before .before .if2 .left))
     (record {
-      alignment = passed _ _ (c .before .before .before .before .before .before .before .before .before .before .alignment-ok .ensures) (c .before .before .before .before .before .before .before .before .before .if1 .left);
+      alignment = passed _ _ (c .before .before .before .before .before .before .before .before .before .alignment-ok .ensures) (c .before .before .before .before .before .before .before .before .if1 .left);
       blocks = passed _ _ (c .before .before .before .before .blocks-ok .ensures) (c .before .before .before .if4 .left);
       inside = passed _ _ (c .before .before .inside-ok .ensures) (c .before .if5 .left);
       start = c .if6 .left;
@@ -74,10 +74,10 @@ past-6 c =
 
 returns-7 : tie.Need-returns-7
 returns-7 c =
-    let d = c .before .before .before .before .before .before .before .before .before .before .before .before .before .before .args .d in
+    let d = c .before .before .before .before .before .before .before .before .before .before .before .before .before .args .d in
     let alone = rw (c .before .before .is-idle .ensures) at (c .before .if7 .taken) in
     c .sum-within .ensures
-    ∙ sym (past-6 (c .before .before .before) ∙ single (d .config .addr .0) (d .config .«region_size») (d .config .«plugged_size») (d .several) (d .pending) alone)
+    ∙ sym (past-6 (c .before .before .before) ∙ single (d .config .«block_size») (d .config .addr .0) (d .config .«region_size») (d .config .«plugged_size») (d .several) (d .pending) alone)
 
 rest-ok-requires : tie.Need-rest-ok-requires
 rest-ok-requires c κs = search needs
