@@ -136,13 +136,7 @@ fn several_ok(several: bool, region: u64) -> bool
 }
 
 // The blocks and rows of a pending call lie inside the region, and an unplug is at most the plugged size.
-fn pending_ok(
-    pending: Pending,
-    block_size: u64,
-    region: u64,
-    several: bool,
-    plugged: u64,
-) -> bool
+fn pending_ok(pending: Pending, block_size: u64, region: u64, several: bool, plugged: u64) -> bool
     ensures { λ r. ⌜ r ≡ pendingOk pending «block_size» region several plugged ⌝ }
 {
     match pending {

@@ -33,13 +33,13 @@ fn extent(region: u64, requested: u64, alignment: u64) -> u64
 }
 
 // The usable size that a requested size is worth.
-pub fn new_size(region: u64, requested: u64, alignment: u64) -> u64
-    ensures { λ r. ⌜ r ≡ newSize 4194304 region requested alignment ⌝ }
+pub fn new_size(region: u64, requested: u64, alignment: u64, block_size: u64) -> u64
+    ensures { λ r. ⌜ r ≡ newSize «block_size» region requested alignment ⌝ }
 {
     if requested == 0 {
         return 0;
     }
-    extent(region, requested, alignment) / MemTool::BLOCK_SIZE * MemTool::BLOCK_SIZE
+    MemTool::blocks_in(extent(region, requested, alignment), block_size) * block_size
 }
 
 // The usable size after a resize: it never shrinks.
