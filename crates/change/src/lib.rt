@@ -8,6 +8,8 @@ use units::GuestAddr;
 use units::HostAddr;
 use units::MemTool;
 use units::RegionOffset;
+use units::is_multiple;
+use units::product_within;
 use units::smaller;
 use units::sum_within;
 ghost use mathlib.Core.Path.{_≡_};
@@ -62,20 +64,25 @@ fn inside_of(start: GuestAddr, usable: u64, addr: GuestAddr, size: u64) -> Range
 }
 
 // Test (b), part by part.
-pub fn range_of(start: GuestAddr, usable: u64, addr: GuestAddr, nb_blocks: u16) -> Range
-    ensures { λ r. ⌜ r ≡ rangeOf 4194304 (start .0) usable (addr .0) «nb_blocks» ⌝ }
+pub fn range_of(
+    start: GuestAddr,
+    usable: u64,
+    block_size: u64,
+    addr: GuestAddr,
+    nb_blocks: u16,
+) -> Range
+    ensures { λ r. ⌜ r ≡ rangeOf «block_size» (start .0) usable (addr .0) «nb_blocks» ⌝ }
 {
-    if addr.0 % MemTool::BLOCK_SIZE != 0 {
+    if !is_multiple(addr.0, block_size) {
         return Range::Misaligned;
     }
     if nb_blocks == 0 {
         return Range::NoBlocks;
     }
-    let size = MemTool::bytes_of(nb_blocks);
-    if !sum_within(addr.0, size, MAX) {
+    if !product_within(nb_blocks as u64, block_size, MAX - addr.0) {
         return Range::Overflows;
     }
-    inside_of(start, usable, addr, size)
+    inside_of(start, usable, addr, nb_blocks as u64 * block_size)
 }
 
 // A range at an offset from what is mapped at `host`.
@@ -120,6 +127,7 @@ pub fn host_of(several: bool, table: &[u64], offset: RegionOffset, size: u64) ->
 pub fn change_of(
     start: GuestAddr,
     usable: u64,
+    block_size: u64,
     several: bool,
     addr: GuestAddr,
     nb_blocks: u16,
@@ -127,17 +135,17 @@ pub fn change_of(
     bitmap: &[u8],
     table: &[u64],
 ) -> Change
-    ensures { λ r. ⌜ r ≡ changeOf 4194304 (start .0) usable several (addr .0) «nb_blocks» plug (blocks (now (bitmap .entry))) (rowsOf (now (table .entry))) ⌝ }
+    ensures { λ r. ⌜ r ≡ changeOf «block_size» (start .0) usable several (addr .0) «nb_blocks» plug (blocks (now (bitmap .entry))) (rowsOf (now (table .entry))) ⌝ }
 {
-    let range = range_of(start, usable, addr, nb_blocks);
+    let range = range_of(start, usable, block_size, addr, nb_blocks);
     let Range::Inside(offset) = range else {
         return Change::Outside(range);
     };
-    let first = MemTool::blocks_in(offset.0);
+    let first = MemTool::blocks_in(offset.0, block_size);
     if !all_in_state(bitmap, first as usize, nb_blocks as usize, !plug) {
         return Change::WrongState;
     }
-    let host = host_of(several, table, offset, MemTool::bytes_of(nb_blocks));
+    let host = host_of(several, table, offset, nb_blocks as u64 * block_size);
     let HostRange::At(at) = host else {
         return Change::NoHost(host);
     };
@@ -161,17 +169,18 @@ fn state_in(bitmap: &[u8], first: usize, count: usize) -> u16
 pub fn state_of(
     start: GuestAddr,
     region: u64,
+    block_size: u64,
     addr: GuestAddr,
     nb_blocks: u16,
     bitmap: &[u8],
 ) -> u16
-    ensures { λ r. ⌜ r ≡ stateOf 4194304 (start .0) region (addr .0) «nb_blocks» (blocks (now (bitmap .entry))) ⌝ }
+    ensures { λ r. ⌜ r ≡ stateOf «block_size» (start .0) region (addr .0) «nb_blocks» (blocks (now (bitmap .entry))) ⌝ }
 {
     if addr.0 < start.0 {
         return 0;
     }
-    let first = MemTool::blocks_in(addr.offset_from(start).0);
-    let end = MemTool::blocks_in(region);
+    let first = MemTool::blocks_in(addr.offset_from(start).0, block_size);
+    let end = MemTool::blocks_in(region, block_size);
     if end <= first {
         return 0;
     }

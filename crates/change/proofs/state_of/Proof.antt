@@ -27,7 +27,7 @@ returns-2 c =
     let e = c .before .before .before .offset-from .ensures in
     let f = c .before .before .blocks-in .ensures in
     let n = c .before .blocks-in2 .ensures in
-    sym (state-none-there 4194304 (a .start .0) (a .region) (a .addr .0) (a .nb-blocks) _ (omega arith))
+    sym (state-none-there (a .block-size) (a .start .0) (a .region) (a .addr .0) (a .nb-blocks) _ (rw (← e, ← f, ← n) (omega arith)))
 
 sub-smaller : tie.Need-sub-smaller
 sub-smaller c = search needs
