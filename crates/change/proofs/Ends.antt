@@ -2,21 +2,17 @@
 use Prim.Native.Nat.{ℕ, _≤_, _<_}
 use mathlib.Core.Path.{_≡_, refl}
 use mathlib.Core.Bool.{Bool, true, false, not}
-use mathlib.Core.List.{List, [], _∷_}
+use mathlib.Core.List.{[], _∷_}
 use lib.Dec.{leb}
 use borrow.Author.Tests.{leb-true, leb-false}
 use Rattle.units.proofs.Tests.{passed, refused}
 use types.Run.{OneOf, miss}
 use denote.Enum.Declared.{tagOf}
-use Rattle.rows.specs.declared.MapRow.{MapRow}
-use Rattle.change.proofs.Range.{the-type as range-type}
 use Rattle.change.proofs.HostRange.{the-type as host-type}
-use Rattle.change.specs.declared.Range.{Range}
-use Rattle.change.specs.declared.Range.the-variants.{Inside, Misaligned, NoBlocks, Overflows, BelowStart, PastUsable, EndPastUsable}
 use Rattle.change.specs.declared.HostRange.{HostRange}
 use Rattle.change.specs.declared.HostRange.the-variants.{At, CrossesBorder, Unmapped, SumPasses}
-use Rattle.change.specs.declared.Change.the-variants.{Outside, NoHost}
-use Rattle.change.specs.Change.{legalAt, changeIn}
+use Rattle.change.specs.declared.Change.the-variants.{NoHost}
+use Rattle.change.specs.Change.{legalAt}
 
 -- past `if !sum_within(..) { return .. }`, and on the way out
 pub sum-within : (n limit : ℕ) (r : Bool) → r ≡ leb n limit → not r ≡ false → n ≤ limit
@@ -26,17 +22,6 @@ pub sum-past : (n limit : ℕ) (r : Bool) → r ≡ leb n limit → not r ≡ tr
 sum-past n limit r e t = leb-false n limit (refused _ _ e t)
 
 -- where `let .. else` found another case, only its number is known
-pub not-inside : (r : Range) → OneOf (1 ∷ 2 ∷ 3 ∷ 4 ∷ 5 ∷ 6 ∷ []) (tagOf range-type r) → (b : ℕ) (several : Bool) (count : ℕ) (wanted : Bool) (blocks : List Bool) (rows : List MapRow)
-    → Outside r ≡ changeIn r b several count wanted blocks rows
-unfolding changeIn
-not-inside (Inside o) k b several count wanted blocks rows = absurd (miss (1 ∷ 2 ∷ 3 ∷ 4 ∷ 5 ∷ 6 ∷ []) 0 tt k)
-not-inside Misaligned k b several count wanted blocks rows = refl
-not-inside NoBlocks k b several count wanted blocks rows = refl
-not-inside Overflows k b several count wanted blocks rows = refl
-not-inside BelowStart k b several count wanted blocks rows = refl
-not-inside PastUsable k b several count wanted blocks rows = refl
-not-inside EndPastUsable k b several count wanted blocks rows = refl
-
 pub not-at : (h : HostRange) → OneOf (1 ∷ 2 ∷ 3 ∷ []) (tagOf host-type h) → (b offset : ℕ) → NoHost h ≡ legalAt b offset h
 unfolding legalAt
 not-at (At host) k b offset = absurd (miss (1 ∷ 2 ∷ 3 ∷ []) 0 tt k)

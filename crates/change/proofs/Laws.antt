@@ -20,7 +20,7 @@ use Rattle.rows.specs.declared.Mapping.the-variants.{At as MappedAt, Unmapped a
 use Rattle.rows.specs.Rows.{rowAt, mappingOf}
 use Rattle.rows.proofs.Laws.{mapping-same}
 use Rattle.change.specs.declared.Range.{Range}
-use Rattle.change.specs.declared.Range.the-variants.{Inside, Misaligned, NoBlocks, Overflows, BelowStart, PastUsable, EndPastUsable}
+use Rattle.change.specs.declared.Range.the-variants.{Inside, Outside as NotInside}
 use Rattle.change.specs.declared.HostRange.{HostRange}
 use Rattle.change.specs.declared.HostRange.the-variants.{At, CrossesBorder, Unmapped, SumPasses}
 use Rattle.change.specs.declared.Change.the-variants.{Legal}
@@ -151,12 +151,7 @@ module _ (b start usable : ℕ) (several : Bool) (addr count : ℕ) (wanted : Bo
         hosted = host-is several rows (offset .0) (bytesOf b count) host h;
       })
       (λ t. let w = rw t at e in let z : _≡_ {A = ℕ} 0 1 = cc in absurd (omega arith))
-  legal-in Misaligned q e = let z : _≡_ {A = ℕ} 0 1 = cc in absurd (omega arith)
-  legal-in NoBlocks q e = let z : _≡_ {A = ℕ} 0 1 = cc in absurd (omega arith)
-  legal-in Overflows q e = let z : _≡_ {A = ℕ} 0 1 = cc in absurd (omega arith)
-  legal-in BelowStart q e = let z : _≡_ {A = ℕ} 0 1 = cc in absurd (omega arith)
-  legal-in PastUsable q e = let z : _≡_ {A = ℕ} 0 1 = cc in absurd (omega arith)
-  legal-in EndPastUsable q e = let z : _≡_ {A = ℕ} 0 1 = cc in absurd (omega arith)
+  legal-in (NotInside part) q e = let z : _≡_ {A = ℕ} 0 1 = cc in absurd (omega arith)
 
   pub legal-is : changeOf b start usable several addr count wanted blocks rows ≡ Legal first offset host → IsLegal b start usable several addr count wanted blocks rows first offset host
   legal-is e = legal-in (rangeOf b start usable addr count) refl e
@@ -214,12 +209,7 @@ module _ (b start usable : ℕ) (several : Bool) (addr count : ℕ) (wanted : Bo
   same-in : (r : Range) → rangeOf b start usable addr count ≡ r → changeIn r b several count wanted bs rs ≡ changeIn r b several count wanted cs ss
   unfolding changeIn
   same-in (Inside o) q = rw (same-blocks o q, host-same several rs ss (o .0) (bytesOf b count) (same-row o q))
-  same-in Misaligned q = refl
-  same-in NoBlocks q = refl
-  same-in Overflows q = refl
-  same-in BelowStart q = refl
-  same-in PastUsable q = refl
-  same-in EndPastUsable q = refl
+  same-in (NotInside part) q = refl
 
   pub change-same : changeOf b start usable several addr count wanted bs rs ≡ changeOf b start usable several addr count wanted cs ss
   change-same = same-in (rangeOf b start usable addr count) refl

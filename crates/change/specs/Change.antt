@@ -11,7 +11,8 @@ use Rattle.rows.specs.declared.Mapping.the-variants.{At as MappedAt, Unmapped a
 use Rattle.rows.specs.Rows.{mappingOf}
 use Rattle.units.specs.Numbers.{top, bytesOf, blocksIn, mapRegion}
 use Rattle.change.specs.declared.Range.{Range}
-use Rattle.change.specs.declared.Range.the-variants.{Inside, Misaligned, NoBlocks, Overflows, BelowStart, PastUsable, EndPastUsable}
+use Rattle.change.specs.declared.Range.the-variants.{Inside, Outside as NotInside}
+use Rattle.change.specs.declared.Part.the-variants.{Alignment, ZeroBlocks, Overflow, BelowStart, PastUsable, EndPastUsable}
 use Rattle.change.specs.declared.HostRange.{HostRange}
 use Rattle.change.specs.declared.HostRange.the-variants.{At, CrossesBorder, Unmapped, SumPasses}
 use Rattle.change.specs.declared.Change.{Change}
@@ -20,17 +21,17 @@ use Rattle.change.specs.declared.Change.the-variants.{Legal, Outside, Wr
 -- "or the range is not inside start to start + usable": it begins before, begins past, or ends past
 unfoldable pub insideOf : (start usable addr size : ℕ) → Range
 insideOf start usable addr size =
-    cond (ltb addr start) BelowStart
-    (cond (leb (start + usable) addr) PastUsable
-    (cond (ltb (start + usable) (addr + size)) EndPastUsable
+    cond (ltb addr start) (NotInside BelowStart)
+    (cond (leb (start + usable) addr) (NotInside PastUsable)
+    (cond (ltb (start + usable) (addr + size)) (NotInside EndPastUsable)
     (Inside (record { 0 = addr - start }))))
 
 -- "(b) ERROR if the address is not a multiple of 4 MiB, size is 0, address + size passes 2^64 - 1, or the range is not inside .."
 unfoldable pub rangeOf : (b start usable addr count : ℕ) → Range
 rangeOf b start usable addr count =
-    cond (not (eqb (addr % b) 0)) Misaligned
-    (cond (eqb count 0) NoBlocks
-    (cond (ltb top (addr + bytesOf b count)) Overflows
+    cond (not (eqb (addr % b) 0)) (NotInside Alignment)
+    (cond (eqb count 0) (NotInside ZeroBlocks)
+    (cond (ltb top (addr + bytesOf b count)) (NotInside Overflow)
     (insideOf start usable addr (bytesOf b count))))
 
 -- "ERROR if the host sum (row's host address + offset, several regions: offset in its 2 GiB, + size) passes 2^64 - 1"
@@ -67,12 +68,7 @@ changeIn (Inside offset) b several count wanted blocks rows =
     cond (allAre blocks (blocksIn b (offset .0)) count (not wanted))
     (legalAt b (offset .0) (hostOf several rows (offset .0) (bytesOf b count)))
     WrongState
-changeIn Misaligned b several count wanted blocks rows = Outside Misaligned
-changeIn NoBlocks b several count wanted blocks rows = Outside NoBlocks
-changeIn Overflows b several count wanted blocks rows = Outside Overflows
-changeIn BelowStart b several count wanted blocks rows = Outside BelowStart
-changeIn PastUsable b several count wanted blocks rows = Outside PastUsable
-changeIn EndPastUsable b several count wanted blocks rows = Outside EndPastUsable
+changeIn (NotInside part) b several count wanted blocks rows = Outside part
 
 -- (b), (c), (d) in their order; `wanted` is true for a plug
 abbrev pub changeOf : (b start usable : ℕ) (several : Bool) (addr count : ℕ) (wanted : Bool) → List Bool → List MapRow → Change

@@ -15,19 +15,27 @@ use units::sum_within;
 ghost use mathlib.Core.Path.{_≡_};
 ghost use Rattle.bitmap.specs.Blocks.{blocks, range};
 ghost use Rattle.rows.specs.Rows.{rowsOf};
+ghost use Rattle.change.specs.declared.Part.{Part};
+ghost use Rattle.change.specs.declared.Range.the-variants.{Outside as NotInside};
+ghost use Rattle.change.specs.declared.Change.the-variants.{Outside};
 ghost use Rattle.change.specs.Change.{insideOf, rangeOf, hostSum, hostIn, hostOf, changeOf, stateIn, stateOf};
 
 const MAX: u64 = 18446744073709551615;
 
-// Where a range lies, or which part of test (b) it failed first.
-pub enum Range {
-    Inside(RegionOffset),
-    Misaligned,
-    NoBlocks,
-    Overflows,
+// The parts of test (b), in their order: which of them a range failed first.
+pub enum Part {
+    Alignment,
+    ZeroBlocks,
+    Overflow,
     BelowStart,
     PastUsable,
     EndPastUsable,
+}
+
+// Where a range lies, or why it is not inside.
+pub enum Range {
+    Inside(RegionOffset),
+    Outside(Part),
 }
 
 // Where the host has a range, or which part of test (d) it failed first.
@@ -41,7 +49,7 @@ pub enum HostRange {
 // A legal change with its first block, its offset and its host address, or which of the tests (b), (c), (d) it failed first.
 pub enum Change {
     Legal(u64, RegionOffset, HostAddr),
-    Outside(Range),
+    Outside(Part),
     WrongState,
     NoHost(HostRange),
 }
@@ -51,14 +59,14 @@ fn inside_of(start: GuestAddr, usable: u64, addr: GuestAddr, size: u64) -> Range
     ensures { λ r. ⌜ r ≡ insideOf (start .0) usable (addr .0) size ⌝ }
 {
     if addr.0 < start.0 {
-        return Range::BelowStart;
+        return Range::Outside(Part::BelowStart);
     }
     let offset = addr.offset_from(start);
     if usable <= offset.0 {
-        return Range::PastUsable;
+        return Range::Outside(Part::PastUsable);
     }
     if !sum_within(offset.0, size, usable) {
-        return Range::EndPastUsable;
+        return Range::Outside(Part::EndPastUsable);
     }
     Range::Inside(offset)
 }
@@ -74,15 +82,25 @@ pub fn range_of(
     ensures { λ r. ⌜ r ≡ rangeOf «block_size» (start .0) usable (addr .0) «nb_blocks» ⌝ }
 {
     if !is_multiple(addr.0, block_size) {
-        return Range::Misaligned;
+        return Range::Outside(Part::Alignment);
     }
     if nb_blocks == 0 {
-        return Range::NoBlocks;
+        return Range::Outside(Part::ZeroBlocks);
     }
     if !product_within(nb_blocks as u64, block_size, MAX - addr.0) {
-        return Range::Overflows;
+        return Range::Outside(Part::Overflow);
     }
     inside_of(start, usable, addr, nb_blocks as u64 * block_size)
+}
+
+// The change of a range that is not inside: what it failed is handed on. It is asked of no other.
+fn outside(range: Range) -> Change
+    ensures { λ r. ⌜ ((part : Part) → range ≡ NotInside part → r ≡ Outside part) ⌝ }
+{
+    match range {
+        Range::Outside(part) => Change::Outside(part),
+        Range::Inside(_) => Change::WrongState,
+    }
 }
 
 // A range at an offset from what is mapped at `host`.
@@ -139,7 +157,7 @@ pub fn change_of(
 {
     let range = range_of(start, usable, block_size, addr, nb_blocks);
     let Range::Inside(offset) = range else {
-        return Change::Outside(range);
+        return outside(range);
     };
     let first = MemTool::blocks_in(offset.0, block_size);
     if !all_in_state(bitmap, first as usize, nb_blocks as usize, !plug) {

@@ -6,7 +6,7 @@ use Rattle.bitmap.specs.Blocks.{blocks, allAre}
 use Rattle.change.specs.declared.Range.the-variants.{Inside}
 use Rattle.units.proofs.Tests.{passed, refused}
 use Rattle.change.specs.Change.{rangeOf, changeIn, legalAt}
-use Rattle.change.proofs.Ends.{not-inside, not-at}
+use Rattle.change.proofs.Ends.{not-at}
 use Rattle.change.proofs.Laws.{inside-is}
 use native.Mathlib.Omega.{arith}
 use borrow.Author.Needs.{needs}
@@ -26,8 +26,17 @@ range-of-requires c κs = search needs
 enum-known-range : tie.Need-enum-known-range
 enum-known-range c = search needs
 
+enum-told : tie.Need-enum-told
+enum-told c = search needs
+
+outside-requires : tie.Need-outside-requires
+outside-requires c κs = search needs
+
 returns : tie.Need-returns
-returns c = simp (← c .before .range-of .ensures) (not-inside _ (c .match .keys2) _ _ _ _ _ _)
+unfolding changeIn
+returns c =
+    let e = c .before .enum-told .given .1 in
+    simp (← c .before .before .before .range-of .ensures, e) (c .outside .ensures _ e)
 
 blocks-in-requires : tie.Need-blocks-in-requires
 blocks-in-requires c κs = search needs
@@ -72,6 +81,8 @@ change-of-spec =
     (tie.spec
     range-of-requires
     enum-known-range
+    enum-told
+    outside-requires
     returns
     blocks-in-requires
     all-in-state-requires
