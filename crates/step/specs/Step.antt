@@ -28,7 +28,7 @@ use Rattle.resize.specs.declared.Growth.{Growth}
 use Rattle.resize.specs.declared.Growth.the-variants.{Asks, Settled}
 use Rattle.resize.specs.Resize.{newSize, grown, growthOf}
 use Rattle.change.specs.declared.Range.{Range}
-use Rattle.change.specs.declared.Range.the-variants.{Inside, Misaligned, NoBlocks, Overflows, BelowStart, PastUsable, EndPastUsable}
+use Rattle.change.specs.declared.Range.the-variants.{Inside, Outside as NotInside}
 use Rattle.change.specs.declared.Change.{Change}
 use Rattle.change.specs.declared.Change.the-variants.{Legal, Outside, WrongState, NoHost}
 use Rattle.change.specs.Change.{rangeOf, changeOf, stateOf}
@@ -167,19 +167,16 @@ endsAll w status g = served ack status (deviceOf (pendingTo Nothing (pluggedTo 0
 abbrev pub newUsable : World → ℕ
 newUsable w = newSize (blockSize w) (region w) (requested w) (w .device .alignment)
 
--- the record with the usable size worked out in blocks of b bytes, and placed
-abbrev pub sizedBy : (b : ℕ) → Device → Device
-sizedBy b d =
+-- the record with its usable size worked out, and placed
+abbrev pub sizedOf : Device → Device
+sizedOf d =
     let c = d .config in
-    placedTo true (usableTo (grown (c .«usable_region_size») (newSize b (c .«region_size») (c .«requested_size») (d .alignment))) d)
-
-abbrev pub sized : World → Device
-sized w = sizedBy (blockSize w) (w .device)
+    placedTo true (usableTo (grown (c .«usable_region_size») (newSize (c .«block_size») (c .«region_size») (c .«requested_size») (d .alignment))) d)
 
 abbrev pub sizes : World → Outcome
 sizes w =
     record {
-      world = deviceOf (sized w) w;
+      world = deviceOf (sizedOf (w .device)) w;
       answer = Sized;
       bytes = [];
     }
@@ -198,7 +195,7 @@ abbrev pub creates : World → (i last host : ℕ) → List ℕ → Outcome
 creates w i last host bytes =
     record {
       world = record {
-        device = pendingTo Nothing (sized w);
+        device = pendingTo Nothing (sizedOf (w .device));
         blocks = w .blocks;
         rows = filled (w .rows) i last host;
       };
@@ -312,12 +309,7 @@ unplugAll w from status g = nextAs (nextSet (w .blocks) from (regionBlocks w)) w
 -- "State: type ERROR if (b) fails, else ACK"
 unfoldable pub stateType : Range → ℕ
 stateType (Inside offset) = 0
-stateType Misaligned = 3
-stateType NoBlocks = 3
-stateType Overflows = 3
-stateType BelowStart = 3
-stateType PastUsable = 3
-stateType EndPastUsable = 3
+stateType (NotInside part) = 3
 
 -- "The state field is worked out in either case"
 abbrev pub stateResp : World → (addr count : ℕ) → VirtioMemResp

@@ -8,6 +8,7 @@ use record::shaped;
 use resize::grown_size;
 use resize::new_size;
 use units::GuestAddr;
+use units::MemTool;
 use units::map_regions;
 use wire::VirtioMemResp;
 ghost use mathlib.Core.Path.{_≡_};
@@ -15,7 +16,7 @@ ghost use mathlib.Core.Bool.{cond};
 ghost use Prim.Native.Nat.{_+_, _*_, _/_};
 ghost use Rattle.units.specs.Numbers.{blocksIn};
 ghost use mathlib.Core.List.{[]};
-ghost use Rattle.step.specs.Step.{tablesFit, readyRefusal, unplacedRefusal, pendingRefusal, sizedBy, served};
+ghost use Rattle.step.specs.Step.{tablesFit, readyRefusal, unplacedRefusal, pendingRefusal, sizedOf, served};
 ghost use Rattle.step.specs.Promise.{lent, Does};
 
 // The end of a request: its response, also where it could not be delivered, and the used length.
@@ -50,10 +51,7 @@ pub struct Answered {
 fn bytes_for(region: u64, block_size: u64) -> u64
     ensures { λ r. ⌜ r ≡ (blocksIn «block_size» region + 7) / 8 ⌝ }
 {
-    if block_size == 0 {
-        return 0;
-    }
-    let blocks = region / block_size;
+    let blocks = MemTool::blocks_in(region, block_size);
     if blocks % 8 == 0 {
         blocks / 8
     } else {
@@ -130,10 +128,15 @@ pub fn pending_refusal(d: Device, bytes: usize, words: usize) -> u64
 
 // The record with its usable size worked out, and placed.
 pub fn sized(d: Device) -> Device
-    ensures { λ r. ⌜ r ≡ sizedBy 4194304 d ⌝ }
+    ensures { λ r. ⌜ r ≡ sizedOf d ⌝ }
 {
     let config = d.config;
-    let new = new_size(config.region_size, config.requested_size, d.alignment);
+    let new = new_size(
+        config.region_size,
+        config.requested_size,
+        d.alignment,
+        config.block_size,
+    );
     let usable = grown_size(config.usable_region_size, new);
     let mut sized = d;
     sized.config.usable_region_size = usable;
