@@ -26,9 +26,10 @@ use Rattle.record.specs.Shape.{shapedOf}
 use Rattle.record.specs.Changes.{pluggedTo, pendingTo}
 use Rattle.record.proofs.Laws.{shaped-is, block-less-keeps}
 use Rattle.step.specs.declared.Answered.{Answered}
-use Rattle.step.specs.World.{World, Guest, Request, HostAnswer, worldOf, Responded, Meets}
+use Rattle.step.specs.World.{World, Guest, Request, HostAnswer, worldOf}
+use Rattle.step.specs.Promise.{lent, Gives}
 use Rattle.step.specs.Step.{unserved, hostAnswer, serve, request, step, unless, readyRefusal, pendingRefusal, ack, error, refused as refusedWith, unplugAll}
-use Rattle.serving.proofs.Ends.{serves}
+use Rattle.serving.proofs.Ends.{Responded, serves, relent}
 
 -- a chain that is no request
 bad-is : (p : Parsed) → OneOf (1 ∷ []) (tagOf parsed-type p) → (reason : ℕ) → reason ≡ reasonOf p → (w : World) (g : Guest) → request p w g ≡ unserved reason w g
@@ -71,47 +72,45 @@ module _ (d : Device) (bitmap table : List ℕ) (number : ℕ) where
       unfolding step unless
       answer-ready h = rw (same-pending, eq-eqb number 0 h)
 
--- ---- the host's answer to a discard, by its pending case
+-- ---- the host's answer, by its pending case
 module _ (w : World) (g : Guest) (ok : Bool) where
-  -- where the pattern did not fit, only the case's number is known
-  pub none-pending : (p : Pending) → ((first last : ℕ) → p ≡ Create first last → ⊥) → OneOf (0 ∷ 1 ∷ []) (tagOf pending-type p) → hostAnswer p w g ok 0 ≡ refusedWith 8 w (g .mem)
-  unfolding hostAnswer
-  none-pending Nothing none k = refl
-  none-pending (Create first last) none k = absurd (none first last refl)
-  none-pending (Discard first n status) none k = absurd (miss (0 ∷ 1 ∷ []) 2 tt k)
-  none-pending (DiscardOne block status) none k = absurd (miss (0 ∷ 1 ∷ []) 3 tt k)
-
   -- the case that is pending
   pub case-is : (p q : Pending) → p ≡ q → (host : ℕ) → hostAnswer p w g ok host ≡ hostAnswer q w g ok host
   case-is p q e host = ap (λ (p : Pending). hostAnswer p w g ok host) e
 
   -- a discard's answer is the same whatever host address it brings
-  pub any-host : (p : Pending) → ((first last : ℕ) → p ≡ Create first last → ⊥) → (host : ℕ) → hostAnswer p w g ok host ≡ hostAnswer p w g ok 0
+  pub any-host : (first count : ℕ) (status : GuestAddr) (host : ℕ) → hostAnswer (Discard first count status) w g ok host ≡ hostAnswer (Discard first count status) w g ok 0
   unfolding hostAnswer
-  any-host Nothing none host = refl
-  any-host (Create first last) none host = absurd (none first last refl)
-  any-host (Discard first n status) none host = refl
-  any-host (DiscardOne block status) none host = refl
+  any-host first count status host = refl
+
+  pub any-host-one : (block : ℕ) (status : GuestAddr) (host : ℕ) → hostAnswer (DiscardOne block status) w g ok host ≡ hostAnswer (DiscardOne block status) w g ok 0
+  unfolding hostAnswer
+  any-host-one block status host = refl
+
+  -- with nothing pending, which the refusals leave out
+  pub none-pending : (host : ℕ) → hostAnswer Nothing w g ok host ≡ refusedWith 8 w (g .mem)
+  unfolding hostAnswer
+  none-pending host = refl
 
 -- one block less, and nothing pending
 pub less-shaped : (d d′ d″ : Device) (n : ℕ) → shapedOf d ≡ true → n ≡ d .config .«plugged_size» - d .config .«block_size» → d′ ≡ pluggedTo n d → d″ ≡ pendingTo Nothing d′ → shapedOf d″ ≡ true
 less-shaped d d′ d″ n shape less same same′ = rw (same′, same, less) (block-less-keeps d shape)
 
 module _ (d : Device) (bitmap table : List ℕ) (shape : shapedOf d ≡ true) (g : Guest) (s : Answered) {bytes : List ℕ} (ok : Bool) (status : GuestAddr) where
-  pub unplug-fails : (first count : ℕ) → not ok ≡ true → (d′ : Device) → d′ ≡ pendingTo Nothing d → Responded g (status .0) error d′ s bytes → Meets (hostAnswer (Discard first count status) (worldOf d bitmap table) g ok 0) s bitmap table table bytes
+  pub unplug-fails : (first count : ℕ) → not ok ≡ true → (d′ : Device) → d′ ≡ pendingTo Nothing d → Responded g (status .0) error d′ s bytes → Gives (hostAnswer (Discard first count status) (worldOf d bitmap table) g ok 0) (lent bitmap table (g .mem)) (lent bitmap table bytes) s
   unfolding hostAnswer
-  unplug-fails first count t d′ same p = rw (not-true ok t) (serves _ bitmap table (rw same at p) refl refl)
+  unplug-fails first count t d′ same p = rw (not-true ok t) (serves g (status .0) _ bitmap (rw same at p) refl refl)
 
-  pub unplug-done : (first count : ℕ) → not ok ≡ false → (bitmap′ : List ℕ) → Filled bitmap bitmap′ first count false → (d′ d″ : Device) → d′ ≡ pluggedTo (d .config .«plugged_size» - bytesOf 4194304 count) d → d″ ≡ pendingTo Nothing d′ → Responded g (status .0) ack d″ s bytes → Meets (hostAnswer (Discard first count status) (worldOf d bitmap table) g ok 0) s bitmap′ table table bytes
+  pub unplug-done : (first count : ℕ) → not ok ≡ false → (bitmap′ : List ℕ) → Filled bitmap bitmap′ first count false → (d′ d″ : Device) → d′ ≡ pluggedTo (d .config .«plugged_size» - bytesOf 4194304 count) d → d″ ≡ pendingTo Nothing d′ → Responded g (status .0) ack d″ s bytes → Gives (hostAnswer (Discard first count status) (worldOf d bitmap table) g ok 0) (lent bitmap table (g .mem)) (lent bitmap′ table bytes) s
   unfolding hostAnswer
   unplug-done first count t bitmap′ filled d′ d″ same same′ p =
       let e : bytesOf 4194304 count ≡ bytesOf (d .config .«block_size») count = rw (shaped-is d shape .block-size) in
-      rw (not-false ok t) (serves _ bitmap′ table (rw (same′, same, e) at p) (filled .as-blocks) refl)
+      rw (not-false ok t) (serves g (status .0) _ bitmap′ (rw (same′, same, e) at p) (filled .as-blocks) refl)
 
-  pub one-fails : (block : ℕ) → not ok ≡ true → (d′ : Device) → d′ ≡ pendingTo Nothing d → Responded g (status .0) error d′ s bytes → Meets (hostAnswer (DiscardOne block status) (worldOf d bitmap table) g ok 0) s bitmap table table bytes
+  pub one-fails : (block : ℕ) → not ok ≡ true → (d′ : Device) → d′ ≡ pendingTo Nothing d → Responded g (status .0) error d′ s bytes → Gives (hostAnswer (DiscardOne block status) (worldOf d bitmap table) g ok 0) (lent bitmap table (g .mem)) (lent bitmap table bytes) s
   unfolding hostAnswer
-  one-fails block t d′ same p = rw (not-true ok t) (serves _ bitmap table (rw same at p) refl refl)
+  one-fails block t d′ same p = rw (not-true ok t) (serves g (status .0) _ bitmap (rw same at p) refl refl)
 
-  pub one-done : (block : ℕ) → not ok ≡ false → (bitmap′ : List ℕ) → Filled bitmap bitmap′ block 1 false → (n : ℕ) → n ≡ d .config .«plugged_size» - d .config .«block_size» → (d′ d″ : Device) → d′ ≡ pluggedTo n d → d″ ≡ pendingTo Nothing d′ → Meets (unplugAll (worldOf d″ bitmap′ table) (block + 1) (status .0) g) s bitmap′ table table bytes → Meets (hostAnswer (DiscardOne block status) (worldOf d bitmap table) g ok 0) s bitmap′ table table bytes
+  pub one-done : (block : ℕ) → not ok ≡ false → (bitmap′ : List ℕ) → Filled bitmap bitmap′ block 1 false → (n : ℕ) → n ≡ d .config .«plugged_size» - d .config .«block_size» → (d′ d″ : Device) → d′ ≡ pluggedTo n d → d″ ≡ pendingTo Nothing d′ → Gives (unplugAll (worldOf d″ bitmap′ table) (block + 1) (status .0) g) (lent bitmap′ table (g .mem)) (lent bitmap′ table bytes) s → Gives (hostAnswer (DiscardOne block status) (worldOf d bitmap table) g ok 0) (lent bitmap table (g .mem)) (lent bitmap′ table bytes) s
   unfolding hostAnswer
-  one-done block t bitmap′ filled n less d′ d″ same same′ m = rw (not-false ok t) (rw (same′, same, less, filled .as-blocks) at m)
+  one-done block t bitmap′ filled n less d′ d″ same same′ m = rw (not-false ok t) (relent refl (rw (same′, same, less, filled .as-blocks) at m))

@@ -29,16 +29,23 @@ use Rattle.change.specs.Change.{changeOf, rangeOf, stateOf}
 use Rattle.wire.specs.declared.VirtioMemReq.{VirtioMemReq}
 use Rattle.wire.specs.declared.VirtioMemResp.{VirtioMemResp}
 use Rattle.record.specs.declared.Device.{Device}
+use Rattle.record.specs.declared.HostCall.the-variants.{Discard as DiscardCall}
+use Rattle.record.specs.declared.Pending.{Pending}
 use Rattle.record.specs.declared.Pending.the-variants.{Nothing, Discard, DiscardOne}
 use Rattle.record.specs.Shape.{shapedOf}
 use Rattle.record.specs.Changes.{pluggedTo, pendingTo}
 use Rattle.record.proofs.Laws.{shaped-is}
 use Rattle.step.specs.declared.Answered.{Answered}
-use Rattle.step.specs.declared.Answer.the-variants.{Refused}
-use Rattle.step.specs.World.{World, Guest, worldOf, Responded, Meets}
-use Rattle.serving.specs.Hosts.{asksFor, unplug, unplugOne}
-use Rattle.step.specs.Step.{served, unserved, respond, serve, stateResp, ack, nack, error, plug, plugAs, unplugAs, oneAs, nextAs, unplugAll, stops, changing, stateType}
-use Rattle.serving.proofs.Ends.{serves, answers}
+use Rattle.step.specs.declared.Answer.the-variants.{Refused, Wants}
+use Rattle.step.specs.World.{World, Guest, worldOf}
+use Rattle.step.specs.Promise.{lent, Gives}
+use Rattle.step.specs.Step.{served, unserved, respond, serve, stateResp, ack, nack, error, plug, plugAs, unplug, unplugAs, unplugOne, oneAs, nextAs, unplugAll, stops, changing, stateType}
+use Rattle.serving.proofs.Ends.{Responded, serves, answers}
+
+-- the host is asked for a discard, and the record waits for its answer
+abbrev pub asked : Device → Pending → RegionOffset → (size : ℕ) → HostAddr → Answered
+asked d pending offset size host =
+    record { device = pendingTo pending d; answer = Wants (DiscardCall offset size host) }
 
 -- where `let .. else` found another case than Legal, only its number is known
 abbrev pub others : List ℕ
@@ -54,12 +61,12 @@ plug-error (NoHost part) k w count status g = refl
 module _ (d : Device) (bitmap table : List ℕ) (shape : shapedOf d ≡ true) (addr count status : ℕ) (g : Guest) (s : Answered) (bytes : List ℕ)
     (size : ℕ) (size-is : size ≡ bytesOf 4194304 count) (within : Bool) (within-is : within ≡ leb (d .config .«plugged_size» + size) (d .config .«requested_size»)) where
   -- (a) failed
-  pub plug-nacks : not within ≡ true → Responded g status nack d s bytes → Meets (plug (worldOf d bitmap table) addr count status g) s bitmap table table bytes
+  pub plug-nacks : not within ≡ true → Responded g status nack d s bytes → Gives (plug (worldOf d bitmap table) addr count status g) (lent bitmap table (g .mem)) (lent bitmap table bytes) s
   unfolding plug
   plug-nacks t p =
       let h = leb-false (d .config .«plugged_size» + size) (d .config .«requested_size») (refused _ _ within-is t) in
       let e : ltb (d .config .«requested_size») (d .config .«plugged_size» + bytesOf (d .config .«block_size») count) ≡ true = rw (shaped-is d shape .block-size, ← size-is) (lt-ltb (d .config .«requested_size») (d .config .«plugged_size» + size) h) in
-      rw e (serves (worldOf d bitmap table) bitmap table p refl refl)
+      rw e (serves g status (worldOf d bitmap table) bitmap p refl refl)
 
   module _ (t : not within ≡ false) (ch : Change) (ch-is : ch ≡ changeOf 4194304 (d .config .addr .0) (d .config .«usable_region_size») (d .several) addr count true (blocks bitmap) (rowsOf table)) where
     asks : plug (worldOf d bitmap table) addr count status g ≡ plugAs ch (worldOf d bitmap table) count status g
@@ -69,14 +76,14 @@ module _ (d : Device) (bitmap table : List ℕ) (shape : shapedOf d ≡ true) (a
         let e : ltb (d .config .«requested_size») (d .config .«plugged_size» + bytesOf (d .config .«block_size») count) ≡ false = rw (shaped-is d shape .block-size, ← size-is) (le-ltb (d .config .«requested_size») (d .config .«plugged_size» + size) h) in
         rw (e, shaped-is d shape .block-size, ← ch-is)
 
-    pub plug-errs : OneOf others (tagOf change-type ch) → Responded g status error d s bytes → Meets (plug (worldOf d bitmap table) addr count status g) s bitmap table table bytes
-    plug-errs k p = rw (asks, plug-error ch k (worldOf d bitmap table) count status g) (serves (worldOf d bitmap table) bitmap table p refl refl)
+    pub plug-errs : OneOf others (tagOf change-type ch) → Responded g status error d s bytes → Gives (plug (worldOf d bitmap table) addr count status g) (lent bitmap table (g .mem)) (lent bitmap table bytes) s
+    plug-errs k p = rw (asks, plug-error ch k (worldOf d bitmap table) count status g) (serves g status (worldOf d bitmap table) bitmap p refl refl)
 
-    pub plug-acks : (first : ℕ) (offset : RegionOffset) (host : HostAddr) → ch ≡ Legal first offset host → (bitmap′ : List ℕ) → Filled bitmap bitmap′ first count true → (d′ : Device) → d′ ≡ pluggedTo (d .config .«plugged_size» + size) d → Responded g status ack d′ s bytes → Meets (plug (worldOf d bitmap table) addr count status g) s bitmap′ table table bytes
+    pub plug-acks : (first : ℕ) (offset : RegionOffset) (host : HostAddr) → ch ≡ Legal first offset host → (bitmap′ : List ℕ) → Filled bitmap bitmap′ first count true → (d′ : Device) → d′ ≡ pluggedTo (d .config .«plugged_size» + size) d → Responded g status ack d′ s bytes → Gives (plug (worldOf d bitmap table) addr count status g) (lent bitmap table (g .mem)) (lent bitmap′ table bytes) s
     unfolding plugAs
     plug-acks first offset host legal bitmap′ filled d′ same p =
         let e : d .config .«plugged_size» + size ≡ d .config .«plugged_size» + bytesOf (d .config .«block_size») count = rw (shaped-is d shape .block-size, size-is) in
-        rw (asks, legal) (serves _ bitmap′ table (rw (same, e) at p) (filled .as-blocks) refl)
+        rw (asks, legal) (serves g status _ bitmap′ (rw (same, e) at p) (filled .as-blocks) refl)
 
 unplug-error : (ch : Change) → OneOf others (tagOf change-type ch) → (w : World) (count status : ℕ) (g : Guest) → unplugAs ch w count status g ≡ served error status w g
 unfolding unplugAs
@@ -97,24 +104,24 @@ module _ (d : Device) (bitmap table : List ℕ) (shape : shapedOf d ≡ true) (s
     same-change : changing (worldOf d bitmap table) addr count false ≡ ch
     same-change = rw (shaped-is d shape .block-size, ← ch-is)
 
-    pub unplug-errs : {bytes : List ℕ} → OneOf others (tagOf change-type ch) → Responded g status error d s bytes → Meets (unplug (worldOf d bitmap table) addr count status g) s bitmap table table bytes
-    unplug-errs k p = rw (same-change, unplug-error ch k (worldOf d bitmap table) count status g) (serves (worldOf d bitmap table) bitmap table p refl refl)
+    pub unplug-errs : {bytes : List ℕ} → OneOf others (tagOf change-type ch) → Responded g status error d s bytes → Gives (unplug (worldOf d bitmap table) addr count status g) (lent bitmap table (g .mem)) (lent bitmap table bytes) s
+    unplug-errs k p = rw (same-change, unplug-error ch k (worldOf d bitmap table) count status g) (serves g status (worldOf d bitmap table) bitmap p refl refl)
 
     module _ (first : ℕ) (offset : RegionOffset) (host : HostAddr) (legal : ch ≡ Legal first offset host) (size : ℕ) (size-is : size ≡ bytesOf 4194304 count) where
       -- larger than the plugged size
-      pub unplug-refuses : d .config .«plugged_size» < size → s ≡ record { device = d; answer = Refused 12 } → Meets (unplug (worldOf d bitmap table) addr count status g) s bitmap table table (g .mem)
+      pub unplug-refuses : d .config .«plugged_size» < size → s ≡ record { device = d; answer = Refused 12 } → Gives (unplug (worldOf d bitmap table) addr count status g) (lent bitmap table (g .mem)) (lent bitmap table (g .mem)) s
       unfolding unplugAs
       unplug-refuses h e =
           let larger : ltb (d .config .«plugged_size») (bytesOf (d .config .«block_size») count) ≡ true = rw (shaped-is d shape .block-size, ← size-is) (lt-ltb (d .config .«plugged_size») size h) in
-          rw (same-change, legal, larger) (answers (worldOf d bitmap table) (Refused 12) bitmap table (g .mem) e refl refl)
+          rw (same-change, legal, larger) (answers (worldOf d bitmap table) (Refused 12) e refl refl)
 
-      pub unplug-asks : size ≤ d .config .«plugged_size» → s ≡ asksFor d (Discard first count (record { 0 = status })) offset size host → Meets (unplug (worldOf d bitmap table) addr count status g) s bitmap table table (g .mem)
+      pub unplug-asks : size ≤ d .config .«plugged_size» → s ≡ asked d (Discard first count (record { 0 = status })) offset size host → Gives (unplug (worldOf d bitmap table) addr count status g) (lent bitmap table (g .mem)) (lent bitmap table (g .mem)) s
       unfolding unplugAs
       unplug-asks h e =
           let b = shaped-is d shape .block-size in
           let fits : ltb (d .config .«plugged_size») (bytesOf (d .config .«block_size») count) ≡ false = rw (b, ← size-is) (le-ltb (d .config .«plugged_size») size h) in
           let same : size ≡ bytesOf (d .config .«block_size») count = rw b size-is in
-          rw (same-change, legal, fits) (answers _ _ bitmap table (g .mem) (rw same at e) refl refl)
+          rw (same-change, legal, fits) (answers _ _ (rw same at e) refl refl)
 
   -- one block of an unplug-all
   module _ (block : ℕ) (inside : block < blocksIn 4194304 (d .config .«region_size»)) (offset : RegionOffset) (offset-is : offset .0 ≡ held (bytesOf 4194304 block)) (addr : GuestAddr) (addr-is : addr .0 ≡ held (d .config .addr .0 + offset .0))
@@ -126,25 +133,25 @@ module _ (d : Device) (bitmap table : List ℕ) (shape : shapedOf d ≡ true) (s
         let a : addr .0 ≡ d .config .addr .0 + bytesOf 4194304 block = omega arith in
         rw (h .block-size, ← a, ← ch-is)
 
-    pub one-errs : {bytes : List ℕ} → OneOf others (tagOf change-type ch) → (d′ : Device) → d′ ≡ pendingTo Nothing d → Responded g status error d′ s bytes → Meets (unplugOne (worldOf d bitmap table) block status g) s bitmap table table bytes
-    one-errs k d′ same p = rw (same-block, one-error ch k (worldOf d bitmap table) block status g) (serves _ bitmap table (rw same at p) refl refl)
+    pub one-errs : {bytes : List ℕ} → OneOf others (tagOf change-type ch) → (d′ : Device) → d′ ≡ pendingTo Nothing d → Responded g status error d′ s bytes → Gives (unplugOne (worldOf d bitmap table) block status g) (lent bitmap table (g .mem)) (lent bitmap table bytes) s
+    one-errs k d′ same p = rw (same-block, one-error ch k (worldOf d bitmap table) block status g) (serves g status _ bitmap (rw same at p) refl refl)
 
-    pub one-asks : (first : ℕ) (at : RegionOffset) (host : HostAddr) → ch ≡ Legal first at host → s ≡ asksFor d (DiscardOne block (record { 0 = status })) at 4194304 host → Meets (unplugOne (worldOf d bitmap table) block status g) s bitmap table table (g .mem)
+    pub one-asks : (first : ℕ) (at : RegionOffset) (host : HostAddr) → ch ≡ Legal first at host → s ≡ asked d (DiscardOne block (record { 0 = status })) at 4194304 host → Gives (unplugOne (worldOf d bitmap table) block status g) (lent bitmap table (g .mem)) (lent bitmap table (g .mem)) s
     unfolding oneAs
     one-asks first at host legal e =
         let same : 4194304 ≡ bytesOf (d .config .«block_size») 1 = rw (shaped-is d shape .block-size) in
-        rw (same-block, legal) (answers _ _ bitmap table (g .mem) (rw same at e) refl refl)
+        rw (same-block, legal) (answers _ _ (rw same at e) refl refl)
 
   -- the next block of an unplug-all
   module _ (from last : ℕ) (last-is : last ≡ blocksIn 4194304 (d .config .«region_size»)) (found : Found) (found-is : found ≡ nextSet (blocks bitmap) from last) where
     same-found : nextSet (blocks bitmap) from (blocksIn (d .config .«block_size») (d .config .«region_size»)) ≡ found
     same-found = rw (shaped-is d shape .block-size, ← last-is, ← found-is)
 
-    pub all-ends : {bytes : List ℕ} → found ≡ NoneSet → (d′ d″ : Device) → d′ ≡ pluggedTo 0 d → d″ ≡ pendingTo Nothing d′ → Responded g status ack d″ s bytes → Meets (unplugAll (worldOf d bitmap table) from status g) s bitmap table table bytes
+    pub all-ends : {bytes : List ℕ} → found ≡ NoneSet → (d′ d″ : Device) → d′ ≡ pluggedTo 0 d → d″ ≡ pendingTo Nothing d′ → Responded g status ack d″ s bytes → Gives (unplugAll (worldOf d bitmap table) from status g) (lent bitmap table (g .mem)) (lent bitmap table bytes) s
     unfolding nextAs
-    all-ends e d′ d″ same same′ p = rw (same-found, e) (serves _ bitmap table (rw (same′, same) at p) refl refl)
+    all-ends e d′ d″ same same′ p = rw (same-found, e) (serves g status _ bitmap (rw (same′, same) at p) refl refl)
 
-    pub all-goes-on : {bytes : List ℕ} (block : ℕ) → found ≡ At block → Meets (unplugOne (worldOf d bitmap table) block status g) s bitmap table table bytes → Meets (unplugAll (worldOf d bitmap table) from status g) s bitmap table table bytes
+    pub all-goes-on : {bytes : List ℕ} (block : ℕ) → found ≡ At block → Gives (unplugOne (worldOf d bitmap table) block status g) (lent bitmap table (g .mem)) (lent bitmap table bytes) s → Gives (unplugAll (worldOf d bitmap table) from status g) (lent bitmap table (g .mem)) (lent bitmap table bytes) s
     unfolding nextAs
     all-goes-on block e m = rw (same-found, e) m
 
@@ -185,8 +192,6 @@ module _ (w : World) (req : VirtioMemReq) (status : ℕ) (g : Guest) where
   serve-unknown e0 e1 e2 e3 =
       rw (ne-eqb (req .«req_type») 0 e0, ne-eqb (req .«req_type») 1 e1, ne-eqb (req .«req_type») 2 e2, ne-eqb (req .«req_type») 3 e3)
 
-module _ (d : Device) (bitmap table : List ℕ) (shape : shapedOf d ≡ true) (g : Guest) (s : Answered) where
-  pub states : {bytes : List ℕ} (req : VirtioMemReq) (status : ℕ) → req .«req_type» ≡ 3 → (resp : VirtioMemResp) → resp ≡ respond (stateType (rangeOf 4194304 (d .config .addr .0) (d .config .«usable_region_size») (req .addr .0) (req .«nb_blocks»))) (stateOf 4194304 (d .config .addr .0) (d .config .«region_size») (req .addr .0) (req .«nb_blocks») (blocks bitmap)) → Responded g status resp d s bytes → Meets (serve (worldOf d bitmap table) req status g) s bitmap table table bytes
-  states req status t resp e p =
-      let same : stateResp (worldOf d bitmap table) (req .addr .0) (req .«nb_blocks») ≡ resp = rw (shaped-is d shape .block-size, ← e) in
-      rw (serve-state (worldOf d bitmap table) req status g t, same) (serves (worldOf d bitmap table) bitmap table p refl refl)
+pub states : {bytes : List ℕ} (d : Device) (bitmap table : List ℕ) (req : VirtioMemReq) (status : ℕ) (g : Guest) (s : Answered) → req .«req_type» ≡ 3 → (resp : VirtioMemResp) → resp ≡ stateResp (worldOf d bitmap []) (req .addr .0) (req .«nb_blocks») → Responded g status resp d s bytes → Gives (serve (worldOf d bitmap table) req status g) (lent bitmap table (g .mem)) (lent bitmap table bytes) s
+states d bitmap table req status g s t resp e p =
+    rw (serve-state (worldOf d bitmap table) req status g t) (serves g status (worldOf d bitmap table) bitmap (rw e at p) refl refl)

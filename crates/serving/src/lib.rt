@@ -1,5 +1,5 @@
 // SPDX-License-Identifier: Apache-2.0 AND BSD-3-Clause
-// Requests of the guest: plug, unplug, unplug-all and state; and the host's answer to what it was asked, a discard or a creation.
+// Requests of the guest (plug, unplug, unplug-all and state), and the host's answer to a discard or a creation.
 use bitmap::Found;
 use bitmap::next_set;
 use bitmap::set_range;
@@ -18,6 +18,7 @@ use step::Answer;
 use step::Answered;
 use step::pending_refusal;
 use step::ready_refusal;
+use step::refuse;
 use step::respond;
 use step::sized;
 use units::GuestAddr;
@@ -32,18 +33,17 @@ use wire::VirtioMemResp;
 ghost use mathlib.Core.Path.{_≡_};
 ghost use mathlib.Core.Bool.{true};
 ghost use mathlib.Core.List.{[]};
-ghost use Prim.Native.Nat.{ℕ, _≤_, _<_};
-ghost use Rattle.bitmap.specs.Blocks.{blocks};
-ghost use Rattle.change.specs.Change.{rangeOf, stateOf};
+ghost use Prim.Native.Nat.{_≤_, _<_};
+ghost use Rattle.record.specs.declared.HostCall.the-variants.{Discard as DiscardCall};
 ghost use Rattle.record.specs.declared.Pending.the-variants.{Create, Discard, DiscardOne};
 ghost use Rattle.record.specs.Shape.{shapedOf};
 ghost use Rattle.record.specs.Changes.{pendingTo, pluggedTo};
-ghost use Rattle.step.specs.World.{Request, HostAnswer, guestOf, noGuest, worldOf, Responded, Meets};
-ghost use Rattle.step.specs.Step.{step, plug as plugOf, unplugAll, stateType, serve as serveOf, creates, coveredBy, hostAnswer, respond as respondOf};
+ghost use Rattle.step.specs.declared.Answer.the-variants.{Wants};
+ghost use Rattle.step.specs.World.{noGuest, worldOf};
+ghost use Rattle.step.specs.Step.{served, plug as plugOf, unplug as unplugOf, unplugOne, unplugAll, serve as serveOf};
+ghost use Rattle.step.specs.Step.{stateType, stateResp, creates, coveredBy, hostAnswer, respond as respondOf};
+ghost use Rattle.step.specs.Promise.{lent, Gives, Steps, Does, requestOn, answerOn};
 ghost use Rattle.units.specs.Numbers.{blocksIn};
-ghost use Rattle.serving.specs.Hosts.{asksFor, unplug as unplugOf, unplugOne, Heard};
-
-const MAX: u64 = 18446744073709551615;
 
 // The types of a response.
 const ACK: u16 = 0;
@@ -78,7 +78,11 @@ fn pending_to(d: Device, pending: Pending) -> Device
 
 // Ends a request with a response whose state is 0.
 fn ended(d: Device, mem: &mut [u8], base: GuestAddr, status: GuestAddr, resp_type: u16) -> Answered
-    ensures { λ r. ⌜ Responded (guestOf (now (mem .entry)) base) (status .0) (respondOf «resp_type» 0) d r (now (mem .exit)) ⌝ }
+    ensures { λ r. ⌜
+        Does (served (respondOf «resp_type» 0) (status .0)) d base
+        (lent [] [] (now (mem .entry)))
+        (lent [] [] (now (mem .exit))) r
+        ⌝ }
 {
     respond(
         d,
@@ -104,7 +108,11 @@ fn plug(
     status: GuestAddr,
 ) -> Answered
     requires { ⌜ shapedOf d ≡ true ⌝ }
-    ensures { λ r. ⌜ Meets (plugOf (worldOf d (now (bitmap .entry)) (now (table .entry))) (addr .0) «nb_blocks» (status .0) (guestOf (now (mem .entry)) base)) r (now (bitmap .exit)) (now (table .entry)) (now (table .entry)) (now (mem .exit)) ⌝ }
+    ensures { λ r. ⌜
+        Does (λ w. plugOf w (addr .0) «nb_blocks» (status .0)) d base
+        (lent (now (bitmap .entry)) (now (table .entry)) (now (mem .entry)))
+        (lent (now (bitmap .exit)) (now (table .entry)) (now (mem .exit))) r
+        ⌝ }
 {
     let plugged = d.config.plugged_size;
     let size = MemTool::bytes_of(nb_blocks);
@@ -131,7 +139,7 @@ fn plug(
 
 // Asks the host for a discard: the answer ends what is pending then.
 fn asked(d: Device, pending: Pending, offset: RegionOffset, size: u64, host: HostAddr) -> Answered
-    ensures { λ r. ⌜ r ≡ asksFor d pending offset size host ⌝ }
+    ensures { λ r. ⌜ r ≡ record { device = pendingTo pending d; answer = Wants (DiscardCall offset size host) } ⌝ }
 {
     let call = HostCall::Discard {
         offset: offset,
@@ -157,7 +165,11 @@ fn unplug(
     status: GuestAddr,
 ) -> Answered
     requires { ⌜ shapedOf d ≡ true ⌝ }
-    ensures { λ r. ⌜ Meets (unplugOf (worldOf d (now (bitmap .entry)) (now (table .entry))) (addr .0) «nb_blocks» (status .0) (guestOf (now (mem .entry)) base)) r (now (bitmap .entry)) (now (table .entry)) (now (table .entry)) (now (mem .exit)) ⌝ }
+    ensures { λ r. ⌜
+        Does (λ w. unplugOf w (addr .0) «nb_blocks» (status .0)) d base
+        (lent (now (bitmap .entry)) (now (table .entry)) (now (mem .entry)))
+        (lent (now (bitmap .entry)) (now (table .entry)) (now (mem .exit))) r
+        ⌝ }
 {
     let start = d.config.addr;
     let usable = d.config.usable_region_size;
@@ -175,10 +187,7 @@ fn unplug(
     };
     let size = MemTool::bytes_of(nb_blocks);
     if d.config.plugged_size < size {
-        return Answered {
-            device: d,
-            answer: Answer::Refused(12),
-        };
+        return refuse(d, 12);
     }
     let pending = Pending::Discard {
         first: first,
@@ -199,7 +208,11 @@ fn unplug_one(
     status: GuestAddr,
 ) -> Answered
     requires { ⌜ (shapedOf d ≡ true) × (block < blocksIn 4194304 (d .config .«region_size»)) ⌝ }
-    ensures { λ r. ⌜ Meets (unplugOne (worldOf d (now (bitmap .entry)) (now (table .entry))) block (status .0) (guestOf (now (mem .entry)) base)) r (now (bitmap .entry)) (now (table .entry)) (now (table .entry)) (now (mem .exit)) ⌝ }
+    ensures { λ r. ⌜
+        Does (λ w. unplugOne w block (status .0)) d base
+        (lent (now (bitmap .entry)) (now (table .entry)) (now (mem .entry)))
+        (lent (now (bitmap .entry)) (now (table .entry)) (now (mem .exit))) r
+        ⌝ }
 {
     let start = d.config.addr;
     let usable = d.config.usable_region_size;
@@ -234,7 +247,11 @@ fn unplug_all(
     status: GuestAddr,
 ) -> Answered
     requires { ⌜ shapedOf d ≡ true ⌝ }
-    ensures { λ r. ⌜ Meets (unplugAll (worldOf d (now (bitmap .entry)) (now (table .entry))) from (status .0) (guestOf (now (mem .entry)) base)) r (now (bitmap .entry)) (now (table .entry)) (now (table .entry)) (now (mem .exit)) ⌝ }
+    ensures { λ r. ⌜
+        Does (λ w. unplugAll w from (status .0)) d base
+        (lent (now (bitmap .entry)) (now (table .entry)) (now (mem .entry)))
+        (lent (now (bitmap .entry)) (now (table .entry)) (now (mem .exit))) r
+        ⌝ }
 {
     let end = MemTool::blocks_in(d.config.region_size);
     let Found::At(block) = next_set(bitmap, from as usize, end as usize) else {
@@ -256,7 +273,8 @@ fn state_type(range: Range) -> u16
 
 // The response to a state request.
 fn state(d: Device, bitmap: &[u8], addr: GuestAddr, nb_blocks: u16) -> VirtioMemResp
-    ensures { λ r. ⌜ r ≡ respondOf (stateType (rangeOf 4194304 (d .config .addr .0) (d .config .«usable_region_size») (addr .0) «nb_blocks»)) (stateOf 4194304 (d .config .addr .0) (d .config .«region_size») (addr .0) «nb_blocks» (blocks (now (bitmap .entry)))) ⌝ }
+    requires { ⌜ shapedOf d ≡ true ⌝ }
+    ensures { λ r. ⌜ r ≡ stateResp (worldOf d (now (bitmap .entry)) []) (addr .0) «nb_blocks» ⌝ }
 {
     let start = d.config.addr;
     let usable = d.config.usable_region_size;
@@ -280,7 +298,11 @@ fn serve(
     status: GuestAddr,
 ) -> Answered
     requires { ⌜ shapedOf d ≡ true ⌝ }
-    ensures { λ r. ⌜ Meets (serveOf (worldOf d (now (bitmap .entry)) (now (table .entry))) req (status .0) (guestOf (now (mem .entry)) base)) r (now (bitmap .exit)) (now (table .entry)) (now (table .entry)) (now (mem .exit)) ⌝ }
+    ensures { λ r. ⌜
+        Does (λ w. serveOf w req (status .0)) d base
+        (lent (now (bitmap .entry)) (now (table .entry)) (now (mem .entry)))
+        (lent (now (bitmap .exit)) (now (table .entry)) (now (mem .exit))) r
+        ⌝ }
 {
     let addr = req.addr;
     let nb_blocks = req.nb_blocks;
@@ -307,14 +329,15 @@ pub fn request(
     descriptors: GuestAddr,
     head: u16,
 ) -> Answered
-    ensures { λ r. ⌜ Meets (step (worldOf d (now (bitmap .entry)) (now (table .entry))) (Request (guestOf (now (mem .entry)) base) (descriptors .0) head)) r (now (bitmap .exit)) (now (table .entry)) (now (table .entry)) (now (mem .exit)) ⌝ }
+    ensures { λ r. ⌜
+        Steps d (requestOn (base .0) (descriptors .0) head)
+        (lent (now (bitmap .entry)) (now (table .entry)) (now (mem .entry)))
+        (lent (now (bitmap .exit)) (now (table .entry)) (now (mem .exit))) r
+        ⌝ }
 {
     let number = ready_refusal(d, bitmap.len(), table.len());
     if number != 0 {
-        return Answered {
-            device: d,
-            answer: Answer::Refused(number),
-        };
+        return refuse(d, number);
     }
     let parsed = parse(&mem[..], base, descriptors, head);
     let Parsed::Request(req, status) = parsed else {
@@ -339,7 +362,11 @@ fn unplug_answered(
     ok: bool,
 ) -> Answered
     requires { ⌜ (shapedOf d ≡ true) × (d .pending ≡ Discard first count status) ⌝ }
-    ensures { λ r. ⌜ Meets (hostAnswer (Discard first count status) (worldOf d (now (bitmap .entry)) (now (table .entry))) (guestOf (now (mem .entry)) base) ok 0) r (now (bitmap .exit)) (now (table .entry)) (now (table .entry)) (now (mem .exit)) ⌝ }
+    ensures { λ r. ⌜
+        Does (λ w g. hostAnswer (Discard first count status) w g ok 0) d base
+        (lent (now (bitmap .entry)) (now (table .entry)) (now (mem .entry)))
+        (lent (now (bitmap .exit)) (now (table .entry)) (now (mem .exit))) r
+        ⌝ }
 {
     if !ok {
         return ended(pending_to(d, Pending::Nothing), mem, base, status, ERROR);
@@ -350,8 +377,8 @@ fn unplug_answered(
     ended(unplugged, mem, base, status, ACK)
 }
 
-// The host's answer to the discard of one block of an unplug-all: the block is cleared and its size taken off at once, and the
-// unplug-all goes on behind it. The plugged size never goes below 0, which only a spoiled bitmap could bring.
+// The host's answer to the discard of one block of an unplug-all: the block is cleared and its size taken off at once,
+// and the unplug-all goes on behind it. The plugged size never goes below 0, which only a spoiled bitmap could bring.
 fn one_answered(
     d: Device,
     bitmap: &mut [u8],
@@ -363,7 +390,11 @@ fn one_answered(
     ok: bool,
 ) -> Answered
     requires { ⌜ (shapedOf d ≡ true) × (d .pending ≡ DiscardOne block status) ⌝ }
-    ensures { λ r. ⌜ Meets (hostAnswer (DiscardOne block status) (worldOf d (now (bitmap .entry)) (now (table .entry))) (guestOf (now (mem .entry)) base) ok 0) r (now (bitmap .exit)) (now (table .entry)) (now (table .entry)) (now (mem .exit)) ⌝ }
+    ensures { λ r. ⌜
+        Does (λ w g. hostAnswer (DiscardOne block status) w g ok 0) d base
+        (lent (now (bitmap .entry)) (now (table .entry)) (now (mem .entry)))
+        (lent (now (bitmap .exit)) (now (table .entry)) (now (mem .exit))) r
+        ⌝ }
 {
     if !ok {
         return ended(pending_to(d, Pending::Nothing), mem, base, status, ERROR);
@@ -372,35 +403,6 @@ fn one_answered(
     set_range(bitmap, block as usize, 1, false);
     let cleared = pending_to(plugged_to(d, left), Pending::Nothing);
     unplug_all(cleared, &bitmap[..], table, mem, base, block + 1, status)
-}
-
-// The host's answer to the discard that is pending.
-fn discard_answered(
-    d: Device,
-    bitmap: &mut [u8],
-    table: &[u64],
-    mem: &mut [u8],
-    base: GuestAddr,
-    ok: bool,
-) -> Answered
-    requires { ⌜ (shapedOf d ≡ true) × ((first last : ℕ) → d .pending ≡ Create first last → ⊥) ⌝ }
-    ensures { λ r. ⌜ Meets (hostAnswer (d .pending) (worldOf d (now (bitmap .entry)) (now (table .entry))) (guestOf (now (mem .entry)) base) ok 0) r (now (bitmap .exit)) (now (table .entry)) (now (table .entry)) (now (mem .exit)) ⌝ }
-{
-    let pending = d.pending;
-    match pending {
-        Pending::Discard {
-            first,
-            count,
-            status,
-        } => unplug_answered(d, bitmap, table, mem, base, first, count, status, ok),
-        Pending::DiscardOne { block, status } => {
-            one_answered(d, bitmap, table, mem, base, block, status, ok)
-        }
-        _ => Answered {
-            device: d,
-            answer: Answer::Refused(8),
-        },
-    }
 }
 
 // The bytes from the host address on that the rows from `first` to `last` map.
@@ -417,7 +419,11 @@ fn covered_by(d: Device, first: u64, last: u64) -> u64
 // The creation that covers the rows from `first` to `last` is done: they are mapped from `host` on.
 fn created(d: Device, table: &mut [u64], first: u64, last: u64, host: HostAddr) -> Answered
     requires { ⌜ shapedOf d ≡ true ⌝ }
-    ensures { λ r. ⌜ Heard (creates (worldOf d [] (now (table .entry))) first last (host .0) []) r (now (table .entry)) (now (table .exit)) ⌝ }
+    ensures { λ r. ⌜
+        Gives (creates (worldOf d [] (now (table .entry))) first last (host .0) [])
+        (lent [] (now (table .entry)) [])
+        (lent [] (now (table .exit)) []) r
+        ⌝ }
 {
     fill(table, first, last, host);
     Answered {
@@ -426,7 +432,7 @@ fn created(d: Device, table: &mut [u64], first: u64, last: u64, host: HostAddr) 
     }
 }
 
-// The host's answer to the creation that is pending. Where it failed the device waits for nothing, and all else stands.
+// The host's answer to a creation. Where it failed the device waits for nothing, and all else stands.
 fn creation_answered(
     d: Device,
     table: &mut [u64],
@@ -436,24 +442,22 @@ fn creation_answered(
     host: HostAddr,
 ) -> Answered
     requires { ⌜ (shapedOf d ≡ true) × (d .pending ≡ Create first last) ⌝ }
-    ensures { λ r. ⌜ Heard (hostAnswer (Create first last) (worldOf d [] (now (table .entry))) noGuest ok (host .0)) r (now (table .entry)) (now (table .exit)) ⌝ }
+    ensures { λ r. ⌜
+        Gives (hostAnswer (Create first last) (worldOf d [] (now (table .entry))) noGuest ok (host .0))
+        (lent [] (now (table .entry)) [])
+        (lent [] (now (table .exit)) []) r
+        ⌝ }
 {
     if !ok {
-        return Answered {
-            device: pending_to(d, Pending::Nothing),
-            answer: Answer::Refused(10),
-        };
+        return refuse(pending_to(d, Pending::Nothing), 10);
     }
-    if !sum_within(host.0, covered_by(d, first, last), MAX) {
-        return Answered {
-            device: d,
-            answer: Answer::Refused(9),
-        };
+    if !sum_within(host.0, covered_by(d, first, last), u64::MAX) {
+        return refuse(d, 9);
     }
     created(d, table, first, last, host)
 }
 
-// The host's answer to what it was asked last. A creation's comes with a host address; a discard's is heard without one.
+// The host's answer to what it was asked last. A creation's has a host address; a discard's is heard without one.
 pub fn host_answer(
     d: Device,
     bitmap: &mut [u8],
@@ -463,19 +467,27 @@ pub fn host_answer(
     ok: bool,
     host: HostAddr,
 ) -> Answered
-    ensures { λ r. ⌜ Meets (step (worldOf d (now (bitmap .entry)) (now (table .entry))) (HostAnswer (guestOf (now (mem .entry)) base) ok (host .0))) r (now (bitmap .exit)) (now (table .entry)) (now (table .exit)) (now (mem .exit)) ⌝ }
+    ensures { λ r. ⌜
+        Steps d (answerOn (base .0) ok (host .0))
+        (lent (now (bitmap .entry)) (now (table .entry)) (now (mem .entry)))
+        (lent (now (bitmap .exit)) (now (table .exit)) (now (mem .exit))) r
+        ⌝ }
 {
     let number = pending_refusal(d, bitmap.len(), table.len());
     if number != 0 {
-        return Answered {
-            device: d,
-            answer: Answer::Refused(number),
-        };
+        return refuse(d, number);
     }
     let pending = d.pending;
     match pending {
+        Pending::Nothing => refuse(d, 8),
         Pending::Create { first, last } => creation_answered(d, table, first, last, ok, host),
-        // One call for all others: the compiler then puts it in place, with no copy of the record.
-        _ => discard_answered(d, bitmap, &table[..], mem, base, ok),
+        Pending::Discard {
+            first,
+            count,
+            status,
+        } => unplug_answered(d, bitmap, &table[..], mem, base, first, count, status, ok),
+        Pending::DiscardOne { block, status } => {
+            one_answered(d, bitmap, &table[..], mem, base, block, status, ok)
+        }
     }
 }

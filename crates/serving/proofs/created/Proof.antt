@@ -1,4 +1,5 @@
 -- `serving::created` meets its contract.
+use mathlib.Core.Path.{refl}
 use Rattle.record.proofs.Laws.{shaped-is}
 use borrow.Author.Needs.{needs}
 use Rattle.serving.proofs.created.Statement.{statement}
@@ -20,8 +21,10 @@ returns : tie.Need-returns
 returns c =
     let b = c .before .before .before .before .before .before .before in
     record {
-      answers = simp (c .pending-to .ensures, c .before .sized .ensures, shaped-is (b .args .d) (b .pre) .block-size);
-      mapped = c .before .before .before .before .fill .ensures;
+      answered = refl;
+      told = refl;
+      recorded = simp (c .pending-to .ensures, c .before .sized .ensures, shaped-is (b .args .d) (b .pre) .block-size);
+      leaves = record { marked = refl; mapped = c .before .before .before .before .fill .ensures; left = refl };
     }
 
 pub created-spec : {M : Type 1} → statement M

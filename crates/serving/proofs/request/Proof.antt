@@ -1,7 +1,7 @@
 -- `serving::request` meets its contract: 12, 7, 5 and 11, then the chain's reason, then the request.
 use mathlib.Core.Path.{refl, sym, _∙_}
 use Rattle.step.proofs.Entry.{ready-is}
-use Rattle.serving.proofs.Ends.{as-met, answers}
+use Rattle.serving.proofs.Ends.{as-given, answers}
 use Rattle.serving.proofs.Entries.{request-refused, request-bad, request-got}
 use borrow.Author.Needs.{needs}
 use Rattle.serving.proofs.request.Statement.{statement}
@@ -10,8 +10,11 @@ use Rattle.serving.proofs.request.Tie as tie
 ready-refusal-requires : tie.Need-ready-refusal-requires
 ready-refusal-requires c κs = search needs
 
+refuse-requires : tie.Need-refuse-requires
+refuse-requires c κs = search needs
+
 returns : tie.Need-returns
-returns c = as-met (request-refused _ _ _ _ (c .before .ready-refusal .ensures) _ _ _ (c .if1 .taken)) (answers _ _ _ _ _ refl refl refl)
+returns c = as-given (request-refused _ _ _ _ (c .before .before .ready-refusal .ensures) _ _ _ (c .before .if1 .taken)) (answers _ _ (c .refuse .ensures) refl refl)
 
 parse-requires : tie.Need-parse-requires
 parse-requires c κs = search needs
@@ -29,7 +32,7 @@ same-length : tie.Need-same-length
 same-length c = search needs
 
 returns-2 : tie.Need-returns-2
-returns-2 c = as-met (request-bad _ _ _ _ (c .before .before .before .before .before .before .ready-refusal .ensures) _ _ _ (c .before .before .before .before .before .if1 .left) _ (c .before .before .before .parse .ensures) (c .before .before .match .keys2) _ (c .reason .ensures)) (answers _ _ _ _ _ refl refl refl)
+returns-2 c = as-given (request-bad _ _ _ _ (c .before .before .before .before .before .before .ready-refusal .ensures) _ _ _ (c .before .before .before .before .before .if1 .left) _ (c .before .before .before .parse .ensures) (c .before .before .match .keys2) _ (c .reason .ensures)) (answers _ _ refl refl refl)
 
 serve-requires : tie.Need-serve-requires
 serve-requires c κs = ready-is _ _ _ (sym (c .before .before .before .before .before .before .before .before .ready-refusal .ensures) ∙ c .before .before .before .before .before .before .before .if1 .left) .shaped
@@ -41,13 +44,14 @@ same-length-3 : tie.Need-same-length-3
 same-length-3 c = search needs
 
 returns-3 : tie.Need-returns-3
-returns-3 c = as-met (request-got _ _ _ _ (c .before .before .before .before .before .before .before .before .before .before .before .before .before .ready-refusal .ensures) _ _ _ (c .before .before .before .before .before .before .before .before .before .before .before .before .if1 .left) _ (c .before .before .before .before .before .before .before .before .before .before .parse .ensures) _ _ (c .before .before .before .before .before .before .before .before .parsed .given .1)) (c .before .before .before .before .serve .ensures)
+returns-3 c = as-given (request-got _ _ _ _ (c .before .before .before .before .before .before .before .before .before .before .before .before .before .ready-refusal .ensures) _ _ _ (c .before .before .before .before .before .before .before .before .before .before .before .before .if1 .left) _ (c .before .before .before .before .before .before .before .before .before .before .parse .ensures) _ _ (c .before .before .before .before .before .before .before .before .parsed .given .1)) (c .before .before .before .before .serve .ensures)
 
 pub request-spec : {M : Type 1} → statement M
 request-spec =
     tie.close
     (tie.spec
     ready-refusal-requires
+    refuse-requires
     returns
     parse-requires
     enum-known-parsed

@@ -1,6 +1,5 @@
 -- `serving::unplug` meets its contract: every ERROR comes before 12, and 12 before the question.
 use Rattle.serving.proofs.Ways.{unplug-errs, unplug-refuses, unplug-asks}
-use mathlib.Core.Path.{refl}
 use borrow.Author.Needs.{needs}
 use Rattle.serving.proofs.unplug.Statement.{statement}
 use Rattle.serving.proofs.unplug.Tie as tie
@@ -23,8 +22,14 @@ returns c = unplug-errs _ _ _ (c .before .before .before .before .before .before
 bytes-of-requires : tie.Need-bytes-of-requires
 bytes-of-requires c κs = search needs
 
+refuse-requires : tie.Need-refuse-requires
+refuse-requires c κs = search needs
+
 returns-2 : tie.Need-returns-2
-returns-2 c = unplug-refuses _ _ _ (c .before .before .before .before .before .before .before .before .before .before .before .pre) _ _ _ _ _ _ (c .before .before .before .before .before .before .change-of .ensures) _ _ _ (c .before .before .before .before .first .given .1) _ (c .before .before .bytes-of .ensures) (c .if1 .taken) refl
+returns-2 c =
+    let size = c .before .before .before in
+    let changed = size .before .before .before .before in
+    unplug-refuses _ _ _ (changed .before .before .before .before .before .pre) _ _ _ _ _ _ (changed .change-of .ensures) _ _ _ (size .before .before .first .given .1) _ (size .bytes-of .ensures) (c .before .if1 .taken) (c .refuse .ensures)
 
 asked-requires : tie.Need-asked-requires
 asked-requires c κs = search needs
@@ -42,6 +47,7 @@ unplug-spec =
     same-length
     returns
     bytes-of-requires
+    refuse-requires
     returns-2
     asked-requires
     returns-3)
