@@ -101,11 +101,10 @@ module _ (d : Device) (bitmap table : List ℕ) (shape : shapedOf d ≡ true) (g
   unfolding hostAnswer
   unplug-fails first count t d′ same p = rw (not-true ok t) (serves g (status .0) _ bitmap (rw same at p) refl refl)
 
-  pub unplug-done : (first count : ℕ) → not ok ≡ false → (bitmap′ : List ℕ) → Filled bitmap bitmap′ first count false → (d′ d″ : Device) → d′ ≡ pluggedTo (d .config .«plugged_size» - bytesOf 4194304 count) d → d″ ≡ pendingTo Nothing d′ → Responded g (status .0) ack d″ s bytes → Gives (hostAnswer (Discard first count status) (worldOf d bitmap table) g ok 0) (lent bitmap table (g .mem)) (lent bitmap′ table bytes) s
+  pub unplug-done : (first count : ℕ) → not ok ≡ false → (bitmap′ : List ℕ) → Filled bitmap bitmap′ first count false → (d′ d″ : Device) → d′ ≡ pluggedTo (d .config .«plugged_size» - bytesOf (d .config .«block_size») count) d → d″ ≡ pendingTo Nothing d′ → Responded g (status .0) ack d″ s bytes → Gives (hostAnswer (Discard first count status) (worldOf d bitmap table) g ok 0) (lent bitmap table (g .mem)) (lent bitmap′ table bytes) s
   unfolding hostAnswer
   unplug-done first count t bitmap′ filled d′ d″ same same′ p =
-      let e : bytesOf 4194304 count ≡ bytesOf (d .config .«block_size») count = rw (shaped-is d shape .block-size) in
-      rw (not-false ok t) (serves g (status .0) _ bitmap′ (rw (same′, same, e) at p) (filled .as-blocks) refl)
+      rw (not-false ok t) (serves g (status .0) _ bitmap′ (rw (same′, same) at p) (filled .as-blocks) refl)
 
   pub one-fails : (block : ℕ) → not ok ≡ true → (d′ : Device) → d′ ≡ pendingTo Nothing d → Responded g (status .0) error d′ s bytes → Gives (hostAnswer (DiscardOne block status) (worldOf d bitmap table) g ok 0) (lent bitmap table (g .mem)) (lent bitmap table bytes) s
   unfolding hostAnswer

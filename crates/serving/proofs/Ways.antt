@@ -1,6 +1,6 @@
 -- What the ways through a request come to: each lemma takes what the code knows on a way and shows the leaf of `Step.antt` there.
 use Prim.Native.Nat.{ℕ, _+_, _≤_, _<_}
-use mathlib.Core.Path.{_≡_, refl, sym, _∙_}
+use mathlib.Core.Path.{_≡_, refl, sym, ap, _∙_}
 use mathlib.Core.Bool.{Bool, true, false, not}
 use mathlib.Core.List.{List, [], _∷_}
 use native.Mathlib.Omega.{arith}
@@ -8,6 +8,7 @@ use lib.Dec.{leb, ltb}
 use borrow.Author.Tests.{lt-ltb, le-ltb, leb-true, leb-false, ne-eqb}
 use types.Run.{OneOf, miss}
 use denote.Enum.Declared.{tagOf}
+use Rattle.units.proofs.Laws.{held-fits, bytes-fit}
 use Rattle.units.proofs.Tests.{passed, refused}
 use Rattle.units.specs.Numbers.{held, bytesOf, blocksIn}
 use Rattle.units.specs.declared.RegionOffset.{RegionOffset}
@@ -22,10 +23,7 @@ use Rattle.rows.proofs.Words.{count}
 use Rattle.change.specs.declared.Change.{Change}
 use Rattle.change.specs.declared.Change.the-variants.{Legal, Outside, WrongState, NoHost}
 use Rattle.change.proofs.Change.{the-type as change-type}
-use Rattle.change.proofs.Range.{the-type as range-type}
-use Rattle.change.specs.declared.Range.{Range}
-use Rattle.change.specs.declared.Range.the-variants.{Inside, Misaligned, NoBlocks, Overflows, BelowStart, PastUsable, EndPastUsable}
-use Rattle.change.specs.Change.{changeOf, rangeOf, stateOf}
+use Rattle.change.specs.Change.{changeOf}
 use Rattle.wire.specs.declared.VirtioMemReq.{VirtioMemReq}
 use Rattle.wire.specs.declared.VirtioMemResp.{VirtioMemResp}
 use Rattle.record.specs.declared.Device.{Device}
@@ -39,13 +37,18 @@ use Rattle.step.specs.declared.Answered.{Answered}
 use Rattle.step.specs.declared.Answer.the-variants.{Refused, Wants}
 use Rattle.step.specs.World.{World, Guest, worldOf}
 use Rattle.step.specs.Promise.{lent, Gives}
-use Rattle.step.specs.Step.{served, unserved, respond, serve, stateResp, ack, nack, error, plug, plugAs, unplug, unplugAs, unplugOne, oneAs, nextAs, unplugAll, stops, changing, stateType}
+use Rattle.step.specs.Step.{served, unserved, respond, serve, stateResp, ack, nack, error, plug, plugAs, unplug, unplugAs, unplugOne, oneAs, nextAs, unplugAll, stops, changing}
 use Rattle.serving.proofs.Ends.{Responded, serves, answers}
 
 -- the host is asked for a discard, and the record waits for its answer
 abbrev pub asked : Device → Pending → RegionOffset → (size : ℕ) → HostAddr → Answered
 asked d pending offset size host =
     record { device = pendingTo pending d; answer = Wants (DiscardCall offset size host) }
+
+-- the size of a request's blocks fits 64 bits
+pub size-fits : (d : Device) → shapedOf d ≡ true → (size count : ℕ) → size ≡ held (bytesOf (d .config .«block_size») count) → count < 65536 → size ≡ bytesOf (d .config .«block_size») count
+size-fits d shape size count e few =
+    e ∙ held-fits (bytes-fit (d .config .«block_size») count (let b = shaped-is d shape .block-size in omega arith) few)
 
 -- where `let .. else` found another case than Legal, only its number is known
 abbrev pub others : List ℕ
@@ -59,22 +62,22 @@ plug-error WrongState k w count status g = refl
 plug-error (NoHost part) k w count status g = refl
 
 module _ (d : Device) (bitmap table : List ℕ) (shape : shapedOf d ≡ true) (addr count status : ℕ) (g : Guest) (s : Answered) (bytes : List ℕ)
-    (size : ℕ) (size-is : size ≡ bytesOf 4194304 count) (within : Bool) (within-is : within ≡ leb (d .config .«plugged_size» + size) (d .config .«requested_size»)) where
+    (size : ℕ) (size-is : size ≡ bytesOf (d .config .«block_size») count) (within : Bool) (within-is : within ≡ leb (d .config .«plugged_size» + size) (d .config .«requested_size»)) where
   -- (a) failed
   pub plug-nacks : not within ≡ true → Responded g status nack d s bytes → Gives (plug (worldOf d bitmap table) addr count status g) (lent bitmap table (g .mem)) (lent bitmap table bytes) s
   unfolding plug
   plug-nacks t p =
       let h = leb-false (d .config .«plugged_size» + size) (d .config .«requested_size») (refused _ _ within-is t) in
-      let e : ltb (d .config .«requested_size») (d .config .«plugged_size» + bytesOf (d .config .«block_size») count) ≡ true = rw (shaped-is d shape .block-size, ← size-is) (lt-ltb (d .config .«requested_size») (d .config .«plugged_size» + size) h) in
+      let e : ltb (d .config .«requested_size») (d .config .«plugged_size» + bytesOf (d .config .«block_size») count) ≡ true = rw (← size-is) (lt-ltb (d .config .«requested_size») (d .config .«plugged_size» + size) h) in
       rw e (serves g status (worldOf d bitmap table) bitmap p refl refl)
 
-  module _ (t : not within ≡ false) (ch : Change) (ch-is : ch ≡ changeOf 4194304 (d .config .addr .0) (d .config .«usable_region_size») (d .several) addr count true (blocks bitmap) (rowsOf table)) where
+  module _ (t : not within ≡ false) (ch : Change) (ch-is : ch ≡ changeOf (d .config .«block_size») (d .config .addr .0) (d .config .«usable_region_size») (d .several) addr count true (blocks bitmap) (rowsOf table)) where
     asks : plug (worldOf d bitmap table) addr count status g ≡ plugAs ch (worldOf d bitmap table) count status g
     unfolding plug
     asks =
         let h = leb-true (d .config .«plugged_size» + size) (d .config .«requested_size») (passed _ _ within-is t) in
-        let e : ltb (d .config .«requested_size») (d .config .«plugged_size» + bytesOf (d .config .«block_size») count) ≡ false = rw (shaped-is d shape .block-size, ← size-is) (le-ltb (d .config .«requested_size») (d .config .«plugged_size» + size) h) in
-        rw (e, shaped-is d shape .block-size, ← ch-is)
+        let e : ltb (d .config .«requested_size») (d .config .«plugged_size» + bytesOf (d .config .«block_size») count) ≡ false = rw (← size-is) (le-ltb (d .config .«requested_size») (d .config .«plugged_size» + size) h) in
+        rw (e, ← ch-is)
 
     pub plug-errs : OneOf others (tagOf change-type ch) → Responded g status error d s bytes → Gives (plug (worldOf d bitmap table) addr count status g) (lent bitmap table (g .mem)) (lent bitmap table bytes) s
     plug-errs k p = rw (asks, plug-error ch k (worldOf d bitmap table) count status g) (serves g status (worldOf d bitmap table) bitmap p refl refl)
@@ -82,8 +85,7 @@ module _ (d : Device) (bitmap table : List ℕ) (shape : shapedOf d ≡ true) (a
     pub plug-acks : (first : ℕ) (offset : RegionOffset) (host : HostAddr) → ch ≡ Legal first offset host → (bitmap′ : List ℕ) → Filled bitmap bitmap′ first count true → (d′ : Device) → d′ ≡ pluggedTo (d .config .«plugged_size» + size) d → Responded g status ack d′ s bytes → Gives (plug (worldOf d bitmap table) addr count status g) (lent bitmap table (g .mem)) (lent bitmap′ table bytes) s
     unfolding plugAs
     plug-acks first offset host legal bitmap′ filled d′ same p =
-        let e : d .config .«plugged_size» + size ≡ d .config .«plugged_size» + bytesOf (d .config .«block_size») count = rw (shaped-is d shape .block-size, size-is) in
-        rw (asks, legal) (serves g status _ bitmap′ (rw (same, e) at p) (filled .as-blocks) refl)
+        rw (asks, legal) (serves g status _ bitmap′ (rw (same, size-is) at p) (filled .as-blocks) refl)
 
 unplug-error : (ch : Change) → OneOf others (tagOf change-type ch) → (w : World) (count status : ℕ) (g : Guest) → unplugAs ch w count status g ≡ served error status w g
 unfolding unplugAs
@@ -100,52 +102,52 @@ one-error WrongState k w block status g = refl
 one-error (NoHost part) k w block status g = refl
 
 module _ (d : Device) (bitmap table : List ℕ) (shape : shapedOf d ≡ true) (status : ℕ) (g : Guest) (s : Answered) where
-  module _ (addr count : ℕ) (ch : Change) (ch-is : ch ≡ changeOf 4194304 (d .config .addr .0) (d .config .«usable_region_size») (d .several) addr count false (blocks bitmap) (rowsOf table)) where
+  module _ (addr count : ℕ) (ch : Change) (ch-is : ch ≡ changeOf (d .config .«block_size») (d .config .addr .0) (d .config .«usable_region_size») (d .several) addr count false (blocks bitmap) (rowsOf table)) where
     same-change : changing (worldOf d bitmap table) addr count false ≡ ch
-    same-change = rw (shaped-is d shape .block-size, ← ch-is)
+    same-change = sym ch-is
 
     pub unplug-errs : {bytes : List ℕ} → OneOf others (tagOf change-type ch) → Responded g status error d s bytes → Gives (unplug (worldOf d bitmap table) addr count status g) (lent bitmap table (g .mem)) (lent bitmap table bytes) s
     unplug-errs k p = rw (same-change, unplug-error ch k (worldOf d bitmap table) count status g) (serves g status (worldOf d bitmap table) bitmap p refl refl)
 
-    module _ (first : ℕ) (offset : RegionOffset) (host : HostAddr) (legal : ch ≡ Legal first offset host) (size : ℕ) (size-is : size ≡ bytesOf 4194304 count) where
+    module _ (first : ℕ) (offset : RegionOffset) (host : HostAddr) (legal : ch ≡ Legal first offset host) (size : ℕ) (size-is : size ≡ bytesOf (d .config .«block_size») count) where
       -- larger than the plugged size
       pub unplug-refuses : d .config .«plugged_size» < size → s ≡ record { device = d; answer = Refused 12 } → Gives (unplug (worldOf d bitmap table) addr count status g) (lent bitmap table (g .mem)) (lent bitmap table (g .mem)) s
       unfolding unplugAs
       unplug-refuses h e =
-          let larger : ltb (d .config .«plugged_size») (bytesOf (d .config .«block_size») count) ≡ true = rw (shaped-is d shape .block-size, ← size-is) (lt-ltb (d .config .«plugged_size») size h) in
+          let larger : ltb (d .config .«plugged_size») (bytesOf (d .config .«block_size») count) ≡ true = rw (← size-is) (lt-ltb (d .config .«plugged_size») size h) in
           rw (same-change, legal, larger) (answers (worldOf d bitmap table) (Refused 12) e refl refl)
 
       pub unplug-asks : size ≤ d .config .«plugged_size» → s ≡ asked d (Discard first count (record { 0 = status })) offset size host → Gives (unplug (worldOf d bitmap table) addr count status g) (lent bitmap table (g .mem)) (lent bitmap table (g .mem)) s
       unfolding unplugAs
       unplug-asks h e =
-          let b = shaped-is d shape .block-size in
-          let fits : ltb (d .config .«plugged_size») (bytesOf (d .config .«block_size») count) ≡ false = rw (b, ← size-is) (le-ltb (d .config .«plugged_size») size h) in
-          let same : size ≡ bytesOf (d .config .«block_size») count = rw b size-is in
-          rw (same-change, legal, fits) (answers _ _ (rw same at e) refl refl)
+          let fits : ltb (d .config .«plugged_size») (bytesOf (d .config .«block_size») count) ≡ false = rw (← size-is) (le-ltb (d .config .«plugged_size») size h) in
+          rw (same-change, legal, fits) (answers _ _ (rw size-is at e) refl refl)
 
   -- one block of an unplug-all
-  module _ (block : ℕ) (inside : block < blocksIn 4194304 (d .config .«region_size»)) (offset : RegionOffset) (offset-is : offset .0 ≡ held (bytesOf 4194304 block)) (addr : GuestAddr) (addr-is : addr .0 ≡ held (d .config .addr .0 + offset .0))
-      (ch : Change) (ch-is : ch ≡ changeOf 4194304 (d .config .addr .0) (d .config .«usable_region_size») (d .several) (addr .0) 1 false (blocks bitmap) (rowsOf table)) where
+  module _ (block : ℕ) (inside : block < blocksIn (d .config .«block_size») (d .config .«region_size»)) (offset : RegionOffset) (offset-is : offset .0 ≡ held (bytesOf (d .config .«block_size») block)) (addr : GuestAddr) (addr-is : addr .0 ≡ held (d .config .addr .0 + offset .0))
+      (ch : Change) (ch-is : ch ≡ changeOf (d .config .«block_size») (d .config .addr .0) (d .config .«usable_region_size») (d .several) (addr .0) 1 false (blocks bitmap) (rowsOf table)) where
     same-block : changing (worldOf d bitmap table) (d .config .addr .0 + bytesOf (d .config .«block_size») block) 1 false ≡ ch
     same-block =
         let h = shaped-is d shape in
-        let o : offset .0 ≡ bytesOf 4194304 block = omega arith in
+        let i : block < blocksIn 4194304 (d .config .«region_size») = rw (h .block-size) at inside in
+        let o : offset .0 ≡ held (bytesOf 4194304 block) = rw (h .block-size) at offset-is in
         let a : addr .0 ≡ d .config .addr .0 + bytesOf 4194304 block = omega arith in
-        rw (h .block-size, ← a, ← ch-is)
+        let a′ : addr .0 ≡ d .config .addr .0 + bytesOf (d .config .«block_size») block = rw (h .block-size) a in
+        rw (← a′, ← ch-is)
 
     pub one-errs : {bytes : List ℕ} → OneOf others (tagOf change-type ch) → (d′ : Device) → d′ ≡ pendingTo Nothing d → Responded g status error d′ s bytes → Gives (unplugOne (worldOf d bitmap table) block status g) (lent bitmap table (g .mem)) (lent bitmap table bytes) s
     one-errs k d′ same p = rw (same-block, one-error ch k (worldOf d bitmap table) block status g) (serves g status _ bitmap (rw same at p) refl refl)
 
-    pub one-asks : (first : ℕ) (at : RegionOffset) (host : HostAddr) → ch ≡ Legal first at host → s ≡ asked d (DiscardOne block (record { 0 = status })) at 4194304 host → Gives (unplugOne (worldOf d bitmap table) block status g) (lent bitmap table (g .mem)) (lent bitmap table (g .mem)) s
+    pub one-asks : (first : ℕ) (at : RegionOffset) (host : HostAddr) → ch ≡ Legal first at host → s ≡ asked d (DiscardOne block (record { 0 = status })) at (d .config .«block_size») host → Gives (unplugOne (worldOf d bitmap table) block status g) (lent bitmap table (g .mem)) (lent bitmap table (g .mem)) s
     unfolding oneAs
     one-asks first at host legal e =
-        let same : 4194304 ≡ bytesOf (d .config .«block_size») 1 = rw (shaped-is d shape .block-size) in
-        rw (same-block, legal) (answers _ _ (rw same at e) refl refl)
+        let same : d .config .«block_size» ≡ bytesOf (d .config .«block_size») 1 = omega arith in
+        rw (same-block, legal) (answers _ _ (e ∙ ap (λ n. asked d (DiscardOne block (record { 0 = status })) at n host) same) refl refl)
 
   -- the next block of an unplug-all
-  module _ (from last : ℕ) (last-is : last ≡ blocksIn 4194304 (d .config .«region_size»)) (found : Found) (found-is : found ≡ nextSet (blocks bitmap) from last) where
+  module _ (from last : ℕ) (last-is : last ≡ blocksIn (d .config .«block_size») (d .config .«region_size»)) (found : Found) (found-is : found ≡ nextSet (blocks bitmap) from last) where
     same-found : nextSet (blocks bitmap) from (blocksIn (d .config .«block_size») (d .config .«region_size»)) ≡ found
-    same-found = rw (shaped-is d shape .block-size, ← last-is, ← found-is)
+    same-found = rw (← last-is, ← found-is)
 
     pub all-ends : {bytes : List ℕ} → found ≡ NoneSet → (d′ d″ : Device) → d′ ≡ pluggedTo 0 d → d″ ≡ pendingTo Nothing d′ → Responded g status ack d″ s bytes → Gives (unplugAll (worldOf d bitmap table) from status g) (lent bitmap table (g .mem)) (lent bitmap table bytes) s
     unfolding nextAs
@@ -156,19 +158,8 @@ module _ (d : Device) (bitmap table : List ℕ) (shape : shapedOf d ≡ true) (s
     all-goes-on block e m = rw (same-found, e) m
 
 -- the block that an unplug-all finds is one of the region
-pub block-inside : (region from last : ℕ) (bs : List Bool) {found : Found} (block : ℕ) → last ≡ blocksIn 4194304 region → found ≡ nextSet bs from last → found ≡ At block → block < blocksIn 4194304 region
-block-inside region from last bs block last-is found-is e = rw last-is at (next-at true bs from last block (sym found-is ∙ e) .before-end)
-
--- a state request whose range does not lie inside
-pub state-errs : (range : Range) → OneOf (1 ∷ 2 ∷ 3 ∷ 4 ∷ 5 ∷ 6 ∷ []) (tagOf range-type range) → 3 ≡ stateType range
-unfolding stateType
-state-errs (Inside o) k = absurd (miss (1 ∷ 2 ∷ 3 ∷ 4 ∷ 5 ∷ 6 ∷ []) 0 tt k)
-state-errs Misaligned k = refl
-state-errs NoBlocks k = refl
-state-errs Overflows k = refl
-state-errs BelowStart k = refl
-state-errs PastUsable k = refl
-state-errs EndPastUsable k = refl
+pub block-inside : (b region from last : ℕ) (bs : List Bool) {found : Found} (block : ℕ) → last ≡ blocksIn b region → found ≡ nextSet bs from last → found ≡ At block → block < blocksIn b region
+block-inside b region from last bs block last-is found-is e = rw last-is at (next-at true bs from last block (sym found-is ∙ e) .before-end)
 
 module _ (w : World) (req : VirtioMemReq) (status : ℕ) (g : Guest) where
   pub serve-plug : req .«req_type» ≡ 0 → serve w req status g ≡ plug w (req .addr .0) (req .«nb_blocks») status g

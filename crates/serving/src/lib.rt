@@ -115,7 +115,8 @@ fn plug(
         ⌝ }
 {
     let plugged = d.config.plugged_size;
-    let size = MemTool::bytes_of(nb_blocks);
+    let block_size = d.config.block_size;
+    let size = MemTool::bytes_of(nb_blocks, block_size);
     if !sum_within(plugged, size, d.config.requested_size) {
         return ended(d, mem, base, status, NACK);
     }
@@ -124,6 +125,7 @@ fn plug(
     let Change::Legal(first, _, _) = change_of(
         start,
         usable,
+        block_size,
         d.several,
         addr,
         nb_blocks,
@@ -173,9 +175,11 @@ fn unplug(
 {
     let start = d.config.addr;
     let usable = d.config.usable_region_size;
+    let block_size = d.config.block_size;
     let Change::Legal(first, offset, host) = change_of(
         start,
         usable,
+        block_size,
         d.several,
         addr,
         nb_blocks,
@@ -185,7 +189,7 @@ fn unplug(
     ) else {
         return ended(d, mem, base, status, ERROR);
     };
-    let size = MemTool::bytes_of(nb_blocks);
+    let size = MemTool::bytes_of(nb_blocks, block_size);
     if d.config.plugged_size < size {
         return refuse(d, 12);
     }
@@ -207,7 +211,7 @@ fn unplug_one(
     block: u64,
     status: GuestAddr,
 ) -> Answered
-    requires { ⌜ (shapedOf d ≡ true) × (block < blocksIn 4194304 (d .config .«region_size»)) ⌝ }
+    requires { ⌜ (shapedOf d ≡ true) × (block < blocksIn (d .config .«block_size») (d .config .«region_size»)) ⌝ }
     ensures { λ r. ⌜
         Does (λ w. unplugOne w block (status .0)) d base
         (lent (now (bitmap .entry)) (now (table .entry)) (now (mem .entry)))
@@ -216,10 +220,12 @@ fn unplug_one(
 {
     let start = d.config.addr;
     let usable = d.config.usable_region_size;
-    let addr = RegionOffset::of_block(block).guest_from(start);
+    let block_size = d.config.block_size;
+    let addr = RegionOffset::of_block(block, block_size).guest_from(start);
     let Change::Legal(_, offset, host) = change_of(
         start,
         usable,
+        block_size,
         d.several,
         addr,
         1,
@@ -233,7 +239,7 @@ fn unplug_one(
         block: block,
         status: status,
     };
-    asked(d, pending, offset, MemTool::BLOCK_SIZE, host)
+    asked(d, pending, offset, block_size, host)
 }
 
 // The next block of an unplug-all from block `from` on, or its end.
@@ -253,7 +259,7 @@ fn unplug_all(
         (lent (now (bitmap .entry)) (now (table .entry)) (now (mem .exit))) r
         ⌝ }
 {
-    let end = MemTool::blocks_in(d.config.region_size);
+    let end = MemTool::blocks_in(d.config.region_size, d.config.block_size);
     let Found::At(block) = next_set(bitmap, from as usize, end as usize) else {
         let none = pending_to(plugged_to(d, 0), Pending::Nothing);
         return ended(none, mem, base, status, ACK);
@@ -273,14 +279,14 @@ fn state_type(range: Range) -> u16
 
 // The response to a state request.
 fn state(d: Device, bitmap: &[u8], addr: GuestAddr, nb_blocks: u16) -> VirtioMemResp
-    requires { ⌜ shapedOf d ≡ true ⌝ }
     ensures { λ r. ⌜ r ≡ stateResp (worldOf d (now (bitmap .entry)) []) (addr .0) «nb_blocks» ⌝ }
 {
     let start = d.config.addr;
     let usable = d.config.usable_region_size;
     let region = d.config.region_size;
-    let resp_type = state_type(range_of(start, usable, addr, nb_blocks));
-    let state = state_of(start, region, addr, nb_blocks, bitmap);
+    let block_size = d.config.block_size;
+    let resp_type = state_type(range_of(start, usable, block_size, addr, nb_blocks));
+    let state = state_of(start, region, block_size, addr, nb_blocks, bitmap);
     VirtioMemResp {
         resp_type: resp_type,
         state: state,
@@ -371,7 +377,7 @@ fn unplug_answered(
     if !ok {
         return ended(pending_to(d, Pending::Nothing), mem, base, status, ERROR);
     }
-    let left = d.config.plugged_size - count * MemTool::BLOCK_SIZE;
+    let left = d.config.plugged_size - count * d.config.block_size;
     set_range(bitmap, first as usize, count as usize, false);
     let unplugged = pending_to(plugged_to(d, left), Pending::Nothing);
     ended(unplugged, mem, base, status, ACK)

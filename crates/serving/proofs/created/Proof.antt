@@ -1,6 +1,5 @@
 -- `serving::created` meets its contract.
 use mathlib.Core.Path.{refl}
-use Rattle.record.proofs.Laws.{shaped-is}
 use borrow.Author.Needs.{needs}
 use Rattle.serving.proofs.created.Statement.{statement}
 use Rattle.serving.proofs.created.Tie as tie
@@ -19,11 +18,10 @@ same-length c = search needs
 
 returns : tie.Need-returns
 returns c =
-    let b = c .before .before .before .before .before .before .before in
     record {
       answered = refl;
       told = refl;
-      recorded = simp (c .pending-to .ensures, c .before .sized .ensures, shaped-is (b .args .d) (b .pre) .block-size);
+      recorded = simp (c .pending-to .ensures, c .before .sized .ensures);
       leaves = record { marked = refl; mapped = c .before .before .before .before .fill .ensures; left = refl };
     }
 

@@ -1,5 +1,4 @@
 -- `serving::state` meets its contract.
-use Rattle.record.proofs.Laws.{shaped-is}
 use borrow.Author.Needs.{needs}
 use Rattle.serving.proofs.state.Statement.{statement}
 use Rattle.serving.proofs.state.Tie as tie
@@ -14,7 +13,7 @@ state-of-requires : tie.Need-state-of-requires
 state-of-requires c κs = search needs
 
 returns : tie.Need-returns
-returns c = rw (shaped-is (c .before .before .before .before .before .args .d) (c .before .before .before .before .before .pre) .block-size, ← c .before .before .range-of .ensures, ← c .before .state-type .ensures, ← c .state-of .ensures)
+returns c = rw (← c .before .before .range-of .ensures, ← c .before .state-type .ensures, ← c .state-of .ensures)
 
 pub state-spec : {M : Type 1} → statement M
 state-spec = tie.close (tie.spec range-of-requires state-type-requires state-of-requires returns)

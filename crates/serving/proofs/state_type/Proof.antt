@@ -1,6 +1,5 @@
 -- `serving::state_type` meets its contract.
 use Rattle.step.specs.Step.{stateType}
-use Rattle.serving.proofs.Ways.{state-errs}
 use borrow.Author.Needs.{needs}
 use Rattle.serving.proofs.state_type.Statement.{statement}
 use Rattle.serving.proofs.state_type.Tie as tie
@@ -9,11 +8,15 @@ enum-told : tie.Need-enum-told
 enum-told c = search needs
 
 returns : tie.Need-returns
-returns c = state-errs _ (c .match .keys2)
+unfolding stateType
+returns c = rw (c .enum-told2 .given .1)
+
+enum-told-2 : tie.Need-enum-told-2
+enum-told-2 c = search needs
 
 returns-2 : tie.Need-returns-2
 unfolding stateType
 returns-2 c = rw (c .enum-told .given .1)
 
 pub state-type-spec : {M : Type 1} → statement M
-state-type-spec = tie.close (tie.spec enum-told returns returns-2)
+state-type-spec = tie.close (tie.spec enum-told enum-told-2 returns returns-2)

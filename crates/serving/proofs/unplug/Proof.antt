@@ -1,5 +1,6 @@
 -- `serving::unplug` meets its contract: every ERROR comes before 12, and 12 before the question.
-use Rattle.serving.proofs.Ways.{unplug-errs, unplug-refuses, unplug-asks}
+use native.Mathlib.Omega.{arith}
+use Rattle.serving.proofs.Ways.{size-fits, unplug-errs, unplug-refuses, unplug-asks}
 use borrow.Author.Needs.{needs}
 use Rattle.serving.proofs.unplug.Statement.{statement}
 use Rattle.serving.proofs.unplug.Tie as tie
@@ -29,13 +30,16 @@ returns-2 : tie.Need-returns-2
 returns-2 c =
     let size = c .before .before .before in
     let changed = size .before .before .before .before in
-    unplug-refuses _ _ _ (changed .before .before .before .before .before .pre) _ _ _ _ _ _ (changed .change-of .ensures) _ _ _ (size .before .before .first .given .1) _ (size .bytes-of .ensures) (c .before .if1 .taken) (c .refuse .ensures)
+    let a = changed .before .before .before .before .before .args in
+    unplug-refuses _ _ _ (changed .before .before .before .before .before .pre) _ _ _ _ _ _ (changed .change-of .ensures) _ _ _ (size .before .before .first .given .1) _ (size-fits _ (changed .before .before .before .before .before .pre) _ (a .nb-blocks) (size .bytes-of .ensures) (omega arith)) (c .before .if1 .taken) (c .refuse .ensures)
 
 asked-requires : tie.Need-asked-requires
 asked-requires c κs = search needs
 
 returns-3 : tie.Need-returns-3
-returns-3 c = unplug-asks _ _ _ (c .before .before .before .before .before .before .before .before .before .before .before .before .pre) _ _ _ _ _ _ (c .before .before .before .before .before .before .before .change-of .ensures) _ _ _ (c .before .before .before .before .before .first .given .1) _ (c .before .before .before .bytes-of .ensures) (c .before .if1 .left) (c .asked .ensures)
+returns-3 c =
+    let entry = c .before .before .before .before .before .before .before .before .before .before .before .before in
+    unplug-asks _ _ _ (entry .pre) _ _ _ _ _ _ (c .before .before .before .before .before .before .before .change-of .ensures) _ _ _ (c .before .before .before .before .before .first .given .1) _ (size-fits _ (entry .pre) _ (entry .args .nb-blocks) (c .before .before .before .bytes-of .ensures) (omega arith)) (c .before .if1 .left) (c .asked .ensures)
 
 pub unplug-spec : {M : Type 1} → statement M
 unplug-spec =

@@ -32,7 +32,7 @@ returns : tie.Need-returns
 returns c = all-ends _ _ _ (c .before .before .before .before .before .before .before .before .before .before .before .before .before .pre) _ _ _ _ _ (c .before .before .before .before .before .before .before .before .before .blocks-in .ensures) _ (c .before .before .before .before .before .before .before .before .next-set .ensures) (c .before .before .before .before .before .before .enum-told .given .1) _ _ (c .before .before .before .before .before .plugged-to .ensures) (c .before .before .before .before .pending-to .ensures) (c .before .before .ended .ensures)
 
 unplug-one-requires : tie.Need-unplug-one-requires
-unplug-one-requires c κs = (c .before .before .before .before .before .before .before .before .before .pre, block-inside _ _ _ _ _ (c .before .before .before .before .before .blocks-in .ensures) (c .before .before .before .before .next-set .ensures) (c .before .before .block .given .1))
+unplug-one-requires c κs = (c .before .before .before .before .before .before .before .before .before .pre, block-inside _ _ _ _ _ _ (c .before .before .before .before .before .blocks-in .ensures) (c .before .before .before .before .next-set .ensures) (c .before .before .block .given .1))
 
 same-length-2 : tie.Need-same-length-2
 same-length-2 c = search needs
