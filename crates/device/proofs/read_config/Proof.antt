@@ -12,11 +12,15 @@ use Rattle.device.proofs.read_config.Tie as tie
 shaped-requires : tie.Need-shaped-requires
 shaped-requires c κs = search needs
 
+refuse-requires : tie.Need-refuse-requires
+refuse-requires c κs = search needs
+
 returns : tie.Need-returns
 unfolding step readConfig rowsOf wordsOf blocks
 returns c =
-    rw (refused (shapedOf (c .before .before .before .args .d)) (c .before .shaped .result) (c .before .shaped .ensures) (c .if1 .taken))
-    (record { answered = refl; told = refl; recorded = refl; marked = refl; mapped = refl; left = refl })
+    let k = c .before .before in
+    rw (refused (shapedOf (k .before .before .args .d)) (k .shaped .result) (k .shaped .ensures) (c .before .if1 .taken), c .refuse .ensures)
+    (record { answered = refl; told = refl; recorded = refl; leaves = record { marked = refl; mapped = refl; left = refl } })
 
 read-config-requires : tie.Need-read-config-requires
 read-config-requires c κs = search needs
@@ -28,8 +32,8 @@ returns-2 : tie.Need-returns-2
 unfolding step readConfig rowsOf wordsOf blocks
 returns-2 c =
     rw (passed (shapedOf (c .before .before .before .before .before .before .before .before .args .d)) (c .before .before .before .before .before .before .shaped .result) (c .before .before .before .before .before .before .shaped .ensures) (c .before .before .before .before .before .if1 .left))
-    (record { answered = refl; told = refl; recorded = refl; marked = refl; mapped = refl; left = c .before .before .read-config .ensures })
+    (record { answered = refl; told = refl; recorded = refl; leaves = record { marked = refl; mapped = refl; left = c .before .before .read-config .ensures } })
 
 pub read-config-spec : {M : Type 1} → statement M
 read-config-spec =
-    tie.close (tie.spec shaped-requires returns read-config-requires same-length returns-2)
+    tie.close (tie.spec shaped-requires refuse-requires returns read-config-requires same-length returns-2)
