@@ -10,7 +10,7 @@ use Rattle.descriptors.specs.Descriptors.{linkAt, linkAfter}
 use Rattle.chain_reader.specs.Reader.{indexAfter, linkBehind}
 
 -- the descriptor at the index after a link is the descriptor behind it, and there is none at 128
-pub link-behind : (mem : List ℕ) (base table : ℕ) (link : Link) → linkAt mem base table (indexAfter link) ≡ linkBehind mem base table link
+pub link-behind : (mem : List ℕ) (base descriptors : ℕ) (link : Link) → linkAt mem base descriptors (indexAfter link) ≡ linkBehind mem base descriptors link
 unfolding indexAfter linkBehind linkAfter linkAt
-link-behind mem base table Missing = refl
-link-behind mem base table (Is d) = by-test (hasNext d) (λ t. simp t) (λ t. simp t)
+link-behind mem base descriptors Missing = refl
+link-behind mem base descriptors (Is d) = by-test (hasNext d) (λ t. simp t) (λ t. simp t)

@@ -47,10 +47,10 @@ abbrev pub Four : Type 0 → Type 0 → Type 0 → Type 0
 Four S G N = S × (G × (G × (N × Unit {0})))
 
 abbrev pub fvals : RefT (List ℕ) → GuestAddr → GuestAddr → ℕ → Four (List Val) (List Val) (List Val)
-fvals s base table n = (sval s ∷ [], (gvals base, (gvals table, (vint w16 n ∷ [], tt))))
+fvals s base descriptors n = (sval s ∷ [], (gvals base, (gvals descriptors, (vint w16 n ∷ [], tt))))
 
 abbrev pub fields : RefT (List ℕ) → GuestAddr → GuestAddr → ℕ → Four (RefT (List ℕ)) GuestAddr ℕ
-fields s base table n = (s, (base, (table, (n, tt))))
+fields s base descriptors n = (s, (base, (descriptors, (n, tt))))
 
 -- the reader's type, over the signature's lifetimes
 abbrev pub B : Lfts 1 → RattleType
@@ -64,7 +64,7 @@ abbrev pub L : (κ : Lft) → LL.Laws (D κ)
 L κ = T′.the-laws (namedLft 1 0 tt (κ, tt))
 
 abbrev pub parts : (κ : Lft) → ChainReader → Values (D κ .parts)
-parts κ d = fields (d .mem) (d .base) (d .table) (d .index)
+parts κ d = fields (d .mem) (d .base) (d .descriptors) (d .index)
 
 abbrev pub Own : Lft → ChainReader → Fml
 Own κ d = B (κ, tt) .own d (rval d ∷ [])
@@ -79,14 +79,14 @@ module _ {M : Type 1} (𝓤 : URA M) (H : Heap 𝓤) (A : Atoms 𝓤) (W : Given
 
   -- what a function of its fields asks
   abbrev pub OfFields : RefT (List ℕ) → GuestAddr → GuestAddr → ℕ → SProp 𝓤
-  OfFields s base table n = sep 𝓤 Alive (sem 𝓤 H A (owns (ShrSlice (named 0) κ u8 ∷ G.the-row ∷ G.the-row ∷ u16 ∷ []) (fields s base table n) (fvals s base table n)))
+  OfFields s base descriptors n = sep 𝓤 Alive (sem 𝓤 H A (owns (ShrSlice (named 0) κ u8 ∷ G.the-row ∷ G.the-row ∷ u16 ∷ []) (fields s base descriptors n) (fvals s base descriptors n)))
 
   -- a reader is Copy: what it owns is had twice
   pub twice : (d : ChainReader) → ent 𝓤 (sem 𝓤 H A (Own κ d)) (sep 𝓤 (sem 𝓤 H A (Own κ d)) (sem 𝓤 H A (Own κ d)))
   twice d = LL.copy (D κ) (T′.the-copy (namedLft 1 0 tt (κ, tt))) 𝓤 H A W .twice d (rval d ∷ [])
 
   -- a reader gives what a function of its fields asks, and is kept
-  pub apart : (d : ChainReader) → ent 𝓤 (OfReader d (rval d)) (sep 𝓤 (sep 𝓤 (OfFields (d .mem) (d .base) (d .table) (d .index)) (emp 𝓤)) (sem 𝓤 H A (Own κ d)))
+  pub apart : (d : ChainReader) → ent 𝓤 (OfReader d (rval d)) (sep 𝓤 (sep 𝓤 (OfFields (d .mem) (d .base) (d .descriptors) (d .index)) (emp 𝓤)) (sem 𝓤 H A (Own κ d)))
   apart d =
       qed W ((‵ (flft κ q) ⊛ ‵ ftrue) ∷ ‵ (owns (B (κ, tt) ∷ []) (d, tt) (rval d ∷ [], tt)) ∷ []) ∵
       move ! (1 ∷ []) $ fsplit ! $ move ! (1 ∷ []) $ drop ! $ use1 W (‵ (Own κ d) ⊛ ‵ (Own κ d)) (twice d) $ split ! $
@@ -95,10 +95,10 @@ module _ {M : Type 1} (𝓤 : URA M) (H : Heap 𝓤) (A : Atoms 𝓤) (W : Given
       nothing ! $ move ! (3 ∷ 1 ∷ []) $ join ! $ move ! (0 ∷ 1 ∷ []) $ join ! $ frame ! $ done !)
 
   -- fields give what a function of them asks, and what the memory owns is kept
-  pub lent : (s : RefT (List ℕ)) (base table : GuestAddr) (n : ℕ) → ent 𝓤 (OfFields s base table n) (sep 𝓤 (sep 𝓤 (OfFields s base table n) (emp 𝓤)) (sem 𝓤 H A (ShrSlice (named 0) κ u8 .own s (sval s ∷ []))))
-  lent s base table n =
+  pub lent : (s : RefT (List ℕ)) (base descriptors : GuestAddr) (n : ℕ) → ent 𝓤 (OfFields s base descriptors n) (sep 𝓤 (sep 𝓤 (OfFields s base descriptors n) (emp 𝓤)) (sem 𝓤 H A (ShrSlice (named 0) κ u8 .own s (sval s ∷ []))))
+  lent s base descriptors n =
       let own = ShrSlice (named 0) κ u8 .own s (sval s ∷ []) in
-      qed W ((‵ (flft κ q) ⊛ ‵ ftrue) ∷ ‵ (owns (ShrSlice (named 0) κ u8 ∷ G.the-row ∷ G.the-row ∷ u16 ∷ []) (fields s base table n) (fvals s base table n)) ∷ []) ∵
+      qed W ((‵ (flft κ q) ⊛ ‵ ftrue) ∷ ‵ (owns (ShrSlice (named 0) κ u8 ∷ G.the-row ∷ G.the-row ∷ u16 ∷ []) (fields s base descriptors n) (fvals s base descriptors n)) ∷ []) ∵
       move ! (1 ∷ []) $ fsplit ! $ use1 W (‵ own ⊛ ‵ own) (shr-slice-copy 𝓤 H A W (named 0) κ u8 .twice s (sval s ∷ [])) $ split ! $
       move ! (0 ∷ 2 ∷ []) $ fjoin ! $ nothing ! $ move ! (3 ∷ 1 ∷ []) $ join ! $ move ! (0 ∷ 1 ∷ []) $ join ! $ frame ! $ done !
 

@@ -13,10 +13,10 @@ indexAfter Missing = 128
 indexAfter (Is d) = cond (hasNext d) (d .next) 128
 
 -- the descriptor after a link
-unfoldable pub linkBehind : List ℕ → ℕ → ℕ → Link → Link
-linkBehind mem base table Missing = Missing
-linkBehind mem base table (Is d) = linkAfter mem base table d
+unfoldable pub linkBehind : (mem : List ℕ) (base descriptors : ℕ) → Link → Link
+linkBehind mem base descriptors Missing = Missing
+linkBehind mem base descriptors (Is d) = linkAfter mem base descriptors d
 
 -- the second descriptor of the chain that starts at head, as `parsed` finds it
-unfoldable pub secondLink : List ℕ → ℕ → ℕ → ℕ → Link
-secondLink mem base table head = linkBehind mem base table (linkAt mem base table head)
+unfoldable pub secondLink : (mem : List ℕ) (base descriptors head : ℕ) → Link
+secondLink mem base descriptors head = linkBehind mem base descriptors (linkAt mem base descriptors head)

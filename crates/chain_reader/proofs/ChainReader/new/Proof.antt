@@ -47,34 +47,34 @@ use Rattle.chain_reader.proofs.ChainReader.new.Code as code
 abbrev stayed : Stays (f.ended .signature .params) (f.ended .kept)
 stayed = (stay-none-slice (0 ∷ []) tt (plain (λ _. u8)) yes, (stay-none (λ _. G.the-row) yes, (stay-none (λ _. G.the-row) yes, (stay-none (λ _. u16) yes, tt))))
 
-module _ {M : Type 1} (𝓤 : URA M) (H : Heap 𝓤) (A : Atoms 𝓤) (W : Given 𝓤 H A) (mem : Memory → SProp 𝓤) (run : Routine → Fun 𝓤) (κ : Lft) (q : Share) (s : RefT (List ℕ)) (base table : GuestAddr) (n : ℕ) (is-base : Is G.the-row base (gvals base)) (is-table : Is G.the-row table (gvals table)) (n-fits : n < 2 ^ 16) where
+module _ {M : Type 1} (𝓤 : URA M) (H : Heap 𝓤) (A : Atoms 𝓤) (W : Given 𝓤 H A) (mem : Memory → SProp 𝓤) (run : Routine → Fun 𝓤) (κ : Lft) (q : Share) (s : RefT (List ℕ)) (base descriptors : GuestAddr) (n : ℕ) (is-base : Is G.the-row base (gvals base)) (is-descriptors : Is G.the-row descriptors (gvals descriptors)) (n-fits : n < 2 ^ 16) where
   abbrev made : ChainReader
-  made = record { mem = s; base = base; table = table; index = n }
+  made = record { mem = s; base = base; descriptors = descriptors; index = n }
 
   abbrev Post : Val → SProp 𝓤
-  Post = walkOf 𝓤 H A f.ended stayed (f.clauses 𝓤 H A mem run) .post (((κ, tt), (q, tt), tt, fields s base table n, fvals s base table n), tt)
+  Post = walkOf 𝓤 H A f.ended stayed (f.clauses 𝓤 H A mem run) .post (((κ, tt), (q, tt), tt, fields s base descriptors n, fvals s base descriptors n), tt)
 
   abbrev Own : Fml
   Own = ShrSlice (named 0) κ u8 .own s (sval s ∷ [])
 
-  exits : ent 𝓤 (onEntry 𝓤 H A f.signature (κ, tt) (q, tt) (fields s base table n) (fvals s base table n)) (Post (rval made))
+  exits : ent 𝓤 (onEntry 𝓤 H A f.signature (κ, tt) (q, tt) (fields s base descriptors n) (fvals s base descriptors n)) (Post (rval made))
   exits =
-      qed W ((‵ (flft κ q) ⊛ ‵ ftrue) ∷ ‵ (owns (ShrSlice (named 0) κ u8 ∷ G.the-row ∷ G.the-row ∷ u16 ∷ []) (fields s base table n) (fvals s base table n)) ∷ []) ∵
-      suffices ! _ (ends-at 𝓤 H A f.ended stayed (f.clauses 𝓤 H A mem run) W (((κ, tt), (q, tt), tt, fields s base table n, fvals s base table n), tt) (rval made) made (tt, (tt, (tt, (tt, tt)))) (tt, (tt, (tt, (tt, tt))))) $ says ! (refl, refl, refl, refl) $
+      qed W ((‵ (flft κ q) ⊛ ‵ ftrue) ∷ ‵ (owns (ShrSlice (named 0) κ u8 ∷ G.the-row ∷ G.the-row ∷ u16 ∷ []) (fields s base descriptors n) (fvals s base descriptors n)) ∷ []) ∵
+      suffices ! _ (ends-at 𝓤 H A f.ended stayed (f.clauses 𝓤 H A mem run) W (((κ, tt), (q, tt), tt, fields s base descriptors n, fvals s base descriptors n), tt) (rval made) made (tt, (tt, (tt, (tt, tt)))) (tt, (tt, (tt, (tt, tt))))) $ says ! (refl, refl, refl, refl) $
       frame ! $ fsplit ! $ use1 W (‵ Own ⊛ ‵ Own) (shr-slice-copy 𝓤 H A W (named 0) κ u8 .twice s (sval s ∷ [])) $ split ! $ move ! (0 ∷ 2 ∷ []) $ fjoin ! $ frame ! $
       -- [what mem owns]: what the fields own together, of it and of the numbers' facts, is what the reader owns
-      nothing ! $ owned ! u16 (Is u16) (uint-makes 𝓤 H A W w16) n _ (refl, n-fits) $ fjoin ! $ owned ! G.the-row (Is G.the-row) (LL.makes G.the-type G′.the-plain 𝓤 H A) table _ is-table $ fjoin ! $ owned ! G.the-row (Is G.the-row) (LL.makes G.the-type G′.the-plain 𝓤 H A) base _ is-base $ fjoin ! $ move ! (1 ∷ 0 ∷ []) $ fjoin ! $
-      by ! (own-shut 𝓤 H A W (D κ) (L κ) (fields s base table n))
+      nothing ! $ owned ! u16 (Is u16) (uint-makes 𝓤 H A W w16) n _ (refl, n-fits) $ fjoin ! $ owned ! G.the-row (Is G.the-row) (LL.makes G.the-type G′.the-plain 𝓤 H A) descriptors _ is-descriptors $ fjoin ! $ owned ! G.the-row (Is G.the-row) (LL.makes G.the-type G′.the-plain 𝓤 H A) base _ is-base $ fjoin ! $ move ! (1 ∷ 0 ∷ []) $ fjoin ! $
+      by ! (own-shut 𝓤 H A W (D κ) (L κ) (fields s base descriptors n))
 
   module _ (C : Calls 𝓤 H) (Λ : Loops 𝓤 H) where
-    walk : Is (ShrSlice (named 0) κ u8) s (sval s ∷ []) → ent 𝓤 (onEntry 𝓤 H A f.signature (κ, tt) (q, tt) (fields s base table n) (fvals s base table n)) (WpFn 𝓤 H C Λ code.function (sval s ∷ gval base ∷ gval table ∷ vint w16 n ∷ []) Post)
+    walk : Is (ShrSlice (named 0) κ u8) s (sval s ∷ []) → ent 𝓤 (onEntry 𝓤 H A f.signature (κ, tt) (q, tt) (fields s base descriptors n) (fvals s base descriptors n)) (WpFn 𝓤 H C Λ code.function (sval s ∷ gval base ∷ gval descriptors ∷ vint w16 n ∷ []) Post)
     walk p =
-        qed W (raw (onEntry 𝓤 H A f.signature (κ, tt) (q, tt) (fields s base table n) (fvals s base table n)) ∷ []) ∵ enter ! C Λ code.function (sval s ∷ gval base ∷ gval table ∷ vint w16 n ∷ []) _ $
+        qed W (raw (onEntry 𝓤 H A f.signature (κ, tt) (q, tt) (fields s base descriptors n) (fvals s base descriptors n)) ∷ []) ∵ enter ! C Λ code.function (sval s ∷ gval base ∷ gval descriptors ∷ vint w16 n ∷ []) _ $
         alloc1 ! (λ l₀. alloc1 ! (λ l₁. alloc1 ! (λ l₂. alloc1 ! (λ l₃. alloc1 ! (λ l₄. alloc0 ! $ params1 ! $
-        pass1 ! (init ! 6 refl (shr-slice-lawful 𝓤 H A W (named 0) κ u8 .typed s (sval s ∷ []) p .0)) $ pass1 ! (init ! 4 refl (LL.lawful G.the-type G′.the-laws 𝓤 H A W .typed base _ is-base .0)) $ pass1 ! (init ! 2 refl (LL.lawful G.the-type G′.the-laws 𝓤 H A W .typed table _ is-table .0)) $ pass1 ! (init ! 0 refl (tt, record { fits = n-fits })) $ pass0 ! $
+        pass1 ! (init ! 6 refl (shr-slice-lawful 𝓤 H A W (named 0) κ u8 .typed s (sval s ∷ []) p .0)) $ pass1 ! (init ! 4 refl (LL.lawful G.the-type G′.the-laws 𝓤 H A W .typed base _ is-base .0)) $ pass1 ! (init ! 2 refl (LL.lawful G.the-type G′.the-laws 𝓤 H A W .typed descriptors _ is-descriptors .0)) $ pass1 ! (init ! 0 refl (tt, record { fits = n-fits })) $ pass0 ! $
         -- [_4; …; _3; …; _2; …; _1; …; room for _0; …; the token and what the parameters own]
         assigns ! (agg ! (and-then ! (load ! (from ! (stop !)) (look ! 6 refl)) (and-then ! (load ! (from ! (stop !)) (look ! 4 refl)) (and-then ! (load ! (from ! (stop !)) (look ! 2 refl)) (and-then ! (load ! (from ! (stop !)) (look ! 0 refl)) (no-more !)))))) (from ! (stop !))
-        (init ! 8 refl (tt, (shr-slice-lawful 𝓤 H A W (named 0) κ u8 .typed s (sval s ∷ []) p .0 .1, ((LL.lawful G.the-type G′.the-laws 𝓤 H A W .typed base _ is-base .0) .1, ((LL.lawful G.the-type G′.the-laws 𝓤 H A W .typed table _ is-table .0) .1, (record { fits = n-fits }, tt)))))) $
+        (init ! 8 refl (tt, (shr-slice-lawful 𝓤 H A W (named 0) κ u8 .typed s (sval s ∷ []) p .0 .1, ((LL.lawful G.the-type G′.the-laws 𝓤 H A W .typed base _ is-base .0) .1, ((LL.lawful G.the-type G′.the-laws 𝓤 H A W .typed descriptors _ is-descriptors .0) .1, (record { fits = n-fits }, tt)))))) $
         returns ! (look ! 8 refl) $ forget ! 0 refl $ forget ! 2 refl $ forget ! 4 refl $ forget ! 6 refl $ forget ! 8 refl $
         move ! (8 ∷ 9 ∷ []) $ free1 ! $ move ! (6 ∷ 7 ∷ []) $ free1 ! $ move ! (4 ∷ 5 ∷ []) $ free1 ! $ move ! (2 ∷ 3 ∷ []) $ free1 ! $ free1 ! $ free0 ! $ by ! exits)))))
 

@@ -61,13 +61,13 @@ module _ {M : Type 1} (𝓤 : URA M) (H : Heap 𝓤) (A : Atoms 𝓤) (mem : Mem
 
 module _ {M : Type 1} (𝓤 : URA M) (H : Heap 𝓤) (A : Atoms 𝓤) (W : Given 𝓤 H A) (mem : Memory → SProp 𝓤) (run : Routine → Fun 𝓤) (κ : Lft) (q : Share) (d : ChainReader) where
   abbrev found : Parsed
-  found = parsed (now (d .mem)) (d .base .0) (d .table .0) (d .index)
+  found = parsed (now (d .mem)) (d .base .0) (d .descriptors .0) (d .index)
 
   abbrev Post : Val → SProp 𝓤
   Post = walkOf 𝓤 H A f.ended stayed (f.clauses 𝓤 H A mem run) .post (((κ, tt), (q, tt), tt, (d, tt), (rval d ∷ [], tt)), tt)
 
   abbrev to : Callee 𝓤 H A mem run .Ghost
-  to = (((κ, tt), (q, tt), tt, parts κ d, fvals (d .mem) (d .base) (d .table) (d .index)), tt)
+  to = (((κ, tt), (q, tt), tt, parts κ d, fvals (d .mem) (d .base) (d .descriptors) (d .index)), tt)
 
   -- of the callee's `ensured`, the clause alone: it has no `&mut`, so what is said of last values is dropped
   said : (r : Parsed) → ent 𝓤 (ensured 𝓤 H A g.ended (g.clauses 𝓤 H A mem run) (κ, tt) (parts κ d) tt r) (fact 𝓤 (r ≡ found))
