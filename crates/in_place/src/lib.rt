@@ -1,15 +1,12 @@
-// The entries that change a lent device where it stands. Each is thin: it copies the record out, calls the entry on plain values,
-// stores the record that this returned and gives its answer.
+// SPDX-License-Identifier: Apache-2.0 AND BSD-3-Clause
+// The entries that change a lent device where it stands: each calls the one by value and stores the record it gave.
 use record::Device;
 use step::Answer;
 use units::GuestAddr;
 use units::HostAddr;
 ghost use mathlib.Core.List.{[]};
-ghost use Rattle.bitmap.specs.Blocks.{blocks};
-ghost use Rattle.rows.specs.Rows.{rowsOf};
-ghost use Rattle.step.specs.World.{guestOf, worldOf, Place, SetRequestedSize, Request, HostAnswer, Meets};
-ghost use Rattle.step.specs.Step.{step};
-ghost use Rattle.in_place.specs.Lent.{answering};
+ghost use Rattle.step.specs.Promise.{lent, placeOn, resizeOn, requestOn, answerOn, Steps};
+ghost use Rattle.in_place.specs.Stored.{answering};
 
 // Places a lent device.
 pub fn place(
@@ -20,7 +17,11 @@ pub fn place(
     size: u64,
     slots: &[u32],
 ) -> Answer
-    ensures { λ r. ⌜ Meets (step (worldOf (now (d .entry)) (now (bitmap .entry)) (now (table .entry))) (Place (start .0) size (now (slots .entry)) (blocks (now (bitmap .entry))) (rowsOf (now (table .entry))))) (answering (now (d .exit)) r) (now (bitmap .exit)) (now (table .entry)) (now (table .exit)) [] ⌝ }
+    ensures { λ r. ⌜
+        Steps (now (d .entry)) (placeOn (start .0) size (now (slots .entry)))
+        (lent (now (bitmap .entry)) (now (table .entry)) [])
+        (lent (now (bitmap .exit)) (now (table .exit)) []) (answering (now (d .exit)) r)
+        ⌝ }
 {
     let s = placing::place(*d, bitmap, table, start, size, slots);
     *d = s.device;
@@ -34,7 +35,11 @@ pub fn set_requested_size(
     table: &[u64],
     requested_mib: u64,
 ) -> Answer
-    ensures { λ r. ⌜ Meets (step (worldOf (now (d .entry)) (now (bitmap .entry)) (now (table .entry))) (SetRequestedSize «requested_mib»)) (answering (now (d .exit)) r) (now (bitmap .entry)) (now (table .entry)) (now (table .entry)) [] ⌝ }
+    ensures { λ r. ⌜
+        Steps (now (d .entry)) (resizeOn «requested_mib»)
+        (lent (now (bitmap .entry)) (now (table .entry)) [])
+        (lent (now (bitmap .entry)) (now (table .entry)) []) (answering (now (d .exit)) r)
+        ⌝ }
 {
     let s = placing::set_requested_size(*d, bitmap, table, requested_mib);
     *d = s.device;
@@ -51,7 +56,11 @@ pub fn request(
     descriptors: GuestAddr,
     head: u16,
 ) -> Answer
-    ensures { λ r. ⌜ Meets (step (worldOf (now (d .entry)) (now (bitmap .entry)) (now (table .entry))) (Request (guestOf (now (mem .entry)) base) (descriptors .0) head)) (answering (now (d .exit)) r) (now (bitmap .exit)) (now (table .entry)) (now (table .entry)) (now (mem .exit)) ⌝ }
+    ensures { λ r. ⌜
+        Steps (now (d .entry)) (requestOn (base .0) (descriptors .0) head)
+        (lent (now (bitmap .entry)) (now (table .entry)) (now (mem .entry)))
+        (lent (now (bitmap .exit)) (now (table .entry)) (now (mem .exit))) (answering (now (d .exit)) r)
+        ⌝ }
 {
     let s = serving::request(*d, bitmap, table, mem, base, descriptors, head);
     *d = s.device;
@@ -68,7 +77,11 @@ pub fn host_answer(
     ok: bool,
     host: HostAddr,
 ) -> Answer
-    ensures { λ r. ⌜ Meets (step (worldOf (now (d .entry)) (now (bitmap .entry)) (now (table .entry))) (HostAnswer (guestOf (now (mem .entry)) base) ok (host .0))) (answering (now (d .exit)) r) (now (bitmap .exit)) (now (table .entry)) (now (table .exit)) (now (mem .exit)) ⌝ }
+    ensures { λ r. ⌜
+        Steps (now (d .entry)) (answerOn (base .0) ok (host .0))
+        (lent (now (bitmap .entry)) (now (table .entry)) (now (mem .entry)))
+        (lent (now (bitmap .exit)) (now (table .exit)) (now (mem .exit))) (answering (now (d .exit)) r)
+        ⌝ }
 {
     let s = serving::host_answer(*d, bitmap, table, mem, base, ok, host);
     *d = s.device;

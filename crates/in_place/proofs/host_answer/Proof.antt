@@ -1,6 +1,5 @@
 -- `in_place::host_answer` meets its contract: a walk of its MIR, written by bin/lent. The borrow of the record is opened and stays open over the call; the record is copied out of its cell; each `&mut` slice goes to `serving::host_answer` at its own lifetime, share and name, for good; the record that it returned is stored whole into the cell, and the borrow is closed at it.
 -- All that the proof knows of `serving::host_answer` is that it meets its contract. Nothing here names a field of `Device`.
---
 use mathlib.Core.Path.{_≡_, refl, ap}
 use mathlib.Core.Bool.{Bool}
 use mathlib.Core.List.{List, [], _∷_}
@@ -46,8 +45,7 @@ use Rattle.step.specs.declared.Answered.{Answered}
 use Rattle.units.specs.declared.GuestAddr.{GuestAddr}
 use Rattle.units.specs.declared.HostAddr.{HostAddr}
 use Rattle.in_place.proofs.Lent.{R, dvals, aval}
-use Rattle.step.specs.World.{guestOf, worldOf, HostAnswer, Meets as Promised}
-use Rattle.step.specs.Step.{step}
+use Rattle.step.specs.Promise.{lent, answerOn, Steps}
 use denote.Struct.Laws as LL
 use denote.Enum.Laws as EL
 use Rattle.units.proofs.GuestAddr as GuestAddr-type
@@ -119,7 +117,7 @@ module _ {M : Type 1} (𝓤 : URA M) (H : Heap 𝓤) (A : Atoms 𝓤) (W : Given
 
   -- what the step says of its result and the last lists
   abbrev Said : Answered → List ℕ → List ℕ → List ℕ → Type 0
-  Said r bitmap′ table′ mem′ = Promised (step (worldOf h bitmap table) (HostAnswer (guestOf mem base) ok (host .0))) r bitmap′ table table′ mem′
+  Said r bitmap′ table′ mem′ = Steps h (answerOn (base .0) ok (host .0)) (lent bitmap table mem) (lent bitmap′ table′ mem′) r
 
   exits : (r : Answered) (bitmap′ : List ℕ) (table′ : List ℕ) (mem′ : List ℕ) → Said r bitmap′ table′ mem′ → length bitmap′ ≡ length bitmap → length table′ ≡ length table → length mem′ ≡ length mem → Is N.the-row (r .answer) (aval (r .answer) ∷ [])
       → ent 𝓤 (⋆ 𝓤 H A (‵ (fobs γ (R .coded .code (r .device))) ∷ ‵ (fbor κ (Body (laid R) b o γ)) ∷ ‵ (flft κ q) ∷ (‵ (flft κ₁ q₁) ⊛ ‵ (flft κ₂ q₂) ⊛ ‵ (flft κ₃ q₃) ⊛ ‵ ftrue) ∷ ‵ (finally u8 γ-bitmap bitmap′) ∷ ‵ (finally u64 γ-table table′) ∷ ‵ (finally u8 γ-mem mem′) ∷ [])) (Post (aval (r .answer)))

@@ -1,6 +1,5 @@
 -- `in_place::place` meets its contract: a walk of its MIR, written by bin/lent. The borrow of the record is opened and stays open over the call; the record is copied out of its cell; each `&mut` slice goes to `placing::place` at its own lifetime, share and name, for good; the record that it returned is stored whole into the cell, and the borrow is closed at it.
 -- All that the proof knows of `placing::place` is that it meets its contract. Nothing here names a field of `Device`.
---
 use mathlib.Core.Path.{_≡_, refl, ap}
 use mathlib.Core.List.{List, [], _∷_}
 use Prim.Native.Nat.{ℕ, _<_, _^_}
@@ -44,10 +43,7 @@ use Rattle.record.specs.declared.Device.{Device}
 use Rattle.step.specs.declared.Answered.{Answered}
 use Rattle.units.specs.declared.GuestAddr.{GuestAddr}
 use Rattle.in_place.proofs.Lent.{R, dvals, aval}
-use Rattle.bitmap.specs.Blocks.{blocks}
-use Rattle.rows.specs.Rows.{rowsOf}
-use Rattle.step.specs.World.{worldOf, Place, Meets as Promised}
-use Rattle.step.specs.Step.{step}
+use Rattle.step.specs.Promise.{lent, placeOn, Steps}
 use denote.Struct.Laws as LL
 use denote.Enum.Laws as EL
 use Rattle.units.proofs.GuestAddr as GuestAddr-type
@@ -117,7 +113,7 @@ module _ {M : Type 1} (𝓤 : URA M) (H : Heap 𝓤) (A : Atoms 𝓤) (W : Given
 
   -- what the step says of its result and the last lists
   abbrev Said : Answered → List ℕ → List ℕ → Type 0
-  Said r bitmap′ table′ = Promised (step (worldOf h bitmap table) (Place (start .0) size slots (blocks bitmap) (rowsOf table))) r bitmap′ table table′ []
+  Said r bitmap′ table′ = Steps h (placeOn (start .0) size slots) (lent bitmap table []) (lent bitmap′ table′ []) r
 
   exits : (r : Answered) (bitmap′ : List ℕ) (table′ : List ℕ) → Said r bitmap′ table′ → length bitmap′ ≡ length bitmap → length table′ ≡ length table → Is N.the-row (r .answer) (aval (r .answer) ∷ [])
       → ent 𝓤 (⋆ 𝓤 H A (‵ (fobs γ (R .coded .code (r .device))) ∷ ‵ (fbor κ (Body (laid R) b o γ)) ∷ ‵ (flft κ q) ∷ (‵ (flft κ₁ q₁) ⊛ ‵ (flft κ₂ q₂) ⊛ ‵ (flft κ₃ q₃) ⊛ ‵ ftrue) ∷ ‵ (finally u8 γ-bitmap bitmap′) ∷ ‵ (finally u64 γ-table table′) ∷ ‵ (ShrSlice (named 3) κ₃ u32 .own x-slots (s-slots ∷ [])) ∷ [])) (Post (aval (r .answer)))

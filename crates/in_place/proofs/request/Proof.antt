@@ -1,6 +1,5 @@
 -- `in_place::request` meets its contract: a walk of its MIR, written by bin/lent. The borrow of the record is opened and stays open over the call; the record is copied out of its cell; each `&mut` slice goes to `serving::request` at its own lifetime, share and name, for good; the record that it returned is stored whole into the cell, and the borrow is closed at it.
 -- All that the proof knows of `serving::request` is that it meets its contract. Nothing here names a field of `Device`.
---
 use mathlib.Core.Path.{_≡_, refl, ap}
 use mathlib.Core.List.{List, [], _∷_}
 use Prim.Native.Nat.{ℕ, _<_, _^_}
@@ -44,8 +43,7 @@ use Rattle.record.specs.declared.Device.{Device}
 use Rattle.step.specs.declared.Answered.{Answered}
 use Rattle.units.specs.declared.GuestAddr.{GuestAddr}
 use Rattle.in_place.proofs.Lent.{R, dvals, aval}
-use Rattle.step.specs.World.{guestOf, worldOf, Request, Meets as Promised}
-use Rattle.step.specs.Step.{step}
+use Rattle.step.specs.Promise.{lent, requestOn, Steps}
 use denote.Struct.Laws as LL
 use denote.Enum.Laws as EL
 use Rattle.units.proofs.GuestAddr as GuestAddr-type
@@ -115,7 +113,7 @@ module _ {M : Type 1} (𝓤 : URA M) (H : Heap 𝓤) (A : Atoms 𝓤) (W : Given
 
   -- what the step says of its result and the last lists
   abbrev Said : Answered → List ℕ → List ℕ → Type 0
-  Said r bitmap′ mem′ = Promised (step (worldOf h bitmap table) (Request (guestOf mem base) (descriptors .0) head)) r bitmap′ table table mem′
+  Said r bitmap′ mem′ = Steps h (requestOn (base .0) (descriptors .0) head) (lent bitmap table mem) (lent bitmap′ table mem′) r
 
   exits : (r : Answered) (bitmap′ : List ℕ) (mem′ : List ℕ) → Said r bitmap′ mem′ → length bitmap′ ≡ length bitmap → length mem′ ≡ length mem → Is N.the-row (r .answer) (aval (r .answer) ∷ [])
       → ent 𝓤 (⋆ 𝓤 H A (‵ (fobs γ (R .coded .code (r .device))) ∷ ‵ (fbor κ (Body (laid R) b o γ)) ∷ ‵ (flft κ q) ∷ (‵ (flft κ₁ q₁) ⊛ ‵ (flft κ₂ q₂) ⊛ ‵ (flft κ₃ q₃) ⊛ ‵ ftrue) ∷ ‵ (finally u8 γ-bitmap bitmap′) ∷ ‵ (finally u8 γ-mem mem′) ∷ ‵ (ShrSlice (named 2) κ₂ u64 .own x-table (s-table ∷ [])) ∷ [])) (Post (aval (r .answer)))

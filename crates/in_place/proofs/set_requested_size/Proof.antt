@@ -1,6 +1,5 @@
 -- `in_place::set_requested_size` meets its contract: a walk of its MIR, written by bin/lent. The borrow of the record is opened and stays open over the call; the record is copied out of its cell; each `&mut` slice goes to `placing::set_requested_size` at its own lifetime, share and name, for good; the record that it returned is stored whole into the cell, and the borrow is closed at it.
 -- All that the proof knows of `placing::set_requested_size` is that it meets its contract. Nothing here names a field of `Device`.
---
 use mathlib.Core.Path.{refl, ap}
 use mathlib.Core.List.{List, [], _∷_}
 use Prim.Native.Nat.{ℕ, _<_, _^_}
@@ -43,8 +42,7 @@ use denote.Signature.{plain}
 use Rattle.record.specs.declared.Device.{Device}
 use Rattle.step.specs.declared.Answered.{Answered}
 use Rattle.in_place.proofs.Lent.{R, dvals, aval}
-use Rattle.step.specs.World.{worldOf, SetRequestedSize, Meets as Promised}
-use Rattle.step.specs.Step.{step}
+use Rattle.step.specs.Promise.{lent, resizeOn, Steps}
 use denote.Struct.Laws as LL
 use denote.Enum.Laws as EL
 use Rattle.record.proofs.Device as T
@@ -106,7 +104,7 @@ module _ {M : Type 1} (𝓤 : URA M) (H : Heap 𝓤) (A : Atoms 𝓤) (W : Given
 
   -- what the step says of its result and the last lists
   abbrev Said : Answered → Type 0
-  Said r = Promised (step (worldOf h bitmap table) (SetRequestedSize requested-mib)) r bitmap table table []
+  Said r = Steps h (resizeOn requested-mib) (lent bitmap table []) (lent bitmap table []) r
 
   exits : (r : Answered) → Said r → Is N.the-row (r .answer) (aval (r .answer) ∷ [])
       → ent 𝓤 (⋆ 𝓤 H A (‵ (fobs γ (R .coded .code (r .device))) ∷ ‵ (fbor κ (Body (laid R) b o γ)) ∷ ‵ (flft κ q) ∷ (‵ (flft κ₁ q₁) ⊛ ‵ (flft κ₂ q₂) ⊛ ‵ ftrue) ∷ ‵ (ShrSlice (named 1) κ₁ u8 .own x-bitmap (s-bitmap ∷ [])) ∷ ‵ (ShrSlice (named 2) κ₂ u64 .own x-table (s-table ∷ [])) ∷ [])) (Post (aval (r .answer)))
