@@ -7,15 +7,15 @@ use lib.Dec.{leb, eqb}
 use Rattle.units.proofs.Tests.{and-left, and-right}
 use Rattle.record.specs.Shape.{sizeOk}
 
-pub record Asked (bytes region : ℕ) : Type 0 where
+pub record Asked (b bytes region : ℕ) : Type 0 where
   pub within : bytes ≤ region
-  pub whole : bytes % 4194304 ≡ 0
+  pub whole : bytes % b ≡ 0
 
-pub asked-is : (bytes region : ℕ) (t : Bool) → t ≡ not (sizeOk 4194304 bytes region) → t ≡ false → Asked bytes region
+pub asked-is : (b bytes region : ℕ) (t : Bool) → t ≡ not (sizeOk b bytes region) → t ≡ false → Asked b bytes region
 unfolding sizeOk
-asked-is bytes region t e f =
-    let ok = not-false (eqb (bytes % 4194304) 0 && leb bytes region) (sym e ∙ f) in
+asked-is b bytes region t e f =
+    let ok = not-false (eqb (bytes % b) 0 && leb bytes region) (sym e ∙ f) in
     record {
-      within = leb-true bytes region (and-right (eqb (bytes % 4194304) 0) (leb bytes region) ok);
-      whole = eqb-true (bytes % 4194304) 0 (and-left (eqb (bytes % 4194304) 0) (leb bytes region) ok);
+      within = leb-true bytes region (and-right (eqb (bytes % b) 0) (leb bytes region) ok);
+      whole = eqb-true (bytes % b) 0 (and-left (eqb (bytes % b) 0) (leb bytes region) ok);
     }

@@ -84,7 +84,7 @@ pub record New (d : Device) : Type 0 where
   pub unusable : d .config .«usable_region_size» ≡ 0
   pub unplugged : d .config .«plugged_size» ≡ 0
 
-new-is : (capacity : ℕ) → 0 < capacity → capacity ≤ 1048576 → (requested a : ℕ) → alignmentOk a ≡ true → Asked requested (capacityOf capacity a) → (several : Bool) (node : Node) → New (newDevice (capacityOf capacity a) requested a several node)
+new-is : (capacity : ℕ) → 0 < capacity → capacity ≤ 1048576 → (requested a : ℕ) → alignmentOk a ≡ true → Asked 4194304 requested (capacityOf capacity a) → (several : Bool) (node : Node) → New (newDevice (capacityOf capacity a) requested a several node)
 unfolding pendingOk
 new-is capacity l h requested a e q several node =
     let region = capacityOf capacity a in
@@ -118,7 +118,7 @@ made-new capacity requested several node boot d e =
     (λ v.
     let f : MadeDevice (newDevice region (requested * 1048576) a several node) ≡ MadeDevice d = simp (t, u, v) at e in
     let same : newDevice region (requested * 1048576) a several node ≡ d = cc in
-    rw same at (new-is capacity (positive (eqb-false capacity 0 u)) (ltb-false 1048576 capacity t) (requested * 1048576) a (alignment-ok boot) (asked-is (requested * 1048576) region _ refl v) several node))))
+    rw same at (new-is capacity (positive (eqb-false capacity 0 u)) (ltb-false 1048576 capacity t) (requested * 1048576) a (alignment-ok boot) (asked-is 4194304 (requested * 1048576) region _ refl v) several node))))
   where
     never : (n : ℕ) → Refused n ≡ MadeDevice d → New d
     never n q = let z : _≡_ {A = ℕ} 0 1 = cc in absurd (omega arith)

@@ -5,6 +5,7 @@ use record::Pending;
 use record::features;
 use units::MemTool;
 use units::alignment_of;
+use units::is_multiple;
 use units::next_multiple_of;
 use units::product_within;
 use wire::VirtioMemConfig;
@@ -58,13 +59,13 @@ fn region_of(capacity_mib: u64, alignment: u64) -> u64
 }
 
 // Whether a requested size is refused as 1: above the region, or not whole blocks.
-pub fn requested_refused(mib: u64, region: u64) -> bool
-    ensures { λ r. ⌜ r ≡ not (sizeOk 4194304 (mib * 1048576) region) ⌝ }
+pub fn requested_refused(mib: u64, region: u64, block_size: u64) -> bool
+    ensures { λ r. ⌜ r ≡ not (sizeOk «block_size» (mib * 1048576) region) ⌝ }
 {
     if !product_within(mib, MemTool::MIB, region) {
         return true;
     }
-    mib * MemTool::MIB % MemTool::BLOCK_SIZE != 0
+    !is_multiple(mib * MemTool::MIB, block_size)
 }
 
 // The record of a new device.
@@ -99,7 +100,7 @@ impl Mem {
         }
         let alignment = alignment_of(boot);
         let region = region_of(capacity_mib, alignment);
-        if requested_refused(requested_mib, region) {
+        if requested_refused(requested_mib, region, MemTool::BLOCK_SIZE) {
             return Made::Refused(1);
         }
         let device = new_device(

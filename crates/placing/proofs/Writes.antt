@@ -31,14 +31,14 @@ start-good d start size n e =
     (λ t. let z : 3 ≡ 0 = rw t at e in absurd (omega arith)))
 
 module _ (d : Device) (before : Lent) (start : ℕ) (slots : List ℕ) where
-  pub placed-gives : shapedOf d ≡ true → (after : Lent) (s : Answered) → Filled (before .bitmap) (after .bitmap) 0 (blocksIn 4194304 (d .config .«region_size»)) false → after .table ≡ written (before .table) (laid (rowsOf (before .table)) slots) → after .bytes ≡ [] → s ≡ answeredBy (placing (worldOf (startTo start d) [] (after .table))) → Gives (placing (placed (on d before) start slots (blocks (before .bitmap)) (rowsOf (before .table)))) before after s
-  placed-gives e after s f m b a =
+  pub placed-gives : (after : Lent) (s : Answered) → Filled (before .bitmap) (after .bitmap) 0 (blocksIn (d .config .«block_size») (d .config .«region_size»)) false → after .table ≡ written (before .table) (laid (rowsOf (before .table)) slots) → after .bytes ≡ [] → s ≡ answeredBy (placing (worldOf (startTo start d) [] (after .table))) → Gives (placing (placed (on d before) start slots (blocks (before .bitmap)) (rowsOf (before .table)))) before after s
+  placed-gives after s f m b a =
       let rows = laid (rowsOf (before .table)) slots in
       let w = placed (on d before) start slots (blocks (before .bitmap)) (rowsOf (before .table)) in
       let w0 : World = record { device = startTo start d; blocks = blocks []; rows = rows } in
       let back : rowsOf (after .table) ≡ rows = rw m (read-back (before .table) rows (laid-length (rowsOf (before .table)) slots)) in
       let told : s ≡ answeredBy (placing w0) = rw back at a in
-      let marked : blocks (after .bitmap) ≡ w .blocks = rw (← shaped-is d e .block-size) at (f .as-blocks) in
+      let marked : blocks (after .bitmap) ≡ w .blocks = f .as-blocks in
       by-test (d .several)
       (λ t. rw (placing-several w t) (resizes-gives _ w before after s (told ∙ ap answeredBy (placing-several w0 t)) marked m b))
       (λ t.

@@ -64,7 +64,12 @@ fn resize(d: Device, table: &[u64]) -> Answered
 {
     let config = d.config;
     let region = config.region_size;
-    let new = new_size(region, config.requested_size, d.alignment);
+    let new = new_size(
+        region,
+        config.requested_size,
+        d.alignment,
+        config.block_size,
+    );
     let growth = growth_of(region, d.several, config.usable_region_size, new, table);
     let Growth::Asks(first, last, size) = growth else {
         return Answered {
@@ -87,7 +92,7 @@ pub fn set_requested_size(d: Device, bitmap: &[u8], table: &[u64], requested_mib
     if number != 0 {
         return refuse(d, number);
     }
-    if requested_refused(requested_mib, d.config.region_size) {
+    if requested_refused(requested_mib, d.config.region_size, d.config.block_size) {
         return refuse(d, 1);
     }
     let requested = requested_mib * MemTool::MIB;
@@ -146,7 +151,7 @@ pub fn place(
     if refused != 0 {
         return refuse(d, refused);
     }
-    let blocks = MemTool::blocks_in(d.config.region_size);
+    let blocks = MemTool::blocks_in(d.config.region_size, d.config.block_size);
     set_range(bitmap, 0, blocks as usize, false);
     lay(table, slots);
     let mut config = d.config;

@@ -1,6 +1,6 @@
 -- `making::requested_refused` meets its contract: the product is made only where it is at most the region.
 use Prim.Native.Nat.{ℕ, _*_, _%_}
-use mathlib.Core.Path.{_≡_, refl}
+use mathlib.Core.Path.{_≡_, refl, ap, _∙_}
 use mathlib.Core.Bool.{Bool, true, false, not, _&&_}
 use lib.Dec.{leb, eqb}
 use native.Mathlib.Omega.{arith}
@@ -12,17 +12,17 @@ use Rattle.making.proofs.requested_refused.Statement.{statement}
 use Rattle.making.proofs.requested_refused.Tie as tie
 
 -- whole blocks and not above the region, the second first
-above : (size region : ℕ) → leb size region ≡ false → true ≡ not (sizeOk 4194304 size region)
+above : (b size region : ℕ) → leb size region ≡ false → true ≡ not (sizeOk b size region)
 unfolding sizeOk
-above size region e = rw e (either (eqb (size % 4194304) 0))
+above b size region e = rw e (either (eqb (size % b) 0))
   where
     either : (whole : Bool) → true ≡ not (whole && false)
     either true = refl
     either false = refl
 
-at-most : (size region : ℕ) → leb size region ≡ true → not (eqb (size % 4194304) 0) ≡ not (sizeOk 4194304 size region)
+at-most : (b size region : ℕ) → leb size region ≡ true → not (eqb (size % b) 0) ≡ not (sizeOk b size region)
 unfolding sizeOk
-at-most size region e = rw e (either (eqb (size % 4194304) 0))
+at-most b size region e = rw e (either (eqb (size % b) 0))
   where
     either : (whole : Bool) → not whole ≡ not (whole && true)
     either true = refl
@@ -32,15 +32,21 @@ product-within-requires : tie.Need-product-within-requires
 product-within-requires c κs = search needs
 
 returns : tie.Need-returns
-returns c = above _ _ (refused _ _ (c .before .product-within .ensures) (c .if1 .taken))
+returns c = above _ _ _ (refused _ _ (c .before .product-within .ensures) (c .if1 .taken))
 
-mul-result : tie.Need-mul-result
-mul-result c =
+mul-is-multiple : tie.Need-mul-is-multiple
+mul-is-multiple c =
     let a = c .before .before .args in
     omega (arith, leb-true (a .mib * 1048576) (a .region) (passed _ _ (c .before .product-within .ensures) (c .if1 .left)))
 
+is-multiple-requires : tie.Need-is-multiple-requires
+is-multiple-requires c κs = search needs
+
 returns-2 : tie.Need-returns-2
-returns-2 c = at-most _ _ (passed _ _ (c .before .product-within .ensures) (c .if1 .left))
+returns-2 c =
+    let at = c .before in
+    ap not (c .is-multiple .ensures) ∙ at-most _ _ _ (passed _ _ (at .before .product-within .ensures) (at .if1 .left))
 
 pub requested-refused-spec : {M : Type 1} → statement M
-requested-refused-spec = tie.close (tie.spec product-within-requires returns mul-result returns-2)
+requested-refused-spec =
+    tie.close (tie.spec product-within-requires returns mul-is-multiple is-multiple-requires returns-2)

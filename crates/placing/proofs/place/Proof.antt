@@ -71,7 +71,7 @@ returns-3 c =
     (goes-on _ _ _ _ _ _ _ (k .before .before .if1 .left)
     (simp (← k .before .range-refusal .ensures)
     (goes-on _ _ _ _ _ _ _ (k .if2 .left)
-    (placed-gives _ _ _ _ (shape (k .before .before)) _ _ (rw (c .before .before .before .before .before .before .before .before .before .before .before .blocks-in .ensures) at (c .before .before .before .before .before .before .before .before .before .set-range .ensures)) (c .before .before .before .before .before .lay .ensures) refl (c .ask-placing .ensures)))))
+    (placed-gives (k .before .before .before .before .before .before .before .args .d) _ _ _ _ _ (rw (c .before .before .before .before .before .before .before .before .before .before .before .blocks-in .ensures) at (c .before .before .before .before .before .before .before .before .before .set-range .ensures)) (c .before .before .before .before .before .lay .ensures) refl (c .ask-placing .ensures)))))
 
 pub place-spec : {M : Type 1} → statement M
 place-spec =

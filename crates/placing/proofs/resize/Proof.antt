@@ -1,6 +1,5 @@
 -- `placing::resize` meets its contract.
 use mathlib.Core.Path.{sym, _∙_}
-use Rattle.record.proofs.Laws.{shaped-is}
 use Rattle.step.specs.Step.{resizes}
 use Rattle.placing.proofs.Laws.{asked-within}
 use borrow.Author.Needs.{needs}
@@ -25,8 +24,7 @@ sized-requires c κs = search needs
 returns : tie.Need-returns
 unfolding resizes
 returns c =
-    let b = c .before .before .before .before .before .before .before in
-    simp (shaped-is (b .args .d) (b .pre) .block-size, ← c .before .before .before .before .new-size .ensures, ← c .before .before .before .growth-of .ensures, c .before .enum-told .given .1, c .sized .ensures)
+    simp (← c .before .before .before .before .new-size .ensures, ← c .before .before .before .growth-of .ensures, c .before .enum-told .given .1, c .sized .ensures)
 
 ask-creation-requires : tie.Need-ask-creation-requires
 ask-creation-requires c κs =
@@ -36,8 +34,7 @@ ask-creation-requires c κs =
 returns-2 : tie.Need-returns-2
 unfolding resizes
 returns-2 c =
-    let b = c .before .before .before .before .before .before .before .before in
-    simp (shaped-is (b .args .d) (b .pre) .block-size, ← c .before .before .before .before .before .new-size .ensures, ← c .before .before .before .before .growth-of .ensures, c .before .before .growth .given .1)
+    simp (← c .before .before .before .before .before .new-size .ensures, ← c .before .before .before .before .growth-of .ensures, c .before .before .growth .given .1)
     (c .ask-creation .ensures)
 
 pub resize-spec : {M : Type 1} → statement M

@@ -23,8 +23,8 @@ shape : (c : tie.Else1) → shapedOf (c .before .before .before .before .args .d
 shape c = ready-is _ _ _ (sym (c .before .ready-refusal .ensures) ∙ c .if1 .left) .shaped
 
 -- past 1
-size : (c : tie.Else2) → (let a = c .before .before .before .before .before .before .args in Asked (a .requested-mib * 1048576) (a .d .config .«region_size»))
-size c = asked-is _ _ _ (c .before .requested-refused .ensures) (c .if2 .left)
+size : (c : tie.Else2) → (let a = c .before .before .before .before .before .before .args in Asked (a .d .config .«block_size») (a .requested-mib * 1048576) (a .d .config .«region_size»))
+size c = asked-is _ _ _ _ (c .before .requested-refused .ensures) (c .if2 .left)
 
 ready-refusal-requires : tie.Need-ready-refusal-requires
 ready-refusal-requires c κs = search needs
@@ -46,11 +46,10 @@ returns-2 : tie.Need-returns-2
 unfolding step setRequestedSize
 returns-2 c =
     let k = c .before .before .before in
-    let b = k .before .before .before .before in
     simp (blocks-length, count, ← k .before .ready-refusal .ensures)
     (goes-on _ _ _ _ _ _ _ (k .if1 .left)
     (refused-gives _ _ 1 _ _
-    (simp (shaped-is (b .args .d) (shape k) .block-size, ← c .before .before .requested-refused .ensures, c .before .if2 .taken))
+    (simp (← c .before .before .requested-refused .ensures, c .before .if2 .taken))
     (c .refuse2 .ensures)))
 
 mul-requested : tie.Need-mul-requested
@@ -59,7 +58,7 @@ mul-requested c = omega (arith, size c .within)
 resize-requires : tie.Need-resize-requires
 resize-requires c κs =
     let before = shape (c .before .before .before) in
-    let after = requested-keeps _ before _ (size (c .before) .whole) (size (c .before) .within) in
+    let after = requested-keeps _ before _ (rw (shaped-is _ before .block-size) at (size (c .before) .whole)) (size (c .before) .within) in
     cc
 
 returns-3 : tie.Need-returns-3
@@ -67,9 +66,8 @@ unfolding step setRequestedSize
 returns-3 c =
     let a = c .before .before .before .before .before .before .before .before .args in
     let bytes = a .requested-mib * 1048576 in
-    let block-size = shaped-is (a .d) (shape (c .before .before .before .before)) .block-size in
     let test : not (sizeOk (a .d .config .«block_size») bytes (a .d .config .«region_size»)) ≡ false =
-    rw block-size (sym (c .before .before .before .requested-refused .ensures) ∙ c .before .before .if2 .left) in
+    sym (c .before .before .before .requested-refused .ensures) ∙ c .before .before .if2 .left in
     simp (blocks-length, count, ← c .before .before .before .before .before .ready-refusal .ensures)
     (goes-on _ _ _ _ _ _ _ (c .before .before .before .before .if1 .left)
     (simp test

@@ -44,7 +44,7 @@ returns-3 c =
 
 mul-new-device : tie.Need-mul-new-device
 mul-new-device c =
-    omega (arith, asked-is (c .before .before .before .before .before .before .args .requested-mib * 1048576) _ _ (c .before .requested-refused .ensures) (c .if3 .left) .within)
+    omega (arith, asked-is 4194304 (c .before .before .before .before .before .before .args .requested-mib * 1048576) _ _ (c .before .requested-refused .ensures) (c .if3 .left) .within)
 
 new-device-requires : tie.Need-new-device-requires
 new-device-requires c κs = search needs
