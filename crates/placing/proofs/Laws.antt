@@ -1,15 +1,13 @@
 -- How the outcomes of placing and of a size change come about, test by test.
 use Prim.Native.Nat.{ℕ, _+_, _*_, _≤_}
-use mathlib.Core.Path.{_≡_, refl, ap, sym}
+use mathlib.Core.Path.{_≡_}
 use mathlib.Core.Bool.{true, false}
 use mathlib.Core.List.{List, []}
 use native.Mathlib.Omega.{arith}
-use borrow.Author.Tests.{eq-eqb, ne-eqb}
 use Rattle.units.specs.Numbers.{top, mapRegion, mapRegions}
 use Rattle.bitmap.specs.Blocks.{blocks}
 use Rattle.rows.specs.declared.MapRow.{MapRow}
 use Rattle.rows.specs.Rows.{written}
-use Rattle.rows.proofs.Words.{whole as table-whole}
 use Rattle.record.specs.declared.Device.{Device}
 use Rattle.record.specs.Shape.{shapedOf}
 use Rattle.record.proofs.Laws.{shaped-is, span-several}
@@ -17,36 +15,13 @@ use Rattle.resize.specs.declared.Growth.{Growth}
 use Rattle.resize.specs.declared.Growth.the-variants.{Asks, Settled}
 use Rattle.resize.specs.Resize.{growthOf}
 use Rattle.resize.proofs.Laws.{asking}
-use Rattle.step.specs.declared.Answer.the-variants.{Refused}
 use Rattle.step.specs.declared.Answered.{Answered}
-use Rattle.step.specs.Answers.{answerWords}
 use Rattle.step.specs.World.{World, Outcome, answeredBy}
-use Rattle.step.specs.Step.{refused, unless, several, region, resizes, resized, asksCreate, placing}
-use Rattle.step.specs.Promise.{Lent, on, leftBy, Leaves, Gives}
-
--- ---- the refusals
-module _ (d : Device) (l : Lent) where
-  pub refused-gives : (n : ℕ) (o : Outcome) (s : Answered) → o ≡ refused n (on d l) (l .bytes) → s ≡ record { device = d; answer = Refused n } → Gives o l l s
-  refused-gives n o s e a =
-      rw (e, a)
-      (record { answered = refl; told = refl; recorded = refl; leaves = record { marked = refl; mapped = sym (table-whole (l .table)); left = refl } })
-
-  -- the call is refused by its first tests
-  pub stops : (n : ℕ) (o : Outcome) (s : Answered) → (n ≡ 0 → ⊥) → s ≡ record { device = d; answer = Refused n } → Gives (unless n (on d l) (l .bytes) o) l l s
-  unfolding unless
-  stops n o s h a = refused-gives n _ s (rw (ne-eqb n 0 h)) a
-
--- or it goes on
-pub goes-on : (n : ℕ) (w : World) (bytes : List ℕ) (o : Outcome) (before after : Lent) (s : Answered) → n ≡ 0 → Gives o before after s → Gives (unless n w bytes o) before after s
-unfolding unless
-goes-on n w bytes o before after s h m = rw (eq-eqb n 0 h) m
+use Rattle.step.specs.Step.{several, region, resizes, resized, asksCreate, placing}
+use Rattle.step.specs.Promise.{Lent, Gives}
+use Rattle.step.proofs.Giving.{as-answered}
 
 -- ---- the usable size
--- an outcome whose answer and record are known
-pub as-answered : (o : Outcome) (before after : Lent) (s : Answered) → s ≡ answeredBy o → Leaves (leftBy o) before after → Gives o before after s
-as-answered o before after s e m =
-    record { answered = ap (λ s. s .answer) e; told = ap (λ s. answerWords (s .answer)) e; recorded = ap (λ s. s .device) e; leaves = m }
-
 -- where it is worked out, and where a creation is asked for, no table is touched
 pub resizes-gives : (g : Growth) (w : World) (before after : Lent) (s : Answered) → s ≡ answeredBy (resizes g (record { device = w .device; blocks = blocks []; rows = w .rows })) → blocks (after .bitmap) ≡ w .blocks → after .table ≡ written (before .table) (w .rows) → after .bytes ≡ [] → Gives (resizes g w) before after s
 unfolding resizes

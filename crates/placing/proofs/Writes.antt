@@ -19,7 +19,8 @@ use Rattle.step.specs.declared.Answered.{Answered}
 use Rattle.step.specs.World.{World, answeredBy, worldOf}
 use Rattle.step.specs.Step.{rangeRefusal, placed, placing}
 use Rattle.step.specs.Promise.{Lent, on, Gives}
-use Rattle.placing.proofs.Laws.{as-answered, resizes-gives, placing-several, placing-single}
+use Rattle.placing.proofs.Laws.{resizes-gives, placing-several, placing-single}
+use Rattle.step.proofs.Giving.{as-answered}
 
 pub start-good : (d : Device) (start size n : ℕ) → rangeRefusal d start size n ≡ 0 → startOk start (d .config .«region_size») (d .several) (d .alignment) ≡ true
 unfolding rangeRefusal

@@ -19,7 +19,7 @@ use Rattle.step.specs.Answers.{answerWords}
 use Rattle.step.specs.World.{Guest, noGuest, Outcome, worldOf}
 use Rattle.step.specs.Step.{coveredBy, creates, hostAnswer}
 use Rattle.step.specs.Promise.{lent, Gives}
-use Rattle.serving.proofs.Ends.{answers}
+use Rattle.step.proofs.Giving.{answers}
 
 module _ (d : Device) (tb : List ℕ) (ok : Bool) (host i last : ℕ) (s : Answered) where
   pub failed : (d′ : Device) → d′ ≡ pendingTo Nothing d → not ok ≡ true → s ≡ record { device = d′; answer = Refused 10 } → Gives (hostAnswer (Create i last) (worldOf d [] tb) noGuest ok host) (lent [] tb []) (lent [] tb []) s

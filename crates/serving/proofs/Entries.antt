@@ -29,7 +29,7 @@ use Rattle.step.specs.declared.Answered.{Answered}
 use Rattle.step.specs.World.{World, Guest, Request, HostAnswer, worldOf}
 use Rattle.step.specs.Promise.{lent, Gives}
 use Rattle.step.specs.Step.{unserved, hostAnswer, serve, request, step, unless, readyRefusal, pendingRefusal, ack, error, refused as refusedWith, unplugAll}
-use Rattle.serving.proofs.Ends.{Responded, serves, relent}
+use Rattle.step.proofs.Giving.{Responded, serves, relent}
 
 -- a chain that is no request
 bad-is : (p : Parsed) → OneOf (1 ∷ []) (tagOf parsed-type p) → (reason : ℕ) → reason ≡ reasonOf p → (w : World) (g : Guest) → request p w g ≡ unserved reason w g

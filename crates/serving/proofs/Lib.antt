@@ -1,4 +1,3 @@
-mod Ends
 mod Ways
 mod Entries
 mod Creation

@@ -38,7 +38,7 @@ use Rattle.step.specs.declared.Answer.the-variants.{Refused, Wants}
 use Rattle.step.specs.World.{World, Guest, worldOf}
 use Rattle.step.specs.Promise.{lent, Gives}
 use Rattle.step.specs.Step.{served, unserved, respond, serve, stateResp, ack, nack, error, plug, plugAs, unplug, unplugAs, unplugOne, oneAs, nextAs, unplugAll, stops, changing}
-use Rattle.serving.proofs.Ends.{Responded, serves, answers}
+use Rattle.step.proofs.Giving.{Responded, serves, answers}
 
 -- the host is asked for a discard, and the record waits for its answer
 abbrev pub asked : Device → Pending → RegionOffset → (size : ℕ) → HostAddr → Answered

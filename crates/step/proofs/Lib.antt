@@ -7,3 +7,4 @@ pub mod Behind
 pub mod Edges
 pub mod Once
 pub mod Lengths
+pub mod Giving

@@ -37,7 +37,7 @@ use Rattle.step.specs.Step.{blockSize, region, requested, plugged, coveredBy, u
 use Rattle.trace_text.specs.declared.Op.{Op}
 use Rattle.trace_text.specs.declared.Op.the-variants.{Host, Plug, Unplug, State, UnplugAll, Size}
 use Rattle.trace_text.specs.Lines.{opInRange}
-use Rattle.trace_run.specs.Ops.{chained, asked, callOf}
+use Rattle.trace_run.specs.Ops.{chained, laid, asked, callOf}
 
 -- ---- the bytes
 
@@ -64,58 +64,58 @@ unfolding inside
 is-inside len addr n h k = simp (le-leb 0 addr (omega arith), le-leb (addr + n) (0 + len) (omega arith), le-leb (addr + n) (2 ^ 64) k)
 
 module _ (mem : List ℕ) (type addr blocks : ℕ) (room : 106 ≤ length mem) where
-  abbrev laid : List ℕ
-  laid = asked mem type addr blocks
+  abbrev inMemory : List ℕ
+  inMemory = asked mem type addr blocks
 
-  laid-puts : laid ≡ put (put mem 0 descriptors) 64 (laidRequest type addr blocks)
-  unfolding asked chained put littleEndian virtqDesc virtioMemReq
+  laid-puts : inMemory ≡ put (put mem 0 descriptors) 64 (laidRequest type addr blocks)
+  unfolding asked chained laid put littleEndian virtqDesc virtioMemReq
   laid-puts = refl
 
-  laid-length : length laid ≡ length mem
+  laid-length : length inMemory ≡ length mem
   laid-length = rw (laid-puts, length-put, length-put)
 
-  first-part : part laid 0 16 ≡ virtqDesc 64 24 1 1
+  first-part : part inMemory 0 16 ≡ virtqDesc 64 24 1 1
   unfolding littleEndian virtqDesc part
   first-part =
       rw laid-puts
       (part-put-before (put mem 0 descriptors) 64 (laidRequest type addr blocks) 0 16 (omega arith)
       ∙ part-put-inside mem 0 descriptors 0 16 (omega arith) (omega arith))
 
-  second-part : part laid 16 16 ≡ virtqDesc 96 10 2 0
+  second-part : part inMemory 16 16 ≡ virtqDesc 96 10 2 0
   unfolding littleEndian virtqDesc part
   second-part =
       rw laid-puts
       (part-put-before (put mem 0 descriptors) 64 (laidRequest type addr blocks) 16 16 (omega arith)
       ∙ part-put-inside mem 0 descriptors 16 16 (omega arith) (omega arith))
 
-  request-bytes : part laid 64 24 ≡ laidRequest type addr blocks
+  request-bytes : part inMemory 64 24 ≡ laidRequest type addr blocks
   unfolding littleEndian virtioMemReq
   request-bytes =
       let l = length-put mem 0 descriptors in
       rw laid-puts (part-put (put mem 0 descriptors) 64 (laidRequest type addr blocks) (omega arith))
 
-  first-link : linkAt laid 0 0 0 ≡ Is first
+  first-link : linkAt inMemory 0 0 0 ≡ Is first
   unfolding linkAt descriptorAddr
   first-link =
       let l = laid-length in
-      rw (is-inside (length laid) 0 16 (omega arith) (omega arith))
-      (ap Is (descriptor-laid laid 0 first (record { addr = omega arith; len = omega arith; flags = omega arith; next = omega arith }) first-part))
+      rw (is-inside (length inMemory) 0 16 (omega arith) (omega arith))
+      (ap Is (descriptor-laid inMemory 0 first (record { addr = omega arith; len = omega arith; flags = omega arith; next = omega arith }) first-part))
 
-  second-link : linkAt laid 0 0 1 ≡ Is second
+  second-link : linkAt inMemory 0 0 1 ≡ Is second
   unfolding linkAt descriptorAddr
   second-link =
       let l = laid-length in
-      rw (is-inside (length laid) 16 16 (omega arith) (omega arith))
-      (ap Is (descriptor-laid laid 16 second (record { addr = omega arith; len = omega arith; flags = omega arith; next = omega arith }) second-part))
+      rw (is-inside (length inMemory) 16 16 (omega arith) (omega arith))
+      (ap Is (descriptor-laid inMemory 16 second (record { addr = omega arith; len = omega arith; flags = omega arith; next = omega arith }) second-part))
 
   -- the device reads the request that the op stands for, and answers it at guest address 96
-  pub chain-good : type < 256 ^ 2 → addr < 256 ^ 8 → blocks < 256 ^ 2 → parsed laid 0 0 0 ≡ Got (requestOf type addr blocks) (record { 0 = 96 })
+  pub chain-good : type < 256 ^ 2 → addr < 256 ^ 8 → blocks < 256 ^ 2 → parsed inMemory 0 0 0 ≡ Got (requestOf type addr blocks) (record { 0 = 96 })
   unfolding parsed withFirst linkAfter withSecond
   chain-good t a b =
       let l = laid-length in
-      let r = request-part laid 64 ∙ ap (λ (bytes : List ℕ). requestAt bytes 0) request-bytes
+      let r = request-part inMemory 64 ∙ ap (λ (bytes : List ℕ). requestAt bytes 0) request-bytes
       ∙ request-laid type _ _ _ addr blocks _ _ _ t a b in
-      rw (first-link, is-inside (length laid) 64 24 (omega arith) (omega arith), second-link, r)
+      rw (first-link, is-inside (length inMemory) 64 24 (omega arith) (omega arith), second-link, r)
 
 -- ---- the answers
 
@@ -125,7 +125,7 @@ hasLine (Refused n) = true
 hasLine (Wants call) = true
 hasLine Sized = true
 hasLine (Unserved reason) = false
-hasLine (Served resp used) = true
+hasLine (Served reply) = true
 hasLine Done = false
 
 -- an outcome whose answer has a line

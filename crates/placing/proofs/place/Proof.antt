@@ -7,7 +7,7 @@ use Rattle.record.specs.Shape.{shapedOf}
 use Rattle.record.proofs.Laws.{start-keeps}
 use Rattle.step.specs.Step.{step, place}
 use Rattle.step.proofs.Entry.{unplaced-shaped}
-use Rattle.placing.proofs.Laws.{stops, goes-on}
+use Rattle.step.proofs.Giving.{stops, goes-on}
 use Rattle.placing.proofs.Writes.{start-good, placed-gives}
 use borrow.Author.Needs.{needs}
 use Rattle.placing.proofs.place.Statement.{statement}

@@ -13,7 +13,8 @@ use Rattle.step.specs.World.{worldOf}
 use Rattle.step.specs.Step.{step, deviceOf, setRequestedSize}
 use Rattle.step.proofs.Entry.{ready-is}
 use Rattle.making.proofs.Asked.{Asked, asked-is}
-use Rattle.placing.proofs.Laws.{refused-gives, stops, goes-on, resizes-gives}
+use Rattle.placing.proofs.Laws.{resizes-gives}
+use Rattle.step.proofs.Giving.{refused-gives, stops, goes-on}
 use borrow.Author.Needs.{needs}
 use Rattle.placing.proofs.set_requested_size.Statement.{statement}
 use Rattle.placing.proofs.set_requested_size.Tie as tie

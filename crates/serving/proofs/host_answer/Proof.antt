@@ -1,7 +1,7 @@
 -- `serving::host_answer` meets its contract: 12, 8 and 11 first, then the answer to what is pending.
 use mathlib.Core.Path.{refl, sym, _∙_}
 use Rattle.step.proofs.Entry.{waits-is}
-use Rattle.serving.proofs.Ends.{as-given, answers}
+use Rattle.step.proofs.Giving.{as-given, answers}
 use Rattle.serving.proofs.Entries.{answer-refused, answer-ready, case-is, none-pending, any-host, any-host-one}
 use Rattle.serving.proofs.Creation.{heard}
 use borrow.Author.Needs.{needs}

@@ -1,7 +1,7 @@
 -- `serving::request` meets its contract: 12, 7, 5 and 11, then the chain's reason, then the request.
 use mathlib.Core.Path.{refl, sym, _∙_}
 use Rattle.step.proofs.Entry.{ready-is}
-use Rattle.serving.proofs.Ends.{as-given, answers}
+use Rattle.step.proofs.Giving.{as-given, answers}
 use Rattle.serving.proofs.Entries.{request-refused, request-bad, request-got}
 use borrow.Author.Needs.{needs}
 use Rattle.serving.proofs.request.Statement.{statement}

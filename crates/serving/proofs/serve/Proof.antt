@@ -1,6 +1,6 @@
 -- `serving::serve` meets its contract, type by type.
 use mathlib.Core.Path.{refl}
-use Rattle.serving.proofs.Ends.{as-given, answers}
+use Rattle.step.proofs.Giving.{as-given, answers}
 use Rattle.serving.proofs.Ways.{states, serve-plug, serve-unplug, serve-unplug-all, serve-unknown}
 use borrow.Author.Needs.{needs}
 use Rattle.serving.proofs.serve.Statement.{statement}

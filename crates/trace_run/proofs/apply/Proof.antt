@@ -132,7 +132,7 @@ unfolding callOf bytesAfter
 returns-6 c =
     let m = c .set-requested-size .ensures in
     rw (c .before .before .before .before .op5 .given .1)
-    (record { answered = m .answered; told = m .told; recorded = m .recorded; marked = m .marked; mapped = m .mapped; left = refl })
+    (record { answered = m .answered; told = m .told; recorded = m .recorded; leaves = record { marked = m .leaves .marked; mapped = m .leaves .mapped; left = refl } })
 
 pub apply-spec : {M : Type 1} → statement M
 apply-spec =

@@ -1,6 +1,6 @@
 -- `trace_run::ask` meets its contract: each write is one `put` of the definition.
 use borrow.Author.Needs.{needs}
-use Rattle.trace_run.specs.Ops.{asked}
+use Rattle.trace_run.specs.Ops.{laid, asked}
 use Rattle.trace_run.proofs.ask.Statement.{statement}
 use Rattle.trace_run.proofs.ask.Tie as tie
 
@@ -20,7 +20,7 @@ same-length : tie.Need-same-length
 same-length c = search needs
 
 returns : tie.Need-returns
-unfolding asked
+unfolding asked laid
 returns c = cc
 
 pub ask-spec : {M : Type 1} → statement M

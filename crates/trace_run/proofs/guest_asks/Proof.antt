@@ -1,4 +1,6 @@
 -- `trace_run::guest_asks` meets its contract: the memory that the device reads is the one that was laid.
+use mathlib.Core.Path.{refl}
+use Rattle.step.proofs.Giving.{relent}
 use borrow.Author.Needs.{needs}
 use Rattle.trace_run.proofs.guest_asks.Statement.{statement}
 use Rattle.trace_run.proofs.guest_asks.Tie as tie
@@ -16,7 +18,11 @@ same-length-2 : tie.Need-same-length-2
 same-length-2 c = search needs
 
 returns : tie.Need-returns
-returns c = rw (← c .before .before .before .before .before .before .before .before .before .ask .ensures) (c .before .before .before .before .request .ensures)
+returns c =
+    let called = c .before .before .before .before in
+    let laid = called .before .before .before .before .before in
+    let a = laid .before .before .before .args in
+    relent {l = lent (now (a .bitmap)) (now (a .table)) _} refl (rw (← laid .ask .ensures) (called .request .ensures))
 
 pub guest-asks-spec : {M : Type 1} → statement M
 guest-asks-spec =

@@ -1,6 +1,6 @@
 -- `trace_run::lay_chain` meets its contract: each write is one `put` of the definition.
 use borrow.Author.Needs.{needs}
-use Rattle.trace_run.specs.Ops.{chained}
+use Rattle.trace_run.specs.Ops.{chained, laid}
 use Rattle.trace_run.proofs.lay_chain.Statement.{statement}
 use Rattle.trace_run.proofs.lay_chain.Tie as tie
 

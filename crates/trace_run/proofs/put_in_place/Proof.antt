@@ -6,7 +6,8 @@ use lib.Seq.{length-take-le}
 use Rattle.record.proofs.Laws.{shaped-is}
 use Rattle.step.specs.World.{worldOf}
 use Rattle.step.specs.Step.{step}
-use Rattle.trace_run.specs.Run.{lentOf, countedFrom, placeOf, begunOn}
+use Rattle.step.specs.Promise.{lent, meant}
+use Rattle.trace_run.specs.Run.{countedFrom, placeOf, begunOn}
 use Rattle.trace_run.proofs.Laws.{counted-take, placed-comes}
 use borrow.Author.Needs.{needs}
 use Rattle.trace_run.proofs.put_in_place.Statement.{statement}

@@ -1,17 +1,20 @@
--- How an outcome is given: a response that was delivered, an answer that leaves all as it is.
+-- How an outcome is given: a refusal, a response that was delivered, an answer that leaves all as it is.
 use Prim.Native.Nat.{ℕ}
 use mathlib.Core.Path.{_≡_, refl, ap, sym}
 use mathlib.Core.List.{List, []}
+use borrow.Author.Tests.{eq-eqb, ne-eqb}
 use Rattle.bitmap.specs.Blocks.{blocks}
 use Rattle.rows.specs.Rows.{rowsOf}
 use Rattle.rows.proofs.Words.{whole}
 use Rattle.wire.specs.declared.VirtioMemResp.{VirtioMemResp}
 use Rattle.record.specs.declared.Device.{Device}
 use Rattle.step.specs.declared.Answered.{Answered}
 use Rattle.step.specs.declared.Answer.{Answer}
-use Rattle.step.specs.World.{World, Guest, Outcome, worldOf}
-use Rattle.step.specs.Step.{served}
-use Rattle.step.specs.Promise.{Lent, lent, Gives}
+use Rattle.step.specs.declared.Answer.the-variants.{Refused}
+use Rattle.step.specs.Answers.{answerWords}
+use Rattle.step.specs.World.{World, Guest, Outcome, worldOf, answeredBy}
+use Rattle.step.specs.Step.{served, refused, unless}
+use Rattle.step.specs.Promise.{Lent, lent, on, leftBy, Leaves, Gives}
 
 -- a response, as it is delivered on guest memory alone
 abbrev pub Responded : Guest → (status : ℕ) → VirtioMemResp → Device → Answered → (bytes : List ℕ) → Type 0
@@ -51,3 +54,25 @@ relent e m =
 -- what gives an outcome gives the same outcome
 pub as-given : {o o′ : Outcome} {before after : Lent} {s : Answered} → o ≡ o′ → Gives o′ before after s → Gives o before after s
 as-given e m = rw e m
+
+-- an outcome whose answer and record are known
+pub as-answered : (o : Outcome) (before after : Lent) (s : Answered) → s ≡ answeredBy o → Leaves (leftBy o) before after → Gives o before after s
+as-answered o before after s e m =
+    record { answered = ap (λ s. s .answer) e; told = ap (λ s. answerWords (s .answer)) e; recorded = ap (λ s. s .device) e; leaves = m }
+
+-- ---- the refusals
+module _ (d : Device) (l : Lent) where
+  pub refused-gives : (n : ℕ) (o : Outcome) (s : Answered) → o ≡ refused n (on d l) (l .bytes) → s ≡ record { device = d; answer = Refused n } → Gives o l l s
+  refused-gives n o s e a =
+      rw (e, a)
+      (record { answered = refl; told = refl; recorded = refl; leaves = record { marked = refl; mapped = sym (whole (l .table)); left = refl } })
+
+  -- the call is refused by its first tests
+  pub stops : (n : ℕ) (o : Outcome) (s : Answered) → (n ≡ 0 → ⊥) → s ≡ record { device = d; answer = Refused n } → Gives (unless n (on d l) (l .bytes) o) l l s
+  unfolding unless
+  stops n o s h a = refused-gives n _ s (rw (ne-eqb n 0 h)) a
+
+-- or it goes on
+pub goes-on : (n : ℕ) (w : World) (bytes : List ℕ) (o : Outcome) (before after : Lent) (s : Answered) → n ≡ 0 → Gives o before after s → Gives (unless n w bytes o) before after s
+unfolding unless
+goes-on n w bytes o before after s h m = rw (eq-eqb n 0 h) m
