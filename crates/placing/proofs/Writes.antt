@@ -13,8 +13,7 @@ use Rattle.rows.proofs.Laws.{laid-length}
 use Rattle.rows.proofs.Words.{read-back}
 use Rattle.record.specs.declared.Device.{Device}
 use Rattle.record.specs.Changes.{startTo}
-use Rattle.record.specs.Shape.{shapedOf, startOk}
-use Rattle.record.proofs.Laws.{shaped-is}
+use Rattle.record.specs.Shape.{startOk}
 use Rattle.step.specs.declared.Answered.{Answered}
 use Rattle.step.specs.World.{World, answeredBy, worldOf}
 use Rattle.step.specs.Step.{rangeRefusal, placed, placing}
@@ -39,9 +38,8 @@ module _ (d : Device) (before : Lent) (start : ℕ) (slots : List ℕ) where
       let w0 : World = record { device = startTo start d; blocks = blocks []; rows = rows } in
       let back : rowsOf (after .table) ≡ rows = rw m (read-back (before .table) rows (laid-length (rowsOf (before .table)) slots)) in
       let told : s ≡ answeredBy (placing w0) = rw back at a in
-      let marked : blocks (after .bitmap) ≡ w .blocks = f .as-blocks in
       by-test (d .several)
-      (λ t. rw (placing-several w t) (resizes-gives _ w before after s (told ∙ ap answeredBy (placing-several w0 t)) marked m b))
+      (λ t. rw (placing-several w t) (resizes-gives _ w before after s (told ∙ ap answeredBy (placing-several w0 t)) (f .as-blocks) m b))
       (λ t.
       rw (placing-single w t)
-      (as-answered _ before after s (told ∙ ap answeredBy (placing-single w0 t)) (record { marked = marked; mapped = m; left = b })))
+      (as-answered _ before after s (told ∙ ap answeredBy (placing-single w0 t)) (record { marked = f .as-blocks; mapped = m; left = b })))

@@ -44,8 +44,8 @@ is-multiple-requires c κs = search needs
 
 returns-2 : tie.Need-returns-2
 returns-2 c =
-    let at = c .before in
-    ap not (c .is-multiple .ensures) ∙ at-most _ _ _ (passed _ _ (at .before .product-within .ensures) (at .if1 .left))
+    ap not (c .is-multiple .ensures)
+    ∙ at-most _ _ _ (passed _ _ (c .before .before .product-within .ensures) (c .before .if1 .left))
 
 pub requested-refused-spec : {M : Type 1} → statement M
 requested-refused-spec =

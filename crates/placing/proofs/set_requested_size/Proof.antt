@@ -58,8 +58,9 @@ mul-requested c = omega (arith, size c .within)
 
 resize-requires : tie.Need-resize-requires
 resize-requires c κs =
+    let d = c .before .before .before .before .before .before .before .args .d in
     let before = shape (c .before .before .before) in
-    let after = requested-keeps _ before _ (rw (shaped-is _ before .block-size) at (size (c .before) .whole)) (size (c .before) .within) in
+    let after = requested-keeps _ before _ (rw (shaped-is d before .block-size) at (size (c .before) .whole)) (size (c .before) .within) in
     cc
 
 returns-3 : tie.Need-returns-3
@@ -67,11 +68,9 @@ unfolding step setRequestedSize
 returns-3 c =
     let a = c .before .before .before .before .before .before .before .before .args in
     let bytes = a .requested-mib * 1048576 in
-    let test : not (sizeOk (a .d .config .«block_size») bytes (a .d .config .«region_size»)) ≡ false =
-    sym (c .before .before .before .requested-refused .ensures) ∙ c .before .before .if2 .left in
     simp (blocks-length, count, ← c .before .before .before .before .before .ready-refusal .ensures)
     (goes-on _ _ _ _ _ _ _ (c .before .before .before .before .if1 .left)
-    (simp test
+    (simp (← c .before .before .before .requested-refused .ensures, c .before .before .if2 .left)
     (resizes-gives _ (deviceOf (requestedTo bytes (a .d)) (worldOf (a .d) (now (a .bitmap)) (now (a .table)))) _ _ _ (c .resize .ensures) refl (sym (whole _)) refl)))
 
 pub set-requested-size-spec : {M : Type 1} → statement M
