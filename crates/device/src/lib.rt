@@ -11,7 +11,6 @@
 // Nothing has to hold of what is lent: each call tests it first, and gives `Refused` with the law's number.
 pub use making::Made;
 pub use making::Mem;
-pub use making::Node;
 pub use placing::place;
 pub use placing::set_requested_size;
 pub use record::Device;
@@ -25,6 +24,7 @@ pub use step::Reply;
 use step::refuse;
 pub use units::GuestAddr;
 pub use units::HostAddr;
+pub use units::Node;
 pub use units::RegionOffset;
 pub use wire::VirtioMemResp;
 ghost use mathlib.Core.List.{[]};

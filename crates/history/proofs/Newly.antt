@@ -5,7 +5,7 @@ use mathlib.Core.Bool.{Bool}
 use mathlib.Core.List.{List}
 use Rattle.record.specs.declared.Device.{Device}
 use Rattle.step.specs.World.{Call}
-use Rattle.making.specs.declared.Node.{Node}
+use Rattle.units.specs.declared.Node.{Node}
 use Rattle.making.specs.declared.Made.the-variants.{Device as MadeDevice}
 use Rattle.making.specs.Made.{made}
 use Rattle.making.proofs.Newly.{made-new}

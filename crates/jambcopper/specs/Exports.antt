@@ -6,8 +6,8 @@ use mathlib.Core.List.{List}
 use lib.Dec.{leb}
 use lib.ListN.{length}
 use Rattle.little_endian.specs.Bytes.{put}
-use Rattle.making.specs.declared.Node.{Node}
-use Rattle.making.specs.declared.Node.the-variants.{None, Number}
+use Rattle.units.specs.declared.Node.{Node}
+use Rattle.units.specs.declared.Node.the-variants.{None, Number}
 use Rattle.making.specs.declared.Made.{Made}
 use Rattle.making.specs.declared.Made.the-variants.{Device as MadeDevice, Refused}
 use Rattle.making.specs.Made.{madeNumber}

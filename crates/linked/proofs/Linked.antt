@@ -16,7 +16,7 @@ use Rattle.record.specs.declared.Device.{Device}
 use Rattle.record.specs.Shape.{sizeOk}
 use Rattle.step.specs.World.{World}
 use Rattle.step.specs.Step.{step}
-use Rattle.making.specs.declared.Node.{Node}
+use Rattle.units.specs.declared.Node.{Node}
 use Rattle.making.specs.declared.Made.{Made}
 use Rattle.making.specs.declared.Made.the-variants.{Device as MadeDevice}
 use Rattle.making.specs.Made.{nodeNumber, made, madeNumber}

@@ -12,7 +12,7 @@ use Rattle.record.specs.declared.Device.{Device}
 use Rattle.record.specs.declared.Pending.the-variants.{Nothing}
 use Rattle.record.specs.Shape.{alignmentOk, regionOk, sizeOk, spanOf, startOk, severalOk, pendingOk, shapedOf}
 use Rattle.record.proofs.Laws.{by-alignment, spans, size-ok, whole}
-use Rattle.making.specs.declared.Node.{Node}
+use Rattle.units.specs.declared.Node.{Node}
 use Rattle.making.specs.declared.Made.the-variants.{Device as MadeDevice, Refused}
 use Rattle.making.specs.Made.{newDevice, made}
 use Rattle.making.proofs.Asked.{Asked, asked-is}

@@ -8,8 +8,8 @@ use Rattle.wire.specs.Layout.{newConfig}
 use Rattle.record.specs.declared.Device.{Device}
 use Rattle.record.specs.declared.Pending.the-variants.{Nothing}
 use Rattle.record.specs.Shape.{sizeOk, featuresOf}
-use Rattle.making.specs.declared.Node.{Node}
-use Rattle.making.specs.declared.Node.the-variants.{None, Number}
+use Rattle.units.specs.declared.Node.{Node}
+use Rattle.units.specs.declared.Node.the-variants.{None, Number}
 use Rattle.making.specs.declared.Made.{Made}
 use Rattle.making.specs.declared.Made.the-variants.{Device as MadeDevice, Refused}
 

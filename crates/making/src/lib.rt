@@ -4,6 +4,7 @@ use record::Device;
 use record::Pending;
 use record::features;
 use units::MemTool;
+use units::Node;
 use units::alignment_of;
 use units::is_multiple;
 use units::next_multiple_of;
@@ -18,12 +19,6 @@ ghost use Rattle.making.specs.Made.{nodeNumber, isGiven, newDevice, made
 
 // The largest capacity: 1 TiB.
 const MAX_CAPACITY_MIB: u64 = 1048576;
-
-// The node that a device belongs to, if one is given.
-pub enum Node {
-    None,
-    Number(u16),
-}
 
 // A device that was made, or the number of the refusal.
 pub enum Made {

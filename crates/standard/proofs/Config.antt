@@ -14,8 +14,8 @@ use Rattle.record.specs.declared.Device.{Device}
 use Rattle.record.specs.Shape.{sizeOk}
 use Rattle.record.proofs.Laws.{Shaped as Facts, shaped-is as facts-of, whole as shaped-when}
 use Rattle.resize.specs.Resize.{newSize}
-use Rattle.making.specs.declared.Node.{Node}
-use Rattle.making.specs.declared.Node.the-variants.{None, Number}
+use Rattle.units.specs.declared.Node.{Node}
+use Rattle.units.specs.declared.Node.the-variants.{None, Number}
 use Rattle.making.specs.declared.Made.the-variants.{Device as MadeDevice, Refused as MadeRefused}
 use Rattle.making.specs.Made.{newDevice, made}
 use Rattle.step.specs.World.{World, Call, SetRequestedSize, Outcome}

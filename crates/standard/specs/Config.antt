@@ -14,7 +14,7 @@ use Rattle.record.specs.declared.Device.{Device}
 use Rattle.record.specs.declared.HostCall.{HostCall}
 use Rattle.record.specs.declared.HostCall.the-variants.{Create, Discard}
 use Rattle.record.specs.Shape.{shapedOf}
-use Rattle.making.specs.declared.Node.{Node}
+use Rattle.units.specs.declared.Node.{Node}
 use Rattle.making.specs.declared.Made.the-variants.{Device as MadeDevice}
 use Rattle.making.specs.Made.{isGiven, nodeNumber, made}
 use Rattle.step.specs.declared.Answer.{Answer}

@@ -11,7 +11,6 @@ use super::show::wide;
 use super::show::word;
 use making::Made;
 use making::Mem;
-use making::Node;
 use placing::place;
 use placing::set_requested_size;
 use record::Device;
@@ -21,6 +20,7 @@ use step::Answer;
 use step::Answered;
 use units::GuestAddr;
 use units::HostAddr;
+use units::Node;
 
 fn flag(holds: bool) {
     if holds {

@@ -3,10 +3,10 @@ use super::lines::Numbers;
 use super::lines::small;
 use making::Made;
 use making::Mem;
-use making::Node;
 use record::Device;
 use record::Pending;
 use units::GuestAddr;
+use units::Node;
 use wire::VirtioMemConfig;
 
 // `known` says whether the last line was a command.

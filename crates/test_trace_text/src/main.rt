@@ -1,10 +1,10 @@
 // Reads the lines of its input and writes what each is, or 13; then puts each answer.
 use trace_text::FirstLine;
 use trace_text::Line;
-use trace_text::Node;
 use trace_text::Op;
 use units::GuestAddr;
 use units::HostAddr;
+use units::Node;
 use units::RegionOffset;
 
 fn number(word: &[u8], n: u64) {

@@ -9,14 +9,10 @@ use Rattle.step.specs.declared.Answer.the-variants.{Refused, Wants, Sized, Unse
 use Rattle.step.specs.World.{World, Call, Place, Outcome}
 use Rattle.step.specs.Step.{step}
 use Rattle.step.specs.Promise.{Lent, Meant, meant, Leaves}
-use Rattle.making.specs.declared.Node.{Node}
-use Rattle.making.specs.declared.Node.the-variants.{None, Number}
 use Rattle.making.specs.declared.Made.{Made}
 use Rattle.making.specs.declared.Made.the-variants.{Device as MadeDevice, Refused as NotMade}
 use Rattle.making.specs.Made.{made}
 use Rattle.text.specs.Putting.{Put}
-use Rattle.trace_text.specs.declared.Node.{Node as WrittenNode}
-use Rattle.trace_text.specs.declared.Node.the-variants.{None as WrittenNone, Number as WrittenNumber}
 use Rattle.trace_text.specs.declared.FirstLine.{FirstLine}
 use Rattle.trace_text.specs.declared.Op.{Op}
 use Rattle.trace_text.specs.declared.Line.{Line}
@@ -57,10 +53,6 @@ answeredAs run o mem =
 
 -- ---- the first line
 
-abbrev pub nodeOf : WrittenNode → Node
-nodeOf WrittenNone = None
-nodeOf (WrittenNumber n) = Number n
-
 -- "Slots count up from `slot`"
 unfoldable pub countedFrom : (slot count : ℕ) → List ℕ
 countedFrom slot zero = []
@@ -91,7 +83,7 @@ begunOn (MadeDevice d) f m = placedOn (step (worldOn d m) (placeOf d f m)) (m .b
 
 -- the first line makes the device, and places it
 abbrev pub begun : FirstLine → Meant → Turn
-begun f m = begunOn (made (f .«capacity_mib») (f .«requested_mib») (f .multi) (nodeOf (f .node)) (f .boot)) f m
+begun f m = begunOn (made (f .«capacity_mib») (f .«requested_mib») (f .multi) (f .node) (f .boot)) f m
 
 -- ---- every line
 

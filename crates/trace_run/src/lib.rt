@@ -12,7 +12,6 @@ use little_endian::write_u32;
 use little_endian::write_u64;
 use making::Made;
 use making::Mem;
-use making::Node;
 use placing::place;
 use placing::set_requested_size;
 use record::Device;
@@ -38,7 +37,7 @@ ghost use lib.ListN.{length, take};
 ghost use Rattle.record.specs.Shape.{shapedOf};
 ghost use Rattle.making.specs.declared.Made.the-variants as made;
 ghost use Rattle.answer_text.specs.Texts.{refusalText};
-ghost use Rattle.trace_run.specs.Run.{nodeOf, countedFrom, placedAs, begunOn, begun, goneOn, turn};
+ghost use Rattle.trace_run.specs.Run.{countedFrom, placedAs, begunOn, begun, goneOn, turn};
 ghost use Rattle.trace_run.specs.Run.{Prints, ComesTo, Serves, SlotFits};
 
 // Where a run stands: before its first line, on a device, or ended.
@@ -170,15 +169,6 @@ fn answer(run: Run, s: Answered, mem: &[u8], out: &mut [u8]) -> Shown
     }
 }
 
-fn node_of(node: trace_text::Node) -> Node
-    ensures { λ r. ⌜ r ≡ nodeOf node ⌝ }
-{
-    match node {
-        trace_text::Node::None => Node::None,
-        trace_text::Node::Number(n) => Node::Number(n),
-    }
-}
-
 // Slots count up from the first line's.
 fn count_slots(slots: &mut [u32], first: u64)
     requires { ⌜ first + length (now slots) ≤ 4294967296 ⌝ }
@@ -254,7 +244,7 @@ fn begin(
         first.capacity_mib,
         first.requested_mib,
         first.multi,
-        node_of(node),
+        node,
         first.boot,
     );
     match made {

@@ -16,8 +16,8 @@ use Rattle.forms.specs.Forms.{holes, filled}
 use Rattle.forms.specs.Scanning.{Scan, found, lost, isFound, scanOf}
 use Rattle.forms.proofs.Laws.{Words, word, taken, apart, scan-written, scan-read}
 use Rattle.forms.proofs.Clash.{clash, scan-clash}
-use Rattle.trace_text.specs.declared.Node.{Node}
-use Rattle.trace_text.specs.declared.Node.the-variants.{None, Number}
+use Rattle.units.specs.declared.Node.{Node}
+use Rattle.units.specs.declared.Node.the-variants.{None, Number}
 use Rattle.trace_text.specs.declared.FirstLine.{FirstLine}
 use Rattle.trace_text.specs.declared.Op.{Op}
 use Rattle.trace_text.specs.declared.Op.the-variants.{Host, Plug, Unplug, State, UnplugAll, Size}

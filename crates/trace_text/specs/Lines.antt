@@ -9,8 +9,8 @@ use lib.ListN.{length}
 use Rattle.text.specs.Words.{bytes}
 use Rattle.text.specs.Decimal.{largest}
 use Rattle.forms.specs.Forms.{filled}
-use Rattle.trace_text.specs.declared.Node.{Node}
-use Rattle.trace_text.specs.declared.Node.the-variants.{None, Number}
+use Rattle.units.specs.declared.Node.{Node}
+use Rattle.units.specs.declared.Node.the-variants.{None, Number}
 use Rattle.trace_text.specs.declared.FirstLine.{FirstLine}
 use Rattle.trace_text.specs.declared.Op.{Op}
 use Rattle.trace_text.specs.declared.Op.the-variants.{Host, Plug, Unplug, State, UnplugAll, Size}

@@ -8,8 +8,8 @@ use lib.ListN.{getD}
 use Rattle.units.specs.declared.GuestAddr.{GuestAddr}
 use Rattle.text.specs.Words.{bytes}
 use Rattle.forms.specs.Scanning.{Scan, found, lost, scanOf}
-use Rattle.trace_text.specs.declared.Node.{Node}
-use Rattle.trace_text.specs.declared.Node.the-variants.{None, Number}
+use Rattle.units.specs.declared.Node.{Node}
+use Rattle.units.specs.declared.Node.the-variants.{None, Number}
 use Rattle.trace_text.specs.declared.Op.{Op}
 use Rattle.trace_text.specs.declared.Op.the-variants.{Host, Plug, Unplug, State, UnplugAll, Size}
 use Rattle.trace_text.specs.declared.Line.{Line}

@@ -2,15 +2,10 @@
 // Trace lines: house lines to values. Each line is defined by its text, in specs/Lines.antt.
 use units::GuestAddr;
 use units::HostAddr;
+use units::Node;
 ghost use mathlib.Core.Path.{_≡_};
 ghost use Rattle.trace_text.specs.Lines.{Reads};
 ghost use Rattle.trace_text.specs.Reading.{firstLineOf, onRange, madeOf, kindOf, earlier};
-
-// The node of the first line.
-pub enum Node {
-    None,
-    Number(u16),
-}
 
 // The first line, which makes the device and places it.
 pub struct FirstLine {

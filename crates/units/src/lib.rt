@@ -1,5 +1,5 @@
 // SPDX-License-Identifier: Apache-2.0 AND BSD-3-Clause
-// The numbers of the device: three kinds of address, the sizes, the alignment, rounding, and tests for overflow.
+// The numbers of the device: three kinds of address, the node, the sizes, the alignment, rounding, and tests for overflow.
 ghost use mathlib.Core.Path.{_≡_};
 ghost use Prim.Native.Nat.{_+_, _-_, _*_, _/_, _%_, min};
 ghost use lib.Dec.{leb, eqb};
@@ -13,6 +13,12 @@ pub struct RegionOffset(pub u64);
 
 // An address in the host's memory.
 pub struct HostAddr(pub u64);
+
+// The node that a device belongs to, if one is given.
+pub enum Node {
+    None,
+    Number(u16),
+}
 
 // Boot memory from which on the guest uses large memory blocks.
 const BOOT_MEM_SIZE_FOR_LARGE_BLOCK: u64 = 68719476736;

@@ -1,6 +1,6 @@
 -- `jambcopper::jambcopper_make` meets its contract: 12 where there is no room, else what was made.
 use mathlib.Core.Path.{ap, _∙_}
-use Rattle.making.specs.declared.Node.{Node}
+use Rattle.units.specs.declared.Node.{Node}
 use Rattle.making.specs.Made.{made}
 use Rattle.jambcopper.proofs.Ways.{no-room, made-refused, made-device}
 use borrow.Author.Needs.{needs}

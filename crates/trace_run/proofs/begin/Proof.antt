@@ -7,9 +7,6 @@ use borrow.Author.Needs.{needs}
 use Rattle.trace_run.proofs.begin.Statement.{statement}
 use Rattle.trace_run.proofs.begin.Tie as tie
 
-node-of-requires : tie.Need-node-of-requires
-node-of-requires c κs = search needs
-
 new-requires : tie.Need-new-requires
 new-requires c κs = search needs
 
@@ -23,14 +20,14 @@ enum-known-made-2 : tie.Need-enum-known-made-2
 enum-known-made-2 c = search needs
 
 put-in-place-requires : tie.Need-put-in-place-requires
-put-in-place-requires c κs = (made-new _ _ _ _ _ _ (sym (c .before .before .before .before .before .before .new .ensures .same) ∙ c .before .before .before .before .made2 .given .1) .shape, c .before .before .before .before .before .before .before .before .before .before .before .before .pre)
+put-in-place-requires c κs = (made-new _ _ _ _ _ _ (sym (c .before .before .before .before .before .before .new .ensures .same) ∙ c .before .before .before .before .made2 .given .1) .shape, c .before .before .before .before .before .before .before .before .before .before .before .pre)
 
 same-length : tie.Need-same-length
 same-length c = search needs
 
 returns : tie.Need-returns
 unfolding begunOn
-returns c = rw (← c .before .before .before .before .before .before .before .before .node-of .ensures, ← c .before .before .before .before .before .before .before .new .ensures .same, c .before .before .before .before .before .made .given .1) (printed-comes _ (c .before .before .refuse .ensures))
+returns c = rw (← c .before .before .before .before .before .before .before .new .ensures .same, c .before .before .before .before .before .made .given .1) (printed-comes _ (c .before .before .refuse .ensures))
 
 same-length-2 : tie.Need-same-length-2
 same-length-2 c = search needs
@@ -43,13 +40,12 @@ same-length-4 c = search needs
 
 returns-2 : tie.Need-returns-2
 unfolding begunOn
-returns-2 c = rw (← c .before .before .before .before .before .before .before .before .before .before .before .before .before .before .node-of .ensures, ← c .before .before .before .before .before .before .before .before .before .before .before .before .before .new .ensures .same, c .before .before .before .before .before .before .before .before .before .before .before .made2 .given .1) (c .before .before .before .before .before .before .put-in-place .ensures)
+returns-2 c = rw (← c .before .before .before .before .before .before .before .before .before .before .before .before .before .new .ensures .same, c .before .before .before .before .before .before .before .before .before .before .before .made2 .given .1) (c .before .before .before .before .before .before .put-in-place .ensures)
 
 pub begin-spec : {M : Type 1} → statement M
 begin-spec =
     tie.close
     (tie.spec
-    node-of-requires
     new-requires
     enum-known-made
     refuse-requires
