@@ -1,3 +1,4 @@
+-- SPDX-License-Identifier: Apache-2.0 AND BSD-3-Clause
 -- Where a chain reader goes on: the index after a descriptor, and the second descriptor of a chain.
 use Prim.Native.Nat.{ℕ}
 use mathlib.Core.Bool.{cond}

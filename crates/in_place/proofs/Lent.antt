@@ -1,3 +1,4 @@
+-- SPDX-License-Identifier: Apache-2.0 AND BSD-3-Clause
 -- What the walks of the entries on a lent device share: the record's type, and the machine values of a record and of an answer.
 use mathlib.Core.List.{List}
 use mir.Val.{Val}

@@ -1,3 +1,4 @@
+-- SPDX-License-Identifier: Apache-2.0 AND BSD-3-Clause
 -- What an entry that changes a lent record where it stands gives: the record as it is stored, with the answer.
 use Rattle.record.specs.declared.Device.{Device}
 use Rattle.step.specs.declared.Answer.{Answer}

@@ -1,3 +1,4 @@
+-- SPDX-License-Identifier: Apache-2.0 AND BSD-3-Clause
 -- `chain_reader::index_after` meets its contract: each return is the case of `indexAfter` that the tests led to.
 use borrow.Author.Needs.{needs}
 use Rattle.chain_reader.specs.Reader.{indexAfter}

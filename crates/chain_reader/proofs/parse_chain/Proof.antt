@@ -1,3 +1,4 @@
+-- SPDX-License-Identifier: Apache-2.0 AND BSD-3-Clause
 -- `chain_reader::parse_chain` meets its contract: a walk of its MIR, by hand. The reader that `new` returns is held in a local and passed to `request`. All that the proof knows of either is that it meets its contract.
 -- In a local of a body MIR erases the lifetime of the reader's type, so the value is shown to have the type at `erased`.
 --

@@ -1,3 +1,4 @@
+-- SPDX-License-Identifier: Apache-2.0 AND BSD-3-Clause
 -- `chain_reader::second_link` meets its contract: a walk of its MIR, by hand. The reader that one call returns is held in a local and passed to the next. All that the proof knows of `new`, of `advanced` and of `current` is that each meets its contract.
 -- In a local of a body MIR erases the lifetime of the reader's type, so the value is shown to have the type at `erased`.
 --

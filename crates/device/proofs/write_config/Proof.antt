@@ -1,3 +1,4 @@
+-- SPDX-License-Identifier: Apache-2.0 AND BSD-3-Clause
 -- `device::write_config` meets its contract: 12 and nothing else is refused.
 use mathlib.Core.Path.{refl}
 use borrow.Author.Needs.{needs}

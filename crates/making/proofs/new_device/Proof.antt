@@ -1,3 +1,4 @@
+-- SPDX-License-Identifier: Apache-2.0 AND BSD-3-Clause
 -- `making::new_device` meets its contract.
 use borrow.Author.Needs.{needs}
 use Rattle.making.proofs.new_device.Statement.{statement}

@@ -1,3 +1,4 @@
+-- SPDX-License-Identifier: Apache-2.0 AND BSD-3-Clause
 -- `making::region_of` meets its contract: the rounded capacity fits 64 bits.
 use Prim.Native.Nat.{_*_}
 use mathlib.Core.Path.{_∙_}

@@ -1,3 +1,4 @@
+-- SPDX-License-Identifier: Apache-2.0 AND BSD-3-Clause
 -- `placing::ask_placing` meets its contract.
 use mathlib.Core.Path.{ap, sym, _∙_}
 use Rattle.step.specs.World.{answeredBy}

@@ -1,3 +1,4 @@
+-- SPDX-License-Identifier: Apache-2.0 AND BSD-3-Clause
 -- `placing::place` meets its contract: the refusals 12, 7, 6, 11, then 3, 4, and then the tables are written before the host is asked.
 use mathlib.Core.Path.{_≡_, refl, sym, _∙_}
 use mathlib.Core.Bool.{true}

@@ -1,3 +1,4 @@
+-- SPDX-License-Identifier: Apache-2.0 AND BSD-3-Clause
 -- `placing::range_refusal` meets its contract: 3 before 4.
 use Rattle.step.specs.Step.{rangeRefusal}
 use borrow.Author.Needs.{needs}

@@ -1,3 +1,4 @@
+-- SPDX-License-Identifier: Apache-2.0 AND BSD-3-Clause
 -- `placing::resize` meets its contract.
 use mathlib.Core.Path.{sym, _∙_}
 use Rattle.step.specs.Step.{resizes}

@@ -1,3 +1,4 @@
+-- SPDX-License-Identifier: Apache-2.0 AND BSD-3-Clause
 -- `placing::set_requested_size` meets its contract: the refusals 12, 7, 5, 11 and then 1, and the new requested size before anything is worked out.
 use Prim.Native.Nat.{_*_}
 use mathlib.Core.Path.{_≡_, refl, sym, _∙_}

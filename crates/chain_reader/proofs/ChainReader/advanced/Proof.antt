@@ -1,3 +1,4 @@
+-- SPDX-License-Identifier: Apache-2.0 AND BSD-3-Clause
 -- `chain_reader::ChainReader::advanced` meets its contract: a walk of its MIR, by hand. The reader is taken apart, `index_after` is called on its fields, in their order, and a reader is made anew of the same fields and the index that it returned.
 -- The reader is Copy: what it owns is had twice, one copy is kept whole for the exit, and the other, with the facts of the new index in the place of the old one's, is what the result owns.
 --

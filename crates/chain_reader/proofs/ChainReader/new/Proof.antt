@@ -1,3 +1,4 @@
+-- SPDX-License-Identifier: Apache-2.0 AND BSD-3-Clause
 -- `chain_reader::ChainReader::new` meets its contract: a walk of its MIR, by hand. A reader is made of the slice passed, the two addresses and the index, in the result's local.
 -- A `&[u8]` is Copy, so what it owns is had twice: once for mem at exit, and once inside the result, beside the facts of the other fields.
 --

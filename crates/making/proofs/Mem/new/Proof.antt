@@ -1,3 +1,4 @@
+-- SPDX-License-Identifier: Apache-2.0 AND BSD-3-Clause
 -- `making::Mem::new` meets its contract: 2 before 1, and only then a record.
 use Prim.Native.Nat.{_*_}
 use mathlib.Core.Path.{_≡_, ap}
