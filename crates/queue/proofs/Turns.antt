@@ -22,38 +22,43 @@ use Rattle.rings.specs.declared.Next.the-variants.{Head as HasHead, Empty as Ha
 use Rattle.rings.specs.Rings.{ringsInside, nextHead}
 use Rattle.step.specs.declared.Answered.{Answered}
 use Rattle.step.specs.declared.Answer.the-variants.{Refused}
-use Rattle.step.specs.World.{World, Guest, Request, HostAnswer, Outcome, worldOf, Meets}
+use Rattle.step.specs.World.{World, Guest, Request, HostAnswer, Outcome, worldOf}
+use Rattle.step.specs.Promise.{Lent, lent, Gives}
 use Rattle.step.specs.Step.{step, unless, readyRefusal, pendingRefusal, tablesFit}
 use Rattle.queue.specs.declared.QueueAnswer.{QueueAnswer}
 use Rattle.queue.specs.declared.QueueAnswer.the-variants.{Of}
 use Rattle.queue.specs.declared.Ending.{Ending}
 use Rattle.queue.specs.declared.Taking.{Taking}
-use Rattle.queue.specs.declared.Taking.the-variants.{Walk, Told}
+use Rattle.queue.specs.declared.Taking.the-variants.{Walk, NoHead}
 use Rattle.queue.specs.declared.Turn.{Turn}
-use Rattle.queue.specs.Queue.{QueueOutcome, queueOk, tookHead, endingOf, queueBy, bytesBy, unmoved, aside, about, takingRefusal, nextUnless, nextOf, noneTold, takes, serveNext, standing, takingOf, walks, discarding, canReport, outsideRefusal, outRefusal, answerRefusal, queueRefusal, answers, unlessRefused, hostAnswers, Settled, turned, MeetsTurn}
+use Rattle.queue.specs.Queue.{QueueOutcome, queueOk, tookHead, endingOf, queueBy, bytesBy, unmoved, aside, about, takingRefusal, nextUnless, nextOf, noneTold, takes, serveNext, standing, takingOf, walks, discarding, canReport, outsideRefusal, outRefusal, answerRefusal, queueRefusal, answers, unlessRefused, hostAnswers, Settles, turned, GivesTurn}
 
 clash : {A : Type 0} {t : Bool} → t ≡ true → t ≡ false → A
 clash p q = let z : _≡_ {A = ℕ} 0 1 = cc in absurd (omega arith)
 
 -- ---- how an outcome is met
 -- a call of the device, and what its answer means for the head that it is about
-module _ {o : Outcome} {s : Answered} {t : Turn} {bitmap table table′ bytes : List ℕ} (m : Meets o s bitmap table table′ bytes) where
-  pub about-met : {bytes′ : List ℕ} (head base : ℕ) (before out q : Queue) (e : Ending) → e ≡ endingOf (s .answer) → Settled e head base before out bytes q bytes′ → t ≡ turned (s .device) q (Of (s .answer)) → MeetsTurn (about head base before out o) t bitmap table table′ bytes′
-  about-met head base before out q e ending k is =
+module _ {o : Outcome} {s : Answered} {t : Turn} {before after : Lent} (m : Gives o before after s) where
+  pub about-met : {bytes : List ℕ} (head base : ℕ) (was out q : Queue) (e : Ending) → e ≡ endingOf (s .answer) → Settles e head base was out (after .bytes) q bytes → t ≡ turned (s .device) q (Of (s .answer)) → GivesTurn (about head base was out o) before (lent (after .bitmap) (after .table) bytes) t
+  about-met head base was out q e ending k is =
       let same = ending ∙ ap endingOf (m .answered) in
       record {
         answered = rw is (ap Of (m .answered));
         told = rw is (m .told);
         recorded = rw is (m .recorded);
         queued = rw is (rw same at (k .queued));
-        marked = m .marked;
-        mapped = m .mapped;
-        left = rw (same, m .left) at (k .left);
+        leaves = record { marked = m .leaves .marked; mapped = m .leaves .mapped; left = rw (same, m .leaves .left) at (k .left) };
       }
 
-  pub aside-met : (q : Queue) → t ≡ turned (s .device) q (Of (s .answer)) → MeetsTurn (aside q o) t bitmap table table′ bytes
+  pub aside-met : (q : Queue) → t ≡ turned (s .device) q (Of (s .answer)) → GivesTurn (aside q o) before after t
   aside-met q is =
-      record { answered = rw is (ap Of (m .answered)); told = rw is (m .told); recorded = rw is (m .recorded); queued = rw is; marked = m .marked; mapped = m .mapped; left = m .left }
+      record {
+        answered = rw is (ap Of (m .answered));
+        told = rw is (m .told);
+        recorded = rw is (m .recorded);
+        queued = rw is;
+        leaves = record { marked = m .leaves .marked; mapped = m .leaves .mapped; left = m .leaves .left };
+      }
 
 -- ---- the refusals of the device, which its own call tests again
 module _ (w : World) (q : Queue) (g : Guest) where
@@ -114,16 +119,22 @@ module _ (w : World) (q : Queue) (g : Guest) where
 
 module _ (d : Device) (bitmap table : List ℕ) (q : Queue) (g : Guest) where
   -- a call that changes nothing
-  unchanged : {t : Turn} (told : QueueAnswer) → t ≡ turned d q told → MeetsTurn (unmoved told (worldOf d bitmap table) q (g .mem)) t bitmap table table (g .mem)
+  unchanged : {t : Turn} (told : QueueAnswer) → t ≡ turned d q told → GivesTurn (unmoved told (worldOf d bitmap table) q (g .mem)) (lent bitmap table (g .mem)) (lent bitmap table (g .mem)) t
   unchanged told is =
-      record { answered = rw is; told = rw is; recorded = rw is; queued = rw is; marked = refl; mapped = sym (whole table); left = refl }
+      record {
+        answered = rw is;
+        told = rw is;
+        recorded = rw is;
+        queued = rw is;
+        leaves = record { marked = refl; mapped = sym (whole table); left = refl };
+      }
 
   -- ---- taking the next head
   module _ (x : Taking) (x-is : x ≡ takingOf d q (8 * length bitmap) (length table / 3) (g .mem) (g .base)) where
     taken-as : serveNext (worldOf d bitmap table) q g ≡ walks x (worldOf d bitmap table) q g
     taken-as = by-taking (worldOf d bitmap table) q g ∙ rw (blocks-length bitmap, count table, ← x-is)
 
-    pub told-as : (told : QueueAnswer) → x ≡ Told told → serveNext (worldOf d bitmap table) q g ≡ unmoved told (worldOf d bitmap table) q (g .mem)
+    pub told-as : (told : QueueAnswer) → x ≡ NoHead told → serveNext (worldOf d bitmap table) q g ≡ unmoved told (worldOf d bitmap table) q (g .mem)
     unfolding walks
     told-as told e = taken-as ∙ rw e
 
@@ -132,7 +143,7 @@ module _ (d : Device) (bitmap table : List ℕ) (q : Queue) (g : Guest) where
     unfolding walks
     walk-as head e out out-is = taken-as ∙ rw (e, out-is)
 
-    pub next-none : {t : Turn} (told : QueueAnswer) → x ≡ Told told → t ≡ turned d q told → MeetsTurn (serveNext (worldOf d bitmap table) q g) t bitmap table table (g .mem)
+    pub next-none : {t : Turn} (told : QueueAnswer) → x ≡ NoHead told → t ≡ turned d q told → GivesTurn (serveNext (worldOf d bitmap table) q g) (lent bitmap table (g .mem)) (lent bitmap table (g .mem)) t
     next-none told e is = rw (told-as told e) (unchanged told is)
 
   -- ---- the host's answer
@@ -150,5 +161,5 @@ module _ (d : Device) (bitmap table : List ℕ) (q : Queue) (g : Guest) where
         let o = step (worldOf d bitmap table) (HostAnswer g ok host) in
         answered-as ∙ rw (none, ap (λ (x : Taken). answers x q (g .base) o) e)
 
-    pub answer-refused : {t : Turn} → eqb n 0 ≡ false → t ≡ turned d q (Of (Refused n)) → MeetsTurn (hostAnswers (worldOf d bitmap table) q g ok host) t bitmap table table (g .mem)
+    pub answer-refused : {t : Turn} → eqb n 0 ≡ false → t ≡ turned d q (Of (Refused n)) → GivesTurn (hostAnswers (worldOf d bitmap table) q g ok host) (lent bitmap table (g .mem)) (lent bitmap table (g .mem)) t
     answer-refused some is = rw (refused-as some) (unchanged (Of (Refused n)) is)

@@ -1,12 +1,11 @@
 -- The device on its queue (02, request 1): which head a call takes, what becomes of it by the device's answer, and the host's answer while a head is out.
 use Prim.Native.Nat.{ℕ}
 use mathlib.Core.Path.{_≡_}
-use mathlib.Core.Bool.{Bool, true, false, cond}
+use mathlib.Core.Bool.{Bool, true, false, cond, not}
 use mathlib.Core.List.{List, [], _∷_}
 use lib.Dec.{eqb}
 use lib.ListN.{length, getD}
-use Rattle.bitmap.specs.Blocks.{blocks}
-use Rattle.rows.specs.Rows.{written}
+use Rattle.units.specs.declared.GuestAddr.{GuestAddr}
 use Rattle.record.specs.declared.Device.{Device}
 use Rattle.record.specs.Shape.{shapedOf}
 use Rattle.record.specs.declared.Pending.{Pending}
@@ -22,12 +21,13 @@ use Rattle.step.specs.declared.Answer.the-variants.{Refused, Wants, Sized, Unse
 use Rattle.step.specs.World.{World, Guest, Request, HostAnswer, Outcome}
 use Rattle.step.specs.Answers.{answerWords}
 use Rattle.step.specs.Step.{step, readyRefusal, pendingRefusal, tablesFit}
+use Rattle.step.specs.Promise.{Lent, on, guestIn, Leaves}
 use Rattle.queue.specs.declared.QueueAnswer.{QueueAnswer}
 use Rattle.queue.specs.declared.QueueAnswer.the-variants.{Empty, Of}
 use Rattle.queue.specs.declared.Ending.{Ending}
 use Rattle.queue.specs.declared.Ending.the-variants.{Stays, Out, Used}
 use Rattle.queue.specs.declared.Taking.{Taking}
-use Rattle.queue.specs.declared.Taking.the-variants.{Walk, Told}
+use Rattle.queue.specs.declared.Taking.the-variants.{Walk, NoHead}
 use Rattle.queue.specs.declared.Turn.{Turn}
 
 -- the world, the queue and the guest's bytes afterwards, and what is told: that the ring is empty, or the device's answer
@@ -70,7 +70,7 @@ endingOf (Refused n) = Stays
 endingOf (Wants call) = Out
 endingOf Sized = Stays
 endingOf (Unserved reason) = Used 0
-endingOf (Served resp len) = Used len
+endingOf (Served reply) = Used (reply .used)
 endingOf Done = Stays
 
 -- the queue is the one before the call, or the one with the head out, or the head is given back
@@ -107,7 +107,7 @@ about head base before out o =
 -- ---- taking the next head
 -- 12, the queue's part of it first, 7, 5 and 11
 unfoldable pub takingRefusal : Device → Taken → (blocks rows : ℕ) → ℕ
-takingRefusal d taken blocks rows = cond (queueOk taken (d .pending)) (readyRefusal d blocks rows) 12
+takingRefusal d taken blocks rows = cond (not (queueOk taken (d .pending))) 12 (readyRefusal d blocks rows)
 
 -- then 14, 15, none or a head
 unfoldable pub nextUnless : (n : ℕ) → Next → Next
@@ -135,21 +135,22 @@ serveNext w q g = takes (nextOf w q g) w q g
 -- the same, as code finds it: the head that stands next is looked for first, and where there is one the device's own call gives its refusals (`by-taking`)
 unfoldable pub standing : Next → (n : ℕ) → Taking
 standing (HasHead head) n = Walk head
-standing HasNone n = Told (noneTold (nextUnless n HasNone))
-standing (HasRefused m) n = Told (noneTold (nextUnless n (HasRefused m)))
+standing HasNone n = NoHead (noneTold (nextUnless n HasNone))
+standing (HasRefused m) n = NoHead (noneTold (nextUnless n (HasRefused m)))
 
 unfoldable pub takingOf : Device → Queue → (blocks rows : ℕ) → (mem : List ℕ) (base : ℕ) → Taking
 takingOf d q blocks rows mem base =
-    cond (queueOk (q .taken) (d .pending)) (standing (nextHead mem base q) (readyRefusal d blocks rows)) (Told (Of (Refused 12)))
+    cond (not (queueOk (q .taken) (d .pending))) (NoHead (Of (Refused 12)))
+    (standing (nextHead mem base q) (readyRefusal d blocks rows))
 
 unfoldable pub walks : Taking → World → Queue → Guest → QueueOutcome
 walks (Walk head) w q g = about head (g .base) q (tookHead q head) (step w (Request g (q .descriptors .0) head))
-walks (Told t) w q g = unmoved t w q (g .mem)
+walks (NoHead t) w q g = unmoved t w q (g .mem)
 
 -- ---- the host's answer
 -- the first number that is given, or 0
-abbrev pub firstOf : (n m : ℕ) → ℕ
-firstOf n m = cond (eqb n 0) m n
+abbrev pub firstGiven : (n m : ℕ) → ℕ
+firstGiven n m = cond (eqb n 0) m n
 
 -- a head that is out can be reported: "A ring not wholly inside guest memory is refused as new number 14"; with none out no ring is tested
 unfoldable pub canReport : Taken → (len base : ℕ) → Queue → Bool
@@ -160,11 +161,11 @@ canReport (Head head) len base q = ringsInside len base q
 unfoldable pub outRefusal : Taken → Device → Queue → (blocks rows : ℕ) → Guest → ℕ
 outRefusal Nothing d q blocks rows g = 0
 outRefusal (Head head) d q blocks rows g =
-    firstOf (pendingRefusal d blocks rows) (cond (ringsInside (length (g .mem)) (g .base) q) 0 14)
+    firstGiven (pendingRefusal d blocks rows) (cond (not (ringsInside (length (g .mem)) (g .base) q)) 14 0)
 
 -- before them the queue's part of 12
 unfoldable pub answerRefusal : Device → Queue → (blocks rows : ℕ) → Guest → ℕ
-answerRefusal d q blocks rows g = cond (queueOk (q .taken) (d .pending)) (outRefusal (q .taken) d q blocks rows g) 12
+answerRefusal d q blocks rows g = cond (not (queueOk (q .taken) (d .pending))) 12 (outRefusal (q .taken) d q blocks rows g)
 
 -- the device's answer is about the head that is out, if one is
 unfoldable pub answers : Taken → Queue → (base : ℕ) → Outcome → QueueOutcome
@@ -182,15 +183,16 @@ hostAnswers w q g ok host =
 
 -- the same, as code finds it: where the head can be reported, the device's own call gives its refusals; where it cannot, a host call is pending (`by-refusal`)
 unfoldable pub outsideRefusal : Device → (blocks rows : ℕ) → ℕ
-outsideRefusal d blocks rows = cond (shapedOf d) (cond (tablesFit d blocks rows) 14 11) 12
+outsideRefusal d blocks rows = cond (not (shapedOf d)) 12 (cond (not (tablesFit d blocks rows)) 11 14)
 
 unfoldable pub queueRefusal : Device → Queue → (blocks rows len base : ℕ) → ℕ
 queueRefusal d q blocks rows len base =
-    cond (queueOk (q .taken) (d .pending)) (cond (canReport (q .taken) len base q) 0 (outsideRefusal d blocks rows)) 12
+    cond (not (queueOk (q .taken) (d .pending))) 12
+    (cond (canReport (q .taken) len base q) 0 (outsideRefusal d blocks rows))
 
 -- ---- what code promises
 -- the head went where the ending says
-pub record Settled (e : Ending) (head base : ℕ) (before out : Queue) (mem : List ℕ) (q : Queue) (mem′ : List ℕ) : Type 0 where
+pub record Settles (e : Ending) (head base : ℕ) (before out : Queue) (mem : List ℕ) (q : Queue) (mem′ : List ℕ) : Type 0 where
   pub queued : q ≡ queueBy e before out
   pub left : mem′ ≡ bytesBy e out head base mem
 
@@ -206,12 +208,18 @@ queueAnswerWords (Of a) = answerWords a
 abbrev pub queueNumberOf : QueueAnswer → ℕ
 queueNumberOf t = getD (queueAnswerWords t) 1 0
 
--- what is told, with its words, the record, the queue, and the bitmap, the table and the bytes that are left are those of the outcome
-pub record MeetsTurn (o : QueueOutcome) (s : Turn) (bitmap table table′ bytes : List ℕ) : Type 0 where
+-- an outcome of the device that leaves the same: its answer does not count
+abbrev pub leavesAs : QueueOutcome → Outcome
+leavesAs o = record { world = o .world; answer = Done; bytes = o .bytes }
+
+-- an outcome is given: what is told, with its words, its record, its queue, and what was lent as it leaves it
+pub record GivesTurn (o : QueueOutcome) (before after : Lent) (s : Turn) : Type 0 where
   pub answered : s .answer ≡ o .answer
   pub told : queueAnswerWords (s .answer) ≡ queueAnswerWords (o .answer)
   pub recorded : s .device ≡ o .world .device
   pub queued : s .queue ≡ o .queue
-  pub marked : blocks bitmap ≡ o .world .blocks
-  pub mapped : table′ ≡ written table (o .world .rows)
-  pub left : bytes ≡ o .bytes
+  pub leaves : Leaves (leavesAs o) before after
+
+-- the call on the queue, on what was lent, gives what is said here
+abbrev pub TakesTurn : (World → Queue → Guest → QueueOutcome) → Device → Queue → (base : GuestAddr) → (before after : Lent) → Turn → Type 0
+TakesTurn call d q base before after s = GivesTurn (call (on d before) q (guestIn before (base .0))) before after s

@@ -20,8 +20,10 @@ use units::HostAddr;
 ghost use mathlib.Core.Path.{_≡_};
 ghost use Prim.Native.Nat.{_*_, _/_};
 ghost use lib.ListN.{length};
-ghost use Rattle.step.specs.World.{worldOf, guestOf};
-ghost use Rattle.queue.specs.Queue.{discarding, queueOk, tookHead, gaveBack, endingOf, Settled, turned, nextUnless, noneTold, takingOf, serveNext, canReport, outsideRefusal, queueRefusal, hostAnswers, MeetsTurn};
+ghost use Rattle.step.specs.Promise.{lent};
+ghost use Rattle.queue.specs.Queue.{discarding, queueOk, tookHead, gaveBack, endingOf, Settles, turned};
+ghost use Rattle.queue.specs.Queue.{nextUnless, noneTold, takingOf, canReport, outsideRefusal, queueRefusal};
+ghost use Rattle.queue.specs.Queue.{serveNext, hostAnswers, TakesTurn};
 
 // What a call on the queue tells: that no head is there, or the device's answer.
 pub enum QueueAnswer {
@@ -46,7 +48,7 @@ pub enum Ending {
 // What a call finds before a head is walked: the head, or what it tells where it takes none.
 pub enum Taking {
     Walk(u16),
-    Told(QueueAnswer),
+    NoHead(QueueAnswer),
 }
 
 // Whether a discard is pending.
@@ -114,7 +116,7 @@ pub fn ending_of(answer: Answer) -> Ending
         Answer::Wants(_) => Ending::Out,
         Answer::Sized => Ending::Stays,
         Answer::Unserved(_) => Ending::Used(0),
-        Answer::Served(_, length) => Ending::Used(length),
+        Answer::Served(reply) => Ending::Used(reply.used),
         Answer::Done => Ending::Stays,
     }
 }
@@ -128,7 +130,7 @@ pub fn settle(
     mem: &mut [u8],
     base: GuestAddr,
 ) -> Queue
-    ensures { λ r. ⌜ Settled ending head (base .0) before out (now (mem .entry)) r (now (mem .exit)) ⌝ }
+    ensures { λ r. ⌜ Settles ending head (base .0) before out (now (mem .entry)) r (now (mem .exit)) ⌝ }
 {
     match ending {
         Ending::Stays => before,
@@ -178,12 +180,12 @@ pub fn next_taking(
     let taken = q.taken;
     let pending = d.pending;
     if !queue_ok(taken, pending) {
-        return Taking::Told(QueueAnswer::Of(Answer::Refused(12)));
+        return Taking::NoHead(QueueAnswer::Of(Answer::Refused(12)));
     }
     let next = next_head(mem, base, q);
     let Next::Head(head) = next else {
         let number = ready_refusal(d, bitmap, table);
-        return Taking::Told(none_told(number, next));
+        return Taking::NoHead(none_told(number, next));
     };
     Taking::Walk(head)
 }
@@ -197,10 +199,14 @@ pub fn serve_next(
     mem: &mut [u8],
     base: GuestAddr,
 ) -> Turn
-    ensures { λ r. ⌜ MeetsTurn (serveNext (worldOf d (now (bitmap .entry)) (now (table .entry))) q (guestOf (now (mem .entry)) base)) r (now (bitmap .exit)) (now (table .entry)) (now (table .entry)) (now (mem .exit)) ⌝ }
+    ensures { λ r. ⌜
+        TakesTurn serveNext d q base
+        (lent (now (bitmap .entry)) (now (table .entry)) (now (mem .entry)))
+        (lent (now (bitmap .exit)) (now (table .entry)) (now (mem .exit))) r
+        ⌝ }
 {
     match next_taking(d, q, bitmap.len(), table.len(), &mem[..], base) {
-        Taking::Told(told) => tells(d, q, told),
+        Taking::NoHead(told) => tells(d, q, told),
         Taking::Walk(head) => {
             let s = request(d, bitmap, table, mem, base, q.descriptors, head);
             let answer = s.answer;
@@ -220,8 +226,8 @@ fn can_report(taken: Taken, mem: &[u8], base: GuestAddr, q: Queue) -> bool
     }
 }
 
-// The refusal of a device that waits for the host, 12 or 11, and then 14. `pending_refusal` has both tests: with a second caller it
-// would no longer stand in the device's own call.
+// The refusal of a device that waits for the host, 12 or 11, and then 14. `pending_refusal` has both tests: with a
+// second caller it would no longer stand in the device's own call.
 fn outside_refusal(d: Device, bitmap: usize, table: usize) -> u64
     ensures { λ r. ⌜ r ≡ outsideRefusal d (8 * bitmap) (table / 3) ⌝ }
 {
@@ -234,7 +240,7 @@ fn outside_refusal(d: Device, bitmap: usize, table: usize) -> u64
     14
 }
 
-// The number that the queue refuses a host's answer with, or 0. Where it is 0, the device's own call gives its refusals.
+// The number that the queue refuses a host's answer with. Where it is 0, the device's own call gives its refusals.
 pub fn queue_refusal(
     d: Device,
     q: Queue,
@@ -267,7 +273,11 @@ pub fn host_answer(
     ok: bool,
     host: HostAddr,
 ) -> Turn
-    ensures { λ r. ⌜ MeetsTurn (hostAnswers (worldOf d (now (bitmap .entry)) (now (table .entry))) q (guestOf (now (mem .entry)) base) ok (host .0)) r (now (bitmap .exit)) (now (table .entry)) (now (table .exit)) (now (mem .exit)) ⌝ }
+    ensures { λ r. ⌜
+        TakesTurn (λ w q g. hostAnswers w q g ok (host .0)) d q base
+        (lent (now (bitmap .entry)) (now (table .entry)) (now (mem .entry)))
+        (lent (now (bitmap .exit)) (now (table .exit)) (now (mem .exit))) r
+        ⌝ }
 {
     let number = queue_refusal(d, q, bitmap.len(), table.len(), &mem[..], base);
     if number != 0 {

@@ -8,14 +8,14 @@ use Rattle.units.proofs.Tests.{passed, refused}
 use Rattle.rings.specs.declared.Next.{Next}
 use Rattle.rings.specs.declared.Next.the-variants.{Head as HasHead, Empty as HasNone, Refused as HasRefused}
 use Rattle.rings.proofs.Next.{the-type as next-type}
-use Rattle.queue.specs.declared.Taking.the-variants.{Told}
+use Rattle.queue.specs.declared.Taking.the-variants.{NoHead}
 use Rattle.queue.specs.Queue.{nextUnless, noneTold, standing, takingOf}
 use borrow.Author.Needs.{needs}
 use Rattle.queue.proofs.next_taking.Statement.{statement}
 use Rattle.queue.proofs.next_taking.Tie as tie
 
 -- where no head stands next
-none-stands : (x : Next) → OneOf (1 ∷ 2 ∷ []) (tagOf next-type x) → (n : ℕ) → standing x n ≡ Told (noneTold (nextUnless n x))
+none-stands : (x : Next) → OneOf (1 ∷ 2 ∷ []) (tagOf next-type x) → (n : ℕ) → standing x n ≡ NoHead (noneTold (nextUnless n x))
 unfolding standing
 none-stands (HasHead head) k n = absurd (miss (1 ∷ 2 ∷ []) 0 tt k)
 none-stands HasNone k n = refl
