@@ -23,7 +23,7 @@ use Rattle.record.specs.declared.HostCall.{HostCall}
 use Rattle.record.specs.declared.HostCall.the-variants.{Create, Discard}
 use Rattle.step.specs.declared.Answer.{Answer}
 use Rattle.step.specs.declared.Answer.the-variants.{Refused, Wants, Sized, Unserved, Served, Done}
-use Rattle.step.specs.Answers.{answerWords}
+use Rattle.step.specs.Answers.{answerWords, servedWith}
 use Rattle.step.proofs.Lengths.{Short}
 use Rattle.queue.specs.declared.Ending.the-variants.{Out, Used}
 use Rattle.queue.specs.Queue.{endingOf}
@@ -129,7 +129,7 @@ unfolding endingWords
 ending-question (Create guest size slot) = refl
 ending-question (Discard offset size host) = refl
 
-ending-served : (resp : VirtioMemResp) (t : Bool) → endingWords (answerWords (Served resp (cond t 10 0))) ≡ Used (cond t 10 0)
+ending-served : (resp : VirtioMemResp) (t : Bool) → endingWords (answerWords (servedWith resp (cond t 10 0))) ≡ Used (cond t 10 0)
 unfolding endingWords
 ending-served resp true = refl
 ending-served resp false = refl
@@ -140,5 +140,5 @@ ending-told (Refused n) s = refl
 ending-told (Wants call) s = ending-question call
 ending-told Sized s = refl
 ending-told (Unserved reason) s = refl
-ending-told (Served resp len) s = rw (s .1) (ending-served resp (s .0))
+ending-told (Served reply) s = rw (s .1) (ending-served (reply .response) (s .0))
 ending-told Done s = refl

@@ -1,5 +1,5 @@
 // SPDX-License-Identifier: Apache-2.0 AND BSD-3-Clause
-// The queue as words, and what a call on it tells, for callers that have no enums: what is no encoding of a queue is told apart from one.
+// The queue as words, and what a call on it tells, for callers that have no enums.
 use answer_words::ANSWER_WORDS;
 use answer_words::tell;
 use queue::Ending;
@@ -20,7 +20,7 @@ ghost use Rattle.queue_words.specs.Words.{takenWord, takenOf, queueWords
 // A queue's length in words.
 pub const QUEUE_WORDS: usize = 6;
 
-// What words mean.
+// What words mean: a queue, or no encoding of one.
 pub enum DecodedQueue {
     Is(Queue),
     NoQueue,
