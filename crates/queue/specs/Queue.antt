@@ -1,4 +1,5 @@
--- The device on its queue (02, request 1): which head a call takes, what becomes of it by the device's answer, and the host's answer while a head is out.
+-- SPDX-License-Identifier: Apache-2.0 AND BSD-3-Clause
+-- The device on its queue (R13): which head a call takes, what becomes of it by the device's answer, and the host's answer while a head is out.
 use Prim.Native.Nat.{ℕ}
 use mathlib.Core.Path.{_≡_}
 use mathlib.Core.Bool.{Bool, true, false, cond, not}
@@ -43,7 +44,7 @@ abbrev pub queueWith : Queue → (available used : ℕ) → Taken → Queue
 queueWith q available used taken =
     record { descriptors = q .descriptors; available = q .available; used = q .used; «next_available» = available; «next_used» = used; taken = taken }
 
--- "take the next head": it is out until its request has ended
+-- the head is out until its request has ended (R13.8)
 abbrev pub tookHead : Queue → (head : ℕ) → Queue
 tookHead q head = queueWith q (indexAfter (q .«next_available»)) (q .«next_used») (Head head)
 
@@ -58,13 +59,13 @@ discarding (Create first last) = false
 discarding (Discard first count status) = true
 discarding (DiscardOne block status) = true
 
--- the queue's own part of 12: a head is out only while a discard is pending
+-- R13.11, the queue's own part of 12: a head is out only while a discard is pending
 abbrev pub queueOk : Taken → Pending → Bool
 queueOk Nothing p = true
 queueOk (Head head) p = discarding p
 
 -- ---- what becomes of a head by the device's answer
--- "reported used .. when its request has ended; a refused call takes none"
+-- R13.8, R13.9: it is reported when its request has ended, and a refused call takes none
 abbrev pub endingOf : Answer → Ending
 endingOf (Refused n) = Stays
 endingOf (Wants call) = Out
@@ -79,7 +80,7 @@ queueBy Stays before out = before
 queueBy Out before out = out
 queueBy (Used len) before out = gaveBack out
 
--- "put head and length in the used ring", behind the bytes that the device left
+-- R13.8, R13.13: the element and the index, behind the bytes that the device left
 unfoldable pub bytesBy : Ending → (out : Queue) (head base : ℕ) → List ℕ → List ℕ
 bytesBy Stays out head base mem = mem
 bytesBy Out out head base mem = mem
@@ -105,7 +106,7 @@ about head base before out o =
     }
 
 -- ---- taking the next head
--- 12, the queue's part of it first, 7, 5 and 11
+-- R13.4: 12, the queue's part of it first, 7, 5 and 11
 unfoldable pub takingRefusal : Device → Taken → (blocks rows : ℕ) → ℕ
 takingRefusal d taken blocks rows = cond (not (queueOk taken (d .pending))) 12 (readyRefusal d blocks rows)
 
@@ -123,7 +124,7 @@ noneTold (HasHead head) = Empty
 noneTold HasNone = Empty
 noneTold (HasRefused n) = Of (Refused n)
 
--- "take the next head, walk it"
+-- R13.4, R13.7
 unfoldable pub takes : Next → World → Queue → Guest → QueueOutcome
 takes (HasHead head) w q g = about head (g .base) q (tookHead q head) (step w (Request g (q .descriptors .0) head))
 takes HasNone w q g = unmoved Empty w q (g .mem)
@@ -152,12 +153,12 @@ walks (NoHead t) w q g = unmoved t w q (g .mem)
 abbrev pub firstGiven : (n m : ℕ) → ℕ
 firstGiven n m = cond (eqb n 0) m n
 
--- a head that is out can be reported: "A ring not wholly inside guest memory is refused as new number 14"; with none out no ring is tested
+-- a head that is out can be reported where both rings lie inside (R13.5); with none out no ring is tested
 unfoldable pub canReport : Taken → (len base : ℕ) → Queue → Bool
 canReport Nothing len base q = true
 canReport (Head head) len base q = ringsInside len base q
 
--- while a head is out 12, 8, 11 and then 14; where none is out they are the device's own
+-- R13.10: while a head is out 12, 8, 11 and then 14; where none is out they are the device's own
 unfoldable pub outRefusal : Taken → Device → Queue → (blocks rows : ℕ) → Guest → ℕ
 outRefusal Nothing d q blocks rows g = 0
 outRefusal (Head head) d q blocks rows g =

@@ -1,3 +1,4 @@
+-- SPDX-License-Identifier: Apache-2.0 AND BSD-3-Clause
 -- The endings of a creation's answer: failed, past 2^64 - 1, and made; and what is heard of a creation is the host's answer, with guest memory as it was.
 use Prim.Native.Nat.{ℕ, _+_}
 use mathlib.Core.Path.{_≡_, refl, ap, _∙_}

@@ -1,3 +1,4 @@
+-- SPDX-License-Identifier: Apache-2.0 AND BSD-3-Clause
 -- `queue::can_report` meets its contract: the rings are tested where a head is out.
 use Rattle.queue.specs.Queue.{canReport}
 use borrow.Author.Needs.{needs}

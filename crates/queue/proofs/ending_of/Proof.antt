@@ -1,3 +1,4 @@
+-- SPDX-License-Identifier: Apache-2.0 AND BSD-3-Clause
 -- `queue::ending_of` meets its contract: each answer has its ending.
 use borrow.Author.Needs.{needs}
 use Rattle.queue.proofs.ending_of.Statement.{statement}

@@ -1,3 +1,4 @@
+-- SPDX-License-Identifier: Apache-2.0 AND BSD-3-Clause
 -- `queue::gave_back` meets its contract: the used index is one further, and no head is out.
 use borrow.Author.Needs.{needs}
 use Rattle.queue.proofs.gave_back.Statement.{statement}

@@ -1,3 +1,4 @@
+-- SPDX-License-Identifier: Apache-2.0 AND BSD-3-Clause
 -- `queue::next_taking` meets its contract: 12, no head, or the head that stands next.
 use Prim.Native.Nat.{ℕ}
 use mathlib.Core.List.{[], _∷_}

@@ -1,3 +1,4 @@
+-- SPDX-License-Identifier: Apache-2.0 AND BSD-3-Clause
 -- `queue::none_told` meets its contract: the refusal comes first.
 use borrow.Author.Tests.{eq-eqb, ne-eqb}
 use Rattle.queue.specs.Queue.{nextUnless, noneTold}

@@ -1,3 +1,4 @@
+-- SPDX-License-Identifier: Apache-2.0 AND BSD-3-Clause
 -- `queue::outside_refusal` meets its contract: 12, 11 and then 14.
 use Rattle.units.proofs.Tests.{passed, refused}
 use Rattle.step.specs.Step.{tablesFit}

@@ -1,3 +1,4 @@
+-- SPDX-License-Identifier: Apache-2.0 AND BSD-3-Clause
 -- `queue::queue_refusal` meets its contract: 12, then nothing where the head can be reported, and 14 behind the device's numbers.
 use Rattle.units.proofs.Tests.{passed, refused}
 use Rattle.queue.specs.Queue.{queueRefusal}

@@ -1,3 +1,4 @@
+-- SPDX-License-Identifier: Apache-2.0 AND BSD-3-Clause
 -- `queue::serve_next` meets its contract: no head that is taken, or a head by the device's answer.
 use native.Mathlib.Omega.{arith}
 use Rattle.step.specs.World.{guestOf}

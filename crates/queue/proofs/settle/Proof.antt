@@ -1,3 +1,4 @@
+-- SPDX-License-Identifier: Apache-2.0 AND BSD-3-Clause
 -- `queue::settle` meets its contract: the queue and the used ring are those of the ending.
 use mathlib.Core.Path.{refl}
 use Rattle.queue.specs.Queue.{queueBy, bytesBy}

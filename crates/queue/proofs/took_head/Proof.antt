@@ -1,3 +1,4 @@
+-- SPDX-License-Identifier: Apache-2.0 AND BSD-3-Clause
 -- `queue::took_head` meets its contract: the available index is one further, and the head is out.
 use borrow.Author.Needs.{needs}
 use Rattle.queue.proofs.took_head.Statement.{statement}

@@ -1,3 +1,4 @@
+-- SPDX-License-Identifier: Apache-2.0 AND BSD-3-Clause
 -- `serving::created` meets its contract.
 use mathlib.Core.Path.{refl}
 use borrow.Author.Needs.{needs}

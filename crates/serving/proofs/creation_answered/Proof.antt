@@ -1,3 +1,4 @@
+-- SPDX-License-Identifier: Apache-2.0 AND BSD-3-Clause
 -- `serving::creation_answered` meets its contract: 10 where the host failed, then 9.
 use native.Mathlib.Omega.{arith}
 use Rattle.record.proofs.Laws.{shaped-is, create-is}

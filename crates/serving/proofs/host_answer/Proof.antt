@@ -1,3 +1,4 @@
+-- SPDX-License-Identifier: Apache-2.0 AND BSD-3-Clause
 -- `serving::host_answer` meets its contract: 12, 8 and 11 first, then the answer to what is pending.
 use mathlib.Core.Path.{refl, sym, _∙_}
 use Rattle.step.proofs.Entry.{waits-is}

@@ -1,3 +1,4 @@
+-- SPDX-License-Identifier: Apache-2.0 AND BSD-3-Clause
 -- `serving::one_answered` meets its contract: the block is clear when the search goes on behind it.
 use native.Mathlib.Omega.{arith}
 use Rattle.record.proofs.Laws.{shaped-is, discard-one-is}

@@ -1,3 +1,4 @@
+-- SPDX-License-Identifier: Apache-2.0 AND BSD-3-Clause
 -- `serving::plug` meets its contract: each `return` is a leaf, NACK before the tests of the range.
 use native.Mathlib.Omega.{arith}
 use Rattle.record.proofs.Laws.{shaped-is}

@@ -1,3 +1,4 @@
+-- SPDX-License-Identifier: Apache-2.0 AND BSD-3-Clause
 -- `serving::request` meets its contract: 12, 7, 5 and 11, then the chain's reason, then the request.
 use mathlib.Core.Path.{refl, sym, _∙_}
 use Rattle.step.proofs.Entry.{ready-is}

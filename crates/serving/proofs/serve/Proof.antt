@@ -1,3 +1,4 @@
+-- SPDX-License-Identifier: Apache-2.0 AND BSD-3-Clause
 -- `serving::serve` meets its contract, type by type.
 use mathlib.Core.Path.{refl}
 use Rattle.step.proofs.Giving.{as-given, answers}

@@ -1,3 +1,4 @@
+-- SPDX-License-Identifier: Apache-2.0 AND BSD-3-Clause
 -- `serving::state_type` meets its contract.
 use Rattle.step.specs.Step.{stateType}
 use borrow.Author.Needs.{needs}

@@ -1,3 +1,4 @@
+-- SPDX-License-Identifier: Apache-2.0 AND BSD-3-Clause
 -- `serving::unplug` meets its contract: every ERROR comes before 12, and 12 before the question.
 use native.Mathlib.Omega.{arith}
 use Rattle.serving.proofs.Ways.{size-fits, unplug-errs, unplug-refuses, unplug-asks}

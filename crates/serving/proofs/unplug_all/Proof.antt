@@ -1,3 +1,4 @@
+-- SPDX-License-Identifier: Apache-2.0 AND BSD-3-Clause
 -- `serving::unplug_all` meets its contract: the search goes on from `from`, and where it finds nothing the unplug-all ends.
 use Rattle.serving.proofs.Ways.{block-inside, all-ends, all-goes-on}
 use borrow.Author.Needs.{needs}

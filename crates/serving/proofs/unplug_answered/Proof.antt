@@ -1,3 +1,4 @@
+-- SPDX-License-Identifier: Apache-2.0 AND BSD-3-Clause
 -- `serving::unplug_answered` meets its contract; by the record's shape the unplug is at most the plugged size.
 use Prim.Native.Nat.{_*_}
 use mathlib.Core.Path.{_≡_}

@@ -1,3 +1,4 @@
+-- SPDX-License-Identifier: Apache-2.0 AND BSD-3-Clause
 -- `serving::unplug_one` meets its contract: neither sum is held, since the block lies in the region.
 use Rattle.serving.proofs.Ways.{one-errs, one-asks}
 use borrow.Author.Needs.{needs}
