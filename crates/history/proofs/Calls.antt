@@ -29,9 +29,9 @@ use Rattle.step.specs.World.{World, Guest, Call, Place, SetRequestedSize, Reque
 use Rattle.step.specs.Step.{blockSize, region, usable, plugged, requested, several, regionBlocks, regionRows, deviceOf, newUsable}
 use Rattle.step.specs.Step.{refused, unserved, served, plugs, asksDiscard, unplugs, stops, asksOne, cleared, endsAll, sizes, asksCreate, creates, createFails, placed, coveredBy}
 use Rattle.step.specs.Step.{step, stateResp, serve, request, hostAnswer, place, setRequestedSize}
-use Rattle.history.specs.History.{Event, PlugAck, UnplugAck, Discarded, UnplugAllAck, blockOf}
+use Rattle.history.specs.History.{Event, PlugAck, UnplugAck, Discarded, UnplugAllAck, openOf, blockOf}
 use Rattle.history.specs.History.{ackToType, ackToRequest, ackToHost, acknowledges, discardOf, reports, ifAck, unlessRefused, eventsOf}
-use Rattle.history.specs.Questions.{typeOf, openOf}
+use Rattle.history.specs.Questions.{typeOf}
 use Rattle.history.specs.Refusals.{lentBytes}
 use Rattle.history.proofs.Shaped.{cleared-shaped}
 use Rattle.history.proofs.Cases.{by-cond, Entered, Lies, Located, on-ready, on-unplaced, on-pending, plug-cases, unplug-cases, unplug-all-cases, serve-cases, resized-cases, placing-cases, place-cases, size-cases, read-cases, write-cases}

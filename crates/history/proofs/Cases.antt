@@ -114,6 +114,7 @@ pub record Lies (w : World) (addr count : ℕ) (wanted : Bool) (first offset : �
   pub offset-is : offset ≡ addr - start w
   pub some-blocks : 0 < count
   pub ends : first + count ≤ regionBlocks w
+  pub in-usable : offset + bytesOf (blockSize w) count ≤ usable w
   pub state : allAre (w .blocks) first count (not wanted) ≡ true
 
 pub lies : (w : World) (addr count : ℕ) (wanted : Bool) (first : ℕ) (offset : RegionOffset) (host : HostAddr) → Parts (w .device) → changing w addr count wanted ≡ Legal first offset host
@@ -130,6 +131,7 @@ lies w addr count wanted first offset host s e =
       offset-is = offset-at;
       some-blocks = l .in-range .some;
       ends = le-div-iff-mul-le positive .1 (rw (first-at, add-mul (blocksIn (blockSize w) (offset .0)) count (blockSize w)) (omega (arith, div-mul-le-self (offset .0) (blockSize w), l .in-range .in-usable)));
+      in-usable = l .in-range .in-usable;
       state = l .not-wanted;
     }
 
@@ -228,15 +230,21 @@ module _ (P : Outcome → Type 0) (w : World) (req : VirtioMemReq) (status : ℕ
 
 -- ---- the usable size, placing, the size change, and the config
 module _ (P : Outcome → Type 0) (w : World) where
-  pub resized-cases : P (sizes w)
+  pub resized-ways :
+      (growthOf (region w) (several w) (usable w) (newUsable w) (w .rows) ≡ Settled → P (sizes w))
       → ((i last size : ℕ) → growthOf (region w) (several w) (usable w) (newUsable w) (w .rows) ≡ Asks i last size → P (asksCreate w i last size))
       → P (resized w)
   unfolding resizes
-  resized-cases settled asks = go (growthOf (region w) (several w) (usable w) (newUsable w) (w .rows)) refl
+  resized-ways settled asks = go (growthOf (region w) (several w) (usable w) (newUsable w) (w .rows)) refl
     where
       go : (x : Growth) → growthOf (region w) (several w) (usable w) (newUsable w) (w .rows) ≡ x → P (resizes x w)
-      go Settled e = settled
+      go Settled e = settled e
       go (Asks i last size) e = asks i last size e
+
+  pub resized-cases : P (sizes w)
+      → ((i last size : ℕ) → growthOf (region w) (several w) (usable w) (newUsable w) (w .rows) ≡ Asks i last size → P (asksCreate w i last size))
+      → P (resized w)
+  resized-cases settled asks = resized-ways (λ _. settled) asks
 
   pub placing-cases : P (sizes w)
       → ((i last size : ℕ) → growthOf (region w) (several w) (usable w) (newUsable w) (w .rows) ≡ Asks i last size → P (asksCreate w i last size))

@@ -86,14 +86,14 @@ Asked (Create first last) bs n = true ≡ true
 Asked (Discard first count status) bs n = allAre bs first count true ≡ true
 Asked (DiscardOne block status) bs n = nextSet bs 0 n ≡ At block
 
-pub record Early (w : World) (es : List Event) : Type 0 where
+pub record Unplaced (w : World) (es : List Event) : Type 0 where
   pub none-yet : es ≡ []
   pub not-asked : discarding (w .device .pending) ≡ false
   pub no-size : plugged w ≡ 0
 
 pub record Inv (w : World) (es : List Event) : Type 0 where
   pub told : Told w es
-  pub early : w .device .placed ≡ false → Early w es
+  pub early : w .device .placed ≡ false → Unplaced w es
   pub asked : Asked (w .device .pending) (w .blocks) (regionBlocks w)
 
 pub quiet-asks : (p : Pending) (bs : List Bool) (n : ℕ) → discarding p ≡ false → Asked p bs n
@@ -197,7 +197,7 @@ module _ (w : World) (es : List Event) (h : Inv w es) where
   abbrev pub Same : (at u r : ℕ) (pl : Bool) (p : Pending) (rows : List MapRow) → World
   Same at u r pl p rows = record { device = deviceWith (w .device) (configWith (w .device .config) at u (plugged w) r) pl p; blocks = w .blocks; rows = rows }
 
-  pub still : (at u r : ℕ) (pl : Bool) (p : Pending) (rows : List MapRow) → (pl ≡ false → Early (Same at u r pl p rows) es) → Asked p (w .blocks) (regionBlocks w)
+  pub still : (at u r : ℕ) (pl : Bool) (p : Pending) (rows : List MapRow) → (pl ≡ false → Unplaced (Same at u r pl p rows) es) → Asked p (w .blocks) (regionBlocks w)
       → Inv (Same at u r pl p rows) es
   still at u r pl p rows k q = record { told = record { bits = h .told .bits; count = h .told .count }; early = k; asked = q }
 

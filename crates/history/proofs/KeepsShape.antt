@@ -20,11 +20,10 @@ use Rattle.rows.specs.declared.MapRow.{MapRow}
 use Rattle.step.specs.World.{World, Call, Outcome}
 use Rattle.step.specs.Step.{step, blockSize, region, usable, plugged, requested, several, regionBlocks, cleared}
 use Rattle.history.specs.History.{Event, Story, next}
-use Rattle.history.specs.Reached.{Reached, from-making, by-call, by-restore}
-use Rattle.history.specs.Rules.{InEveryRun, KeepsShape}
+use Rattle.history.specs.Good.{Good}
+use Rattle.history.specs.Rules.{FromEveryGood, KeepsShape}
 use Rattle.record.proofs.Laws.{Parts, parts as shaped-is, whole as shaped-when, less-ok}
 use Rattle.history.proofs.Shaped.{size-whole, size-within, size-ok, reshaped, awaiting, idle-ok, cleared-shaped}
-use Rattle.history.proofs.Restored.{shaped-restored}
 use Rattle.history.proofs.Calls.{Endings, each-call}
 
 -- ---- the sizes stay whole blocks, at most the region
@@ -125,14 +124,11 @@ module _ (w : World) (s : Parts (w .device)) where
   pub step-shaped : (c : Call) → Parts (step w c .world .device)
   step-shaped c = each-call w StaysShaped stays-shaped c
 
--- ---- in every run
-pub is-shaped : (s : Story) → Reached s → Parts (s .world .device)
-unfolding next
-is-shaped s (from-making {d} fresh) = shaped-is d (fresh .shaped)
-is-shaped s (by-call {s = before} r c) = step-shaped (before .world) (is-shaped before r) c
-is-shaped s (by-restore {s = before} {requested} {plugs} r l) = shaped-restored (before .world) requested (is-shaped before r) plugs l
+-- ---- in every good story
+pub is-shaped : (s : Story) → Good s → Parts (s .world .device)
+is-shaped s g = shaped-is _ (g .shaped)
 
 -- the record keeps its shape
-pub keeps-shape : InEveryRun KeepsShape
+pub keeps-shape : FromEveryGood KeepsShape
 unfolding next
-keeps-shape s r c = shaped-when _ (step-shaped (s .world) (is-shaped s r) c)
+keeps-shape s g c = shaped-when _ (step-shaped (s .world) (is-shaped s g) c)

@@ -5,6 +5,11 @@ pub mod Restored
 pub mod Observer
 pub mod Calls
 pub mod KeepsShape
+pub mod Keeps
+pub mod Due
+pub mod Inside
+pub mod Memory
+pub mod Good
 pub mod Demand3
 pub mod Sizes
 pub mod SizeChange

@@ -18,7 +18,7 @@ use Rattle.record.specs.Changes.{requestedTo}
 use Rattle.step.specs.World.{World, Guest, Call, Place, SetRequestedSize, Request, HostAnswer, ReadConfig, WriteConfig, Outcome}
 use Rattle.step.specs.Step.{blockSize, deviceOf, cleared, placed, coveredBy, step, request, hostAnswer}
 use Rattle.history.specs.History.{NoRequest, UnpluggingAll, openedByType, openedByRequest, goesOn, openedBy, askedBy, openAfter}
-unfoldable pub use Rattle.history.specs.Questions.{openOf}
+unfoldable pub use Rattle.history.specs.History.{openOf}
 use Rattle.record.proofs.Laws.{Parts}
 use Rattle.history.proofs.Shaped.{block-is, cleared-shaped, clash}
 use Rattle.history.proofs.Cases.{by-cond, Entered, on-ready, on-unplaced, on-pending, plug-cases, unplug-cases, unplug-all-cases, serve-cases, resized-cases, placing-cases, place-cases, size-cases, read-cases, write-cases}

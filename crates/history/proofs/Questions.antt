@@ -19,12 +19,11 @@ use Rattle.step.specs.declared.Answer.{Answer}
 use Rattle.step.specs.declared.Answer.the-variants.{Wants}
 use Rattle.step.specs.World.{World, Call, Outcome}
 use Rattle.step.specs.Step.{blockSize, region, start, several}
-use Rattle.history.specs.History.{Event}
-use Rattle.history.specs.Rules.{InEveryRun, FromEveryWorld, DiscardsNothing, SizeChangeDiscardsNothing, asks}
-use Rattle.history.specs.Questions.{IsDiscard, creationDue, IsCreation, WaitsFor, AsksForPending, isUnplug, isUnplugAll, mayDiscard, openOf, OnlyUnplugsDiscard, OnlyOpenUnplugsDiscard, OthersDiscardNothing}
+use Rattle.history.specs.History.{Event, openOf}
+use Rattle.history.specs.Rules.{FromEveryGood, FromEveryWorld, DiscardsNothing, SizeChangeDiscardsNothing, asks}
+use Rattle.history.specs.Questions.{IsDiscard, creationDue, IsCreation, WaitsFor, AsksForPending, isUnplug, isUnplugAll, mayDiscard, OnlyUnplugsDiscard, OnlyOpenUnplugsDiscard, OthersDiscardNothing}
 use Rattle.history.proofs.Shaped.{clash}
 use Rattle.history.proofs.Calls.{Endings, each-call}
-use Rattle.history.proofs.Demand3.{open-is}
 
 -- ---- the questions
 -- an answer that is no question
@@ -111,8 +110,8 @@ asks-for-pending w c = each-call w (IsQuestion w) (question w) c .is-pending
 pub only-unplugs-discard : FromEveryWorld OnlyUnplugsDiscard
 only-unplugs-discard w c = each-call w (IsQuestion w) (question w) c .by-unplug
 
-pub only-open-unplugs-discard : InEveryRun OnlyOpenUnplugsDiscard
-only-open-unplugs-discard s r c = rw (open-is s r) at (only-unplugs-discard (s .world) c)
+pub only-open-unplugs-discard : FromEveryGood OnlyOpenUnplugsDiscard
+only-open-unplugs-discard s g c = rw (g .opened) at (only-unplugs-discard (s .world) c)
 
 -- ---- the calls that discard nothing
 never : (w : World) (c : Call) → mayDiscard (openOf (w .device .pending)) c ≡ false → DiscardsNothing w c

@@ -11,12 +11,12 @@ use Rattle.step.specs.declared.Answer.the-variants.{Refused, Wants, Sized, Unse
 use Rattle.step.specs.World.{World, Call, Outcome}
 use Rattle.step.specs.Step.{blockSize, usable, plugged, requested, regionBlocks}
 use Rattle.history.specs.History.{Event}
-use Rattle.history.specs.Rules.{InEveryRun, FromEveryWorld, Never12, DiscardIsCounted, UsableNeverShrinks, isSizeChange, OnlySizeChangeMovesRequested, PlugWithinRequested}
+use Rattle.history.specs.Rules.{FromEveryGood, FromEveryWorld, Never12, DiscardIsCounted, UsableNeverShrinks, isSizeChange, OnlySizeChangeMovesRequested, PlugWithinRequested}
 use Rattle.record.proofs.Laws.{Parts, whole as shaped-when}
 use Rattle.history.proofs.Shaped.{clash}
 use Rattle.history.proofs.Invariant.{Asked, Inv, used-unplugged, used-one}
 use Rattle.history.proofs.Calls.{Endings, each-call}
-use Rattle.history.proofs.Demand3.{invariant}
+use Rattle.history.proofs.Good.{invariant}
 use Rattle.history.proofs.KeepsShape.{is-shaped}
 
 -- ---- 12 never appears
@@ -69,12 +69,12 @@ module _ (w : World) (s : Parts (w .device)) (es : List Event) (h : Inv w es) wh
         place-asks-whole = λ a _. refl;
       }
 
-pub never-12 : InEveryRun Never12
+pub never-12 : FromEveryGood Never12
 unfolding is12
 never-12 s r c e = clash (ap is12 e) (each-call (s .world) Not12 (not-12 (s .world) (is-shaped s r) (s .events) (invariant s r)) c)
 
 -- ---- the block that an unplug-all waits for is counted
-pub discard-is-counted : InEveryRun DiscardIsCounted
+pub discard-is-counted : FromEveryGood DiscardIsCounted
 unfolding Asked
 discard-is-counted s r c block status waits =
     let w = s .world in

@@ -4,35 +4,26 @@ use mathlib.Core.Path.{_≡_, refl, _∙_, sym}
 use mathlib.Core.Bool.{Bool, true, false}
 use mathlib.Core.List.{List, []}
 use native.Mathlib.Omega.{arith}
-use borrow.Author.Tests.{le-leb, lt-ltb}
+use borrow.Author.Tests.{le-leb}
 use Rattle.bitmap.specs.Blocks.{allAre, fill, nextSet}
 use Rattle.bitmap.specs.declared.Found.the-variants.{At, Nothing as NoneSet}
-use Rattle.bitmap.proofs.Laws.{next-at, next-nothing}
+use Rattle.bitmap.proofs.Laws.{next-nothing}
 use Rattle.step.specs.World.{World, Call, Outcome}
 use Rattle.step.specs.Step.{plugged, regionBlocks}
 use Rattle.history.specs.History.{Event, PlugAck, UnplugAck, Discarded, UnplugAllAck, next}
 use Rattle.history.specs.Reached.{marks, counts, could, marked, counted, allCould}
-use Rattle.history.specs.Rules.{InEveryRun, Whole, isPlace, WholeOrNotAtAll}
+use Rattle.history.specs.Rules.{FromEveryGood, Whole, isPlace, WholeOrNotAtAll}
 use Rattle.history.proofs.Shaped.{clash}
 use Rattle.history.proofs.Invariant.{Inv, Asked, goes-on}
 use Rattle.history.proofs.Calls.{Endings, each-call}
-use Rattle.history.proofs.Demand3.{invariant, open-is, discard-ends}
+use Rattle.history.proofs.Keeps.{discard-ends}
+use Rattle.history.proofs.Due.{could-discard, could-unplug}
+use Rattle.history.proofs.Good.{invariant}
 
 -- ---- what each event finds
-pub could-discard : (n : ℕ) (bs : List Bool) (j : ℕ) → nextSet bs 0 n ≡ At j → could (Discarded j) bs n ≡ true
-unfolding could
-could-discard n bs j e =
-    let lowest = next-at true bs 0 n j e in
-    let z : j - 0 ≡ j = omega arith in
-    rw (lt-ltb j n (lowest .before-end), lowest .found) (rw z at (lowest .none-below))
-
 could-plug : (n : ℕ) (bs : List Bool) (f c : ℕ) → f + c ≤ n → allAre bs f c false ≡ true → could (PlugAck f c) bs n ≡ true
 unfolding could
 could-plug n bs f c p q = rw (le-leb (f + c) n p) q
-
-pub could-unplug : (n : ℕ) (bs : List Bool) (f c : ℕ) → f + c ≤ n → allAre bs f c true ≡ true → could (UnplugAck f c) bs n ≡ true
-unfolding could
-could-unplug n bs f c p q = rw (le-leb (f + c) n p) q
 
 could-end : (n : ℕ) (bs : List Bool) → nextSet bs 0 n ≡ NoneSet → could UnplugAllAck bs n ≡ true
 unfolding could
@@ -91,6 +82,6 @@ module _ (w : World) (es : List Event) (h : Inv w es) where
         place-asks-whole = λ a _ p. clash refl p;
       }
 
-pub whole-or-not-at-all : InEveryRun WholeOrNotAtAll
+pub whole-or-not-at-all : FromEveryGood WholeOrNotAtAll
 unfolding next
-whole-or-not-at-all s r c = rw (open-is s r) at (each-call (s .world) (IsWhole (s .world)) (whole (s .world) (s .events) (invariant s r)) c)
+whole-or-not-at-all s g c = rw (g .opened) at (each-call (s .world) (IsWhole (s .world)) (whole (s .world) (s .events) (invariant s g)) c)

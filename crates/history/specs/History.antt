@@ -13,7 +13,8 @@ use Rattle.chain.specs.declared.Parsed.{Parsed}
 use Rattle.chain.specs.declared.Parsed.the-variants.{Request as Got, Bad}
 use Rattle.chain.specs.Chain.{parsed}
 use Rattle.record.specs.declared.Device.{Device}
-use Rattle.record.specs.declared.Pending.the-variants.{Nothing}
+use Rattle.record.specs.declared.Pending.{Pending}
+use Rattle.record.specs.declared.Pending.the-variants.{Nothing, Create as Creating, Discard as Discarding, DiscardOne}
 use Rattle.record.specs.declared.HostCall.{HostCall}
 use Rattle.record.specs.declared.HostCall.the-variants.{Create, Discard}
 use Rattle.record.specs.Shape.{shapedOf}
@@ -40,6 +41,13 @@ pub data Open : Type 0 where
   Unplugging : (first count : ℕ) → Open
   -- an unplug-all, and the block that the host was asked for last
   UnpluggingAll : (block : ℕ) → Open
+
+-- what is open, as the record has it pending
+unfoldable pub openOf : Pending → Open
+openOf Nothing = NoRequest
+openOf (Creating first last) = NoRequest
+openOf (Discarding first count status) = Unplugging first count
+openOf (DiscardOne block status) = UnpluggingAll block
 
 -- what an ACK to a request acknowledges at once; "Types: plug 0, unplug 1, unplug-all 2, state 3"
 unfoldable pub ackToType : World → VirtioMemReq → List Event

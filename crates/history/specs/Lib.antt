@@ -1,5 +1,6 @@
 pub mod History
 pub mod Reached
+pub mod Good
 pub mod Rules
 pub mod Questions
 pub mod Refusals

@@ -26,7 +26,7 @@ use Rattle.step.specs.declared.Answer.{Answer}
 use Rattle.step.specs.declared.Answer.the-variants.{Wants}
 use Rattle.step.specs.World.{World, Call, Place, SetRequestedSize, Request, HostAnswer, ReadConfig, WriteConfig, Outcome}
 use Rattle.step.specs.Step.{step, blockSize, region, usable, start, several, newUsable}
-use Rattle.history.specs.History.{Open, NoRequest, Unplugging, UnpluggingAll, Story}
+use Rattle.history.specs.History.{Open, NoRequest, Unplugging, UnpluggingAll, openOf, Story}
 use Rattle.history.specs.Rules.{DiscardsNothing}
 
 -- ---- what is asked for is what is pending
@@ -84,17 +84,10 @@ mayDiscard o (WriteConfig offset buffer) = false
 abbrev pub DiscardsOnlyBy : Open → Call → Answer → Type 0
 DiscardsOnlyBy o c a = (offset : RegionOffset) (size : ℕ) (host : HostAddr) → a ≡ Wants (DiscardCall offset size host) → mayDiscard o c ≡ true
 
--- what is open, as the record has it pending
-unfoldable pub openOf : Pending → Open
-openOf Nothing = NoRequest
-openOf (Create first last) = NoRequest
-openOf (Discard first count status) = Unplugging first count
-openOf (DiscardOne block status) = UnpluggingAll block
-
 abbrev pub OnlyUnplugsDiscard : World → Call → Outcome → Type 0
 OnlyUnplugsDiscard w c o = DiscardsOnlyBy (openOf (w .device .pending)) c (o .answer)
 
--- and in every run, as an observer of the calls and answers holds it open
+-- and in every good story, as an observer of the calls and answers holds it open
 abbrev pub OnlyOpenUnplugsDiscard : Story → Call → Type 0
 OnlyOpenUnplugsDiscard s c = DiscardsOnlyBy (s .«open») c (step (s .world) c .answer)
 

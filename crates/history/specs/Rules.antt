@@ -1,4 +1,4 @@
--- The rule of the requested size, sentence by sentence: each is what holds of every call c, at every point s of every run or, where no run is needed, from every world w with the outcome o.
+-- The rule of the requested size, sentence by sentence: each is what holds of every call c, in every good story s and so at every point of every run or, where no run is needed, from every world w with the outcome o.
 use Prim.Native.Nat.{ℕ, _+_, _*_, _≤_, _<_}
 use mathlib.Core.Path.{_≡_}
 use mathlib.Core.Bool.{Bool, true, false, cond}
@@ -17,10 +17,15 @@ use Rattle.step.specs.declared.Answer.{Answer}
 use Rattle.step.specs.declared.Answer.the-variants.{Refused, Wants, Sized, Unserved, Served, Done}
 use Rattle.step.specs.World.{World, Call, Place, SetRequestedSize, Request, HostAnswer, ReadConfig, WriteConfig, Outcome}
 use Rattle.step.specs.Step.{step, blockSize, usable, plugged, requested, newUsable, regionBlocks, Untouched}
-use Rattle.history.specs.History.{Event, UnplugAck, Discarded, eventsOf, Story, next, after}
-use Rattle.history.specs.Reached.{marked, counted, could, allCould, Reached}
+use Rattle.history.specs.History.{Event, eventsOf, Story, next, after}
+use Rattle.history.specs.Reached.{marked, counted, allCould, Reached}
+use Rattle.history.specs.Good.{due, Good}
 
--- of every point that a run reaches, and of any call there
+-- of any call in any good story
+abbrev pub FromEveryGood : (Story → Call → Type 0) → Type 0
+FromEveryGood P = (s : Story) → Good s → (c : Call) → P s c
+
+-- so of every point that a run reaches, and of any call there
 abbrev pub InEveryRun : (Story → Call → Type 0) → Type 0
 InEveryRun P = (s : Story) → Reached s → (c : Call) → P s c
 
@@ -148,13 +153,6 @@ EachAskedAnswered = (s : Story) (cs : List Call)
 -- a pending call stays as it is but where a question is asked or an answer is taken
 abbrev pub PendingStays : World → Call → Outcome → Type 0
 PendingStays w c o = asks (o .answer) ≡ 0 → takes c (o .answer) ≡ 0 → o .world .device .pending ≡ w .device .pending
-
--- what is asked for is due: the blocks of an unplug are all plugged, the block of an unplug-all is the lowest that is plugged, and the first row of a creation has no mapping; so what the host has done is not asked for again
-unfoldable pub due : Pending → List Bool → List MapRow → (n : ℕ) → Bool
-due Nothing bs rows n = true
-due (Create first last) bs rows n = eqb (rowAt rows first .mapped) 0
-due (Discard first count status) bs rows n = could (UnplugAck first count) bs n
-due (DiscardOne block status) bs rows n = could (Discarded block) bs n
 
 abbrev pub AsksWhatIsDue : Story → Call → Type 0
 AsksWhatIsDue s c = due (s .world .device .pending) (s .world .blocks) (s .world .rows) (regionBlocks (s .world)) ≡ true
