@@ -1,8 +1,8 @@
 -- SPDX-License-Identifier: Apache-2.0 AND BSD-3-Clause
 -- Every response and every config that the device gives is read back by the driver: by one walk over `step`, of what a response leaves.
-use Prim.Native.Nat.{ℕ, _+_, _-_, _*_, _%_, _≤_, _<_, _^_}
+use Prim.Native.Nat.{ℕ, _+_, _-_, _*_, _≤_, _<_, _^_}
 use mathlib.Core.Path.{_≡_, refl, sym, ap, _∙_}
-use mathlib.Core.Bool.{Bool, true, false, cond, not, _&&_, _||_}
+use mathlib.Core.Bool.{Bool, true, false, cond, not}
 use mathlib.Core.List.{List, []}
 use native.Mathlib.Omega.{arith}
 use lib.Dec.{ltb, eqb}
@@ -40,7 +40,7 @@ use Rattle.step.specs.declared.Answer.the-variants.{Refused, Wants, Sized, Unse
 use Rattle.step.specs.declared.Reply.{Reply}
 use Rattle.step.specs.Answers.{servedWith}
 use Rattle.step.specs.World.{World, Guest, Call, Place, SetRequestedSize, Request, HostAnswer, ReadConfig, WriteConfig, Outcome}
-use Rattle.step.specs.Step.{blockSize, region, plugged, requested, several, regionRows, coveredBy, ack, nack, error, served, stateType, unless, plugAs, plug, unplugAs, oneAs, nextAs, serve, request, resizes, placing, place, setRequestedSize, hostAnswer, readConfig, writeConfig, step}
+use Rattle.step.specs.Step.{blockSize, region, plugged, requested, several, coveredBy, ack, nack, error, served, stateType, unless, plugAs, plug, unplugAs, oneAs, nextAs, serve, request, resizes, placing, place, setRequestedSize, hostAnswer, readConfig, writeConfig, step}
 use Rattle.driver.specs.declared.GotConfig.{GotConfig}
 use Rattle.driver.specs.declared.GotConfig.the-variants.{Config}
 use Rattle.driver.specs.declared.Proposal.the-variants.{Plug, Refused as NoPlug}

@@ -2,7 +2,7 @@
 -- Where planning and plugging ends, and in how many plugs: each fills a run of free blocks, or spends the requested size.
 use Prim.Native.Nat.{ℕ, zero, suc, _+_, _-_, _*_, _/_, _%_, _≤_, _<_, min}
 use mathlib.Core.Path.{_≡_, refl, ap, _∙_}
-use mathlib.Core.Bool.{Bool, true, false, not, cond}
+use mathlib.Core.Bool.{Bool, true, false, cond}
 use mathlib.Core.List.{List, [], _∷_}
 use mathlib.Core.Logic.{_⊎_, inl, inr, ⊎-elim}
 use native.Mathlib.Nat.{add-mul, mul-div-cancel, div-add-mod', mul-le-mul-right, mul-mod-left, zero-mod, le-div-iff-mul-le}

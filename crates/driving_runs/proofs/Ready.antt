@@ -12,7 +12,7 @@ use Rattle.bitmap.proofs.Laws.{ones-split, ones-none}
 use Rattle.rows.specs.Rows.{rowAt}
 use Rattle.record.proofs.Laws.{Shaped as Facts, whole as shaped-when}
 use Rattle.step.specs.World.{World}
-use Rattle.step.specs.Step.{blockSize, region, usable, plugged, several, regionBlocks}
+use Rattle.step.specs.Step.{blockSize, region, usable, several, regionBlocks}
 use Rattle.driving.specs.Sound.{SoundRows, Ready, usableBlocks, pluggedBlocks}
 use Rattle.history.specs.History.{Story}
 use Rattle.history.specs.Reached.{Reached}

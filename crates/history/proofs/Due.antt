@@ -1,12 +1,12 @@
 -- What is asked for is due: the row of a creation has no mapping, and what an unplug and an unplug-all ask for is plugged.
 use Prim.Native.Nat.{ℕ, _+_, _-_, _≤_, _<_}
-use mathlib.Core.Path.{_≡_, refl, ap, _∙_, sym}
+use mathlib.Core.Path.{_≡_, refl, ap, _∙_}
 use mathlib.Core.Bool.{Bool, true, false}
 use mathlib.Core.List.{List}
 use native.Mathlib.Omega.{arith}
 use lib.Dec.{leb, ltb, eqb}
 use lib.ListN.{length}
-use borrow.Author.Tests.{ltb-true, ltb-false, le-leb, lt-ltb, eq-eqb, eqb-true, eqb-false}
+use borrow.Author.Tests.{ltb-true, ltb-false, le-leb, lt-ltb, eq-eqb}
 use Rattle.units.specs.Numbers.{mapRegions}
 use Rattle.units.proofs.Tests.{by-test, and-left, and-right}
 use Rattle.bitmap.specs.Blocks.{blockAt, allAre, nextSet}

@@ -1,8 +1,8 @@
 -- Every run is good: a newly made device is, a restored one is, and every call keeps it.
-use Prim.Native.Nat.{ℕ, _+_, _*_, _≤_, _<_}
-use mathlib.Core.Path.{_≡_, refl, ap, _∙_}
-use mathlib.Core.Bool.{Bool, true, false}
-use mathlib.Core.List.{List, [], _∷_, _++_}
+use Prim.Native.Nat.{ℕ, _*_, _≤_, _<_}
+use mathlib.Core.Path.{_≡_, refl}
+use mathlib.Core.Bool.{true, false}
+use mathlib.Core.List.{List}
 use native.Mathlib.Omega.{arith}
 use lib.Dec.{leb}
 use lib.ListN.{length}
@@ -14,10 +14,10 @@ use Rattle.record.specs.declared.Pending.{Pending}
 use Rattle.record.specs.declared.Pending.the-variants.{Nothing, Create, Discard, DiscardOne}
 use Rattle.record.proofs.Laws.{Parts, parts as shaped-is, whole as shaped-when}
 use Rattle.step.specs.World.{World, Call}
-use Rattle.step.specs.Step.{blockSize, usable, plugged, regionBlocks, regionRows, tablesFit}
-use Rattle.history.specs.History.{Event, Open, NoRequest, Unplugging, UnpluggingAll, openOf, Story, next, Fresh, begun}
-use Rattle.history.specs.Reached.{Restores, restored, afterRestore, Reached, from-making, by-call, by-restore}
-use Rattle.history.specs.Good.{due, InMemory, Early, AllInside, TablesFit, Good}
+use Rattle.step.specs.Step.{blockSize, usable, regionBlocks, regionRows, tablesFit}
+use Rattle.history.specs.History.{Event, NoRequest, openOf, Story, next, Fresh, begun}
+use Rattle.history.specs.Reached.{Restores, restored, Reached, from-making, by-call, by-restore}
+use Rattle.history.specs.Good.{InMemory, AllInside, TablesFit, Good}
 use Rattle.history.specs.Rules.{FromEveryGood, InEveryRun}
 use Rattle.history.proofs.Shaped.{clash, block-is}
 use Rattle.history.proofs.Invariant.{discarding, Inv}

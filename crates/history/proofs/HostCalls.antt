@@ -1,7 +1,7 @@
 -- No host call is asked twice or left unanswered: questions and the answers taken balance, and what is asked for is due.
 use Prim.Native.Nat.{ℕ, _+_}
 use mathlib.Core.Path.{_≡_, refl}
-use mathlib.Core.Bool.{Bool, true, false}
+use mathlib.Core.Bool.{true}
 use mathlib.Core.List.{List, [], _∷_}
 use native.Mathlib.Omega.{arith}
 use borrow.Author.Tests.{ne-eqb}
@@ -10,7 +10,7 @@ use Rattle.record.specs.declared.Pending.the-variants.{Nothing, Create, Discard
 use Rattle.record.specs.Shape.{isIdle}
 use Rattle.step.specs.declared.Answer.the-variants.{Refused}
 use Rattle.step.specs.World.{World, Call, Place, SetRequestedSize, Request, HostAnswer, ReadConfig, WriteConfig, Outcome}
-use Rattle.history.specs.History.{Event, Story, next, after}
+use Rattle.history.specs.History.{Event, next, after}
 use Rattle.history.specs.Rules.{FromEveryGood, FromEveryWorld, asks, taken, takes, waits, askedIn, takenIn, EachAskedAnswered, PendingStays, AsksWhatIsDue}
 use Rattle.history.proofs.Shaped.{clash, idle-nothing}
 use Rattle.history.proofs.Calls.{Endings, each-call}

@@ -1,6 +1,6 @@
 -- Every call keeps the two tables of a placed device as long as placing tested, and every plugged block inside the usable size.
-use Prim.Native.Nat.{ℕ, _+_, _-_, _*_, max, _≤_, _<_}
-use mathlib.Core.Path.{_≡_, refl, ap, sym, _∙_}
+use Prim.Native.Nat.{ℕ, _+_, _-_, _*_, _≤_, _<_}
+use mathlib.Core.Path.{_≡_, sym, _∙_}
 use mathlib.Core.Bool.{Bool, true, false}
 use mathlib.Core.List.{List}
 use native.Mathlib.Omega.{arith}
@@ -8,7 +8,6 @@ use native.Mathlib.Nat.{add-mul, div-mul-le-self, mul-le-mul-right}
 use lib.Dec.{leb, ltb}
 use lib.ListN.{length}
 use borrow.Author.Tests.{leb-true, leb-false, ltb-true, ltb-false}
-use Rattle.units.specs.Numbers.{bytesOf}
 use Rattle.units.proofs.Tests.{by-test}
 use Rattle.bitmap.specs.Blocks.{blockAt, fill}
 use Rattle.bitmap.proofs.Laws.{fill-length, at-inside, at-before, at-after, all-clear-at, all-filled}

@@ -1,12 +1,12 @@
 -- Every call keeps that the host has memory for the whole usable size.
 use Prim.Native.Nat.{ℕ, _+_, _-_, _*_, _≤_, _<_}
 use mathlib.Core.Path.{_≡_, refl, ap}
-use mathlib.Core.Bool.{Bool, true, false, cond}
+use mathlib.Core.Bool.{Bool, true, false}
 use mathlib.Core.List.{List, []}
 use native.Mathlib.Omega.{arith}
 use lib.Dec.{leb, ltb}
 use lib.ListN.{length}
-use borrow.Author.Tests.{leb-true, leb-false, ltb-true, ltb-false}
+use borrow.Author.Tests.{leb-true, leb-false, ltb-false}
 use Rattle.units.specs.Numbers.{top, mapRegion, mapRegions}
 use Rattle.units.proofs.Tests.{by-test}
 use Rattle.wire.specs.declared.VirtioMemReq.{VirtioMemReq}
@@ -23,7 +23,6 @@ use Rattle.record.specs.Changes.{requestedTo}
 use Rattle.record.proofs.Laws.{Parts, RowsInside, whole as shaped-when, create-is}
 use Rattle.resize.specs.declared.Growth.the-variants.{Asks, Settled}
 use Rattle.resize.specs.Resize.{growthOf}
-use Rattle.resize.proofs.Laws.{asking}
 use Rattle.step.specs.World.{World, Guest, Call, Place, SetRequestedSize, Request, HostAnswer, ReadConfig, WriteConfig, Outcome}
 use Rattle.step.specs.Step.{region, several, usable, newUsable, regionRows, deviceOf, sizes, asksCreate, creates, coveredBy, cleared, placed, serve, request, placing, hostAnswer, step}
 use Rattle.step.proofs.Mapped.{MappedBelow, settled-maps, creation-maps}
@@ -69,15 +68,6 @@ asks-memory w i last size m grows =
       single = m .single;
       asked = λ j end e s. let first : i ≡ j = cc in let to : last ≡ end = cc in (size, rw (← first, ← to) (grows s));
     }
-
--- it begins at the end of the usable region or past it
-pub asks-outside : (w : World) (i last size : ℕ) → InMemory w → 0 < regionRows w → growthOf (region w) (several w) (usable w) (newUsable w) (w .rows) ≡ Asks i last size → usable w ≤ i * mapRegion
-asks-outside w i last size m rows grows =
-    let a = asking (region w) (several w) (usable w) (newUsable w) (w .rows) i last size grows in
-    let some : 0 < mapRegions (region w) true = rw (a .regions) at rows in
-    let ends = a .ends in
-    let to = a .search .to in
-    by-test (ltb (i * mapRegion) (usable w)) (λ t. absurd (m .below i (ltb-true _ _ t) (rw (a .regions) (omega arith)) (a .search .unmapped))) (λ t. ltb-false _ _ t)
 
 -- ---- where no call is pending: another requested size, or a placing that has laid the rows
 idle-memory : {region : ℕ} {several : Bool} {usable new : ℕ} (new′ : ℕ) {placed : Bool} {p : Pending} {rows : List MapRow} → isIdle p ≡ true

@@ -6,11 +6,11 @@ use mathlib.Core.List.{List, []}
 use native.Mathlib.Omega.{arith}
 use borrow.Author.Tests.{le-leb}
 use Rattle.bitmap.specs.Blocks.{allAre, fill, nextSet}
-use Rattle.bitmap.specs.declared.Found.the-variants.{At, Nothing as NoneSet}
+use Rattle.bitmap.specs.declared.Found.the-variants.{Nothing as NoneSet}
 use Rattle.bitmap.proofs.Laws.{next-nothing}
 use Rattle.step.specs.World.{World, Call, Outcome}
 use Rattle.step.specs.Step.{plugged, regionBlocks}
-use Rattle.history.specs.History.{Event, PlugAck, UnplugAck, Discarded, UnplugAllAck, next}
+use Rattle.history.specs.History.{Event, PlugAck, UnplugAllAck, next}
 use Rattle.history.specs.Reached.{marks, counts, could, marked, counted, allCould}
 use Rattle.history.specs.Rules.{FromEveryGood, Whole, isPlace, WholeOrNotAtAll}
 use Rattle.history.proofs.Shaped.{clash}

@@ -7,8 +7,6 @@ use lib.Dec.{eqb}
 use Rattle.units.specs.declared.GuestAddr.{GuestAddr}
 use Rattle.units.specs.declared.RegionOffset.{RegionOffset}
 use Rattle.units.specs.declared.HostAddr.{HostAddr}
-use Rattle.rows.specs.declared.MapRow.{MapRow}
-use Rattle.rows.specs.Rows.{rowAt}
 use Rattle.record.specs.declared.Pending.{Pending}
 use Rattle.record.specs.declared.Pending.the-variants.{Nothing, Create, Discard, DiscardOne}
 use Rattle.record.specs.declared.HostCall.the-variants.{Discard as DiscardCall}

@@ -3,34 +3,24 @@
 use Prim.Native.Nat.{ℕ, _+_, _*_, _≤_, _<_}
 use mathlib.Core.Path.{_≡_, refl, ap, _∙_, sym}
 use mathlib.Core.Bool.{Bool, true, false}
-use mathlib.Core.List.{List, []}
 use mathlib.Core.Option.{Option, some, none}
 use native.Mathlib.Omega.{arith}
 use lib.Dec.{leb, ltb, eqb}
-use lib.ListN.{length}
 use borrow.Author.Tests.{leb-true, leb-false, ltb-true, ltb-false, eqb-true, eqb-false}
-use Rattle.units.specs.Numbers.{blocksIn}
 use Rattle.units.specs.declared.GuestAddr.{GuestAddr}
 use Rattle.units.proofs.Tests.{by-test}
 use Rattle.bitmap.specs.Blocks.{blockAt, fill}
-use Rattle.bitmap.proofs.Laws.{at-inside, at-before, at-after, all-clear-at, all-filled}
+use Rattle.bitmap.proofs.Laws.{at-before, at-after, all-clear-at, all-filled}
 use Rattle.wire.specs.declared.VirtioMemReq.{VirtioMemReq}
-use Rattle.rows.specs.declared.MapRow.{MapRow}
 use Rattle.record.specs.declared.Pending.the-variants.{Discard, DiscardOne}
-use Rattle.step.specs.World.{World, Guest, Call, Place, SetRequestedSize, Request, HostAnswer, ReadConfig, WriteConfig, Outcome}
-use Rattle.step.specs.Step.{step, hostAnswer, blockSize, usable, regionBlocks, cleared, placed}
-use Rattle.history.specs.History.{Story, next}
-use Rattle.history.specs.Reached.{Reached, from-making, by-call, by-restore}
-use Rattle.history.specs.Rules.{InEveryRun, FromEveryWorld, isPlace}
+use Rattle.step.specs.World.{World, Guest, Call, Request, HostAnswer, Outcome}
+use Rattle.step.specs.Step.{step, hostAnswer, blockSize, usable, cleared}
+use Rattle.history.specs.Rules.{FromEveryGood, FromEveryWorld, isPlace}
 use Rattle.history.proofs.Shaped.{clash}
-use Rattle.history.proofs.KeepsShape.{is-shaped}
-use Rattle.history.proofs.Restored.{restored-inside}
-use Rattle.history.proofs.Sizes.{usable-never-shrinks}
-use Rattle.history.proofs.Cases.{on-unplaced, place-cases, placing-cases}
 use Rattle.standard.specs.Config.{OutsideIsUnplugged}
 use Rattle.standard.specs.Requests.{Responds, responseOf, among, addressOf, sizeOf, IsPlugged, IsUnplugged, SameBlock, Covers, Awaits, Brings, CarriedOut, WholeOrNothing, UnplugsFrom, OneAnswered, «VIRTIO_MEM_REQ_PLUG», «VIRTIO_MEM_RESP_ACK»}
 use Rattle.standard.specs.Runs.{hostAgrees, PluggedByRequest}
-use Rattle.standard.proofs.Config.{constant-fields, facts-at}
+use Rattle.standard.proofs.Config.{facts-at}
 use Rattle.standard.proofs.Requests.{whole-block, plug-standard, unplug-standard, unplug-all-standard, state-standard, unknown-unserved}
 use Rattle.standard.proofs.EveryCall.{Ways, each-way}
 use Rattle.standard.proofs.Responses.{by-type}
@@ -141,57 +131,9 @@ plugged-by-request w c there i was is = go (changed w c (λ _. there) i (λ same
     go (ByUnplug first count status q low high agrees p) = clash is p
     go (ByUnplugAll status q agrees p) = clash is p
 
--- ---- M6: in a run every plugged block lies in the usable region
-abbrev AllInside : World → Type 0
-AllInside w = (i : ℕ) → i < regionBlocks w → IsPlugged w i → i * blockSize w < usable w
-
-placed-inside : (w : World) (at size : ℕ) (slots : List ℕ) (bs : List Bool) (rows : List MapRow) → AllInside w → AllInside (step w (Place at size slots bs rows) .world)
-unfolding step
-placed-inside w at size slots bs rows h =
-    let P : Outcome → Type 0 = λ o. AllInside (o .world) in
-    on-unplaced P w [] _ (λ n _ _. h) (length bs) (length rows)
-    (λ _ e. place-cases P w at size slots bs rows h h
-    (λ _ _.
-    let clear : (i : ℕ) → i < regionBlocks w → blockAt (fill bs 0 (regionBlocks w) false) i ≡ false = λ i l. at-inside bs 0 (regionBlocks w) false i (omega arith) (omega arith) (omega (arith, e .is-long)) in
-    placing-cases P (placed w at slots bs rows) (λ i l p. clash p (clear i l)) (λ _ _ _ _ i l p. clash p (clear i l)) (λ _ i l p. clash p (clear i l))))
-
-kept-inside : (w : World) (c : Call) → isPlace c ≡ false → AllInside w → AllInside (step w c .world)
-kept-inside w c no-place h i l p =
-    let k = constant-fields w c in
-    let same : regionBlocks (step w c .world) ≡ regionBlocks w = rw (k .same-region, k .same-block-size) in
-    let grows = usable-never-shrinks w c in
-    let inside = by-test (blockAt (w .blocks) i) (λ t. h i (rw same at l) t) (λ t. go (changed w c (λ e. clash e no-place) i (λ e. clash (sym e ∙ p) t))) in
-    rw (k .same-block-size) (omega arith)
-  where
-    go : Changed w c (step w c) i → i * blockSize w < usable w
-    go (ByPlug b covers r _) =
-        let can = plug-standard w (b .guest) (b .descriptors) (b .head) (b .req) (b .status) (b .hears) (b .is-type) .only-granted (rw (b .is-request) at r) in
-        omega (arith, can .valid .to-usable, covers .ends)
-    go (ByUnplug first count status q low high agrees u) = clash p u
-    go (ByUnplugAll status q agrees u) = clash p u
-
-inside-by : (w : World) (c : Call) → AllInside w → AllInside (step w c .world)
-unfolding isPlace
-inside-by w (Place at size slots bs rows) h = placed-inside w at size slots bs rows h
-inside-by w (SetRequestedSize mib) h = kept-inside w (SetRequestedSize mib) refl h
-inside-by w (Request g descriptors head) h = kept-inside w (Request g descriptors head) refl h
-inside-by w (HostAnswer g ok host) h = kept-inside w (HostAnswer g ok host) refl h
-inside-by w (ReadConfig offset buffer) h = kept-inside w (ReadConfig offset buffer) refl h
-inside-by w (WriteConfig offset buffer) h = kept-inside w (WriteConfig offset buffer) refl h
-
-block-inside : (b usable i : ℕ) → b ≡ 4194304 → i < blocksIn b usable → i * b < usable
-block-inside b usable i e l = let l′ = rw e at l in rw e (omega arith)
-
-pub plugged-inside : (s : Story) → Reached s → AllInside (s .world)
-unfolding next
-plugged-inside s (from-making fresh) = λ i l p. clash p refl
-plugged-inside s (by-call {s = before} r c) = inside-by (before .world) c (plugged-inside before r)
-plugged-inside s (by-restore {s = before} {requested} {plugs} r l) =
-    let w = before .world in
-    λ i n p. block-inside (blockSize w) (usable w) i (facts-at before r .block-size) (restored-inside w requested (is-shaped before r) plugs l i n p)
-
-pub outside-is-unplugged : InEveryRun OutsideIsUnplugged
-outside-is-unplugged s r c i l past =
+-- ---- M6: in a good story every plugged block lies in the usable region
+pub outside-is-unplugged : FromEveryGood OutsideIsUnplugged
+outside-is-unplugged s g c i l past =
     let w = s .world in
-    let f = facts-at s r in
-    by-test (blockAt (w .blocks) i) (λ t. let end = whole-block (blockSize w) (usable w) i (f .block-size) (f .usable-blocks) (plugged-inside s r i l t) in let next-block : (i + 1) * blockSize w ≡ i * blockSize w + blockSize w = omega arith in absurd (omega arith)) (λ t. t)
+    let f = facts-at s g in
+    by-test (blockAt (w .blocks) i) (λ t. let end = whole-block (blockSize w) (usable w) i (f .block-size) (f .usable-blocks) (g .inside i l t) in let next-block : (i + 1) * blockSize w ≡ i * blockSize w + blockSize w = omega arith in absurd (omega arith)) (λ t. t)

@@ -17,17 +17,16 @@ use Rattle.resize.specs.Resize.{newSize}
 use Rattle.units.specs.declared.Node.{Node}
 use Rattle.units.specs.declared.Node.the-variants.{None, Number}
 use Rattle.making.specs.declared.Made.the-variants.{Device as MadeDevice, Refused as MadeRefused}
-use Rattle.making.specs.Made.{newDevice, made}
-use Rattle.step.specs.World.{World, Call, SetRequestedSize, Outcome}
+use Rattle.making.specs.Made.{requestedBad, newDevice, made}
+use Rattle.step.specs.World.{World, Call, Outcome}
 use Rattle.step.specs.Step.{step, readConfig, blockSize, region, usable, requested}
 use Rattle.history.specs.History.{Event, Story, next, after}
-use Rattle.history.specs.Reached.{Reached, from-making, by-call, by-restore, madeAs}
-use Rattle.history.specs.Rules.{InEveryRun, FromEveryWorld}
+use Rattle.history.specs.Reached.{from-making, by-call, by-restore, madeAs}
+use Rattle.history.specs.Good.{Good}
+use Rattle.history.specs.Rules.{FromEveryGood, FromEveryWorld}
 use Rattle.history.proofs.Shaped.{clash}
 use Rattle.history.proofs.Cases.{write-cases}
 use Rattle.history.proofs.Calls.{Endings, each-call}
-use Rattle.history.proofs.Demand3.{demand-3}
-use Rattle.history.proofs.KeepsShape.{is-shaped}
 use Rattle.standard.specs.Config.{configOf, Features, FeaturesFromMaking, ReadsLayout, Constant, ConstantFields, ConstantInRestore, FieldsLaidOut, settledByCall, settledBy, settledAfter, RequestedIsUsable, PluggedSizeIsOfBlocks, WritesNothing}
 
 -- ---- what each call does to the config, in every world
@@ -163,12 +162,12 @@ pub writes-nothing : WritesNothing
 unfolding step
 writes-nothing w offset buffer = write-cases (λ o. o .world ≡ w) w buffer (λ _. refl) refl
 
-pub facts-at : (s : Story) → Reached s → Facts (s .world .device)
-facts-at s r = facts-of _ (shaped-when _ (is-shaped s r))
+pub facts-at : (s : Story) → Good s → Facts (s .world .device)
+facts-at s g = facts-of _ (g .shaped)
 
-pub fields-laid-out : InEveryRun FieldsLaidOut
-fields-laid-out s r c =
-    let f = facts-at s r in
+pub fields-laid-out : FromEveryGood FieldsLaidOut
+fields-laid-out s g c =
+    let f = facts-at s g in
     let b = f .block-size in
     record {
       power-of-two = b;
@@ -182,5 +181,5 @@ fields-laid-out s r c =
       requested-within = f .requested-in;
     }
 
-pub plugged-size-is-of-blocks : InEveryRun PluggedSizeIsOfBlocks
-plugged-size-is-of-blocks s r c = demand-3 s r .count
+pub plugged-size-is-of-blocks : FromEveryGood PluggedSizeIsOfBlocks
+plugged-size-is-of-blocks s g c = g .told .count

@@ -1,14 +1,14 @@
 -- SPDX-License-Identifier: Apache-2.0 AND BSD-3-Clause
 -- Every call in every world, as the standard sees it: a request that is heard, the host's answer to a discard, and all else, which gives no response and asks for no discard. By it M8, M12 and M17, and what waits for the host.
 use Prim.Native.Nat.{ℕ, _+_, _-_, _*_, _≤_}
-use mathlib.Core.Path.{_≡_, refl, ap}
+use mathlib.Core.Path.{_≡_, refl}
 use mathlib.Core.Bool.{Bool, true, false, cond}
 use mathlib.Core.List.{List, []}
 use mathlib.Core.Option.{some, none}
 use native.Mathlib.Omega.{arith}
 use lib.Dec.{ltb}
 use lib.ListN.{length}
-use borrow.Author.Tests.{ltb-false, le-leb}
+use borrow.Author.Tests.{le-leb}
 use Rattle.units.specs.Numbers.{top, mapRegion}
 use Rattle.units.specs.declared.GuestAddr.{GuestAddr}
 use Rattle.wire.specs.declared.VirtioMemReq.{VirtioMemReq}
@@ -21,23 +21,19 @@ use Rattle.record.specs.declared.HostCall.the-variants.{Create as CreateCall, D
 use Rattle.record.specs.declared.Pending.{Pending}
 use Rattle.record.specs.declared.Pending.the-variants.{Nothing, Create, Discard, DiscardOne}
 use Rattle.record.specs.Changes.{requestedTo}
-use Rattle.record.proofs.Laws.{Parts, shaped-is as facts-of, whole as shaped-when, create-is}
-use Rattle.rows.specs.Rows.{laid}
-use Rattle.rows.proofs.Laws.{laid-length}
-use Rattle.resize.specs.declared.Growth.{Growth}
-use Rattle.resize.specs.declared.Growth.the-variants.{Asks, Settled}
-use Rattle.resize.specs.Resize.{growthOf}
+use Rattle.record.proofs.Laws.{Parts, shaped-is as facts-of, whole as shaped-when}
 use Rattle.step.specs.declared.Answer.{Answer}
 use Rattle.step.specs.declared.Answer.the-variants.{Refused, Wants, Sized, Unserved, Served, Done}
 use Rattle.step.specs.Answers.{servedWith}
 use Rattle.step.specs.World.{World, Guest, Call, Place, SetRequestedSize, Request, HostAnswer, ReadConfig, WriteConfig, Outcome}
-use Rattle.step.specs.Step.{start, newUsable, regionRows, sizes, asksCreate, resizes, resized, placing, step, request, serve, hostAnswer, tablesFit, region, usable, several, served, refused, cleared, coveredBy, placed, deviceOf}
+use Rattle.step.specs.Step.{start, sizes, asksCreate, placing, step, request, serve, hostAnswer, tablesFit, region, usable, several, served, refused, cleared, coveredBy, placed, deviceOf}
 use Rattle.history.specs.Rules.{isPlace}
+use Rattle.history.specs.Good.{InMemory}
 use Rattle.history.proofs.Shaped.{clash, cleared-shaped}
-use Rattle.history.proofs.Cases.{by-cond, Entered, on-ready, on-unplaced, on-pending, plug-cases, unplug-cases, unplug-all-cases, serve-cases, place-cases, size-cases, read-cases, write-cases}
+use Rattle.history.proofs.Cases.{by-cond, Entered, on-ready, on-unplaced, on-pending, plug-cases, unplug-cases, unplug-all-cases, serve-cases, resized-cases, place-cases, size-cases, read-cases, write-cases}
 use Rattle.standard.specs.Requests.{responseOf, AsksFor, Hears, Awaits, OneAnswered, lentBy, statusOfPending, statusFor}
 use Rattle.standard.proofs.Requests.{one-standard, answered, heard}
-use Rattle.standard.proofs.Memory.{InMemory, other-call, sized-memory, asks-memory, idle-memory, laid-memory, created-memory, asks-outside}
+use Rattle.standard.proofs.Memory.{asks-outside}
 
 -- ---- a call that is no part of a request
 -- a response, or a question for a discard
@@ -59,12 +55,6 @@ isConfigCall (HostAnswer guest ok host) = false
 isConfigCall (ReadConfig offset buffer) = true
 isConfigCall (WriteConfig offset buffer) = true
 
-unfoldable isCreation : Pending → Bool
-isCreation Nothing = false
-isCreation (Create first last) = true
-isCreation (Discard first count status) = false
-isCreation (DiscardOne block status) = false
-
 -- a creation that is asked for begins at the end of the usable region or past it; and none is asked for
 abbrev pub CreatesPast : World → Outcome → Type 0
 CreatesPast w o = (guest : GuestAddr) (size slot : ℕ) → AsksFor o (CreateCall guest size slot) → start (o .world) + usable w ≤ guest .0
@@ -76,7 +66,6 @@ pub record Quiet (w : World) (c : Call) (o : Outcome) : Type 0 where
   pub silent : speaks (o .answer) ≡ false
   pub same-bytes : isConfigCall c ≡ false → o .bytes ≡ lentBy c .mem
   pub keeps-status : (call : HostCall) → AsksFor o call → statusOfPending (o .world .device .pending) ≡ statusFor w c
-  pub keeps-memory : InMemory w → InMemory (o .world)
   pub creates-outside : InMemory w → CreatesPast w o
   -- but for a placing of a device that is not placed
   pub same-blocks : (isPlace c ≡ true → w .device .placed ≡ true) → o .world .blocks ≡ w .blocks
@@ -89,54 +78,48 @@ pub data Says (g : Guest) (status : ℕ) (o : Outcome) : Type 0 where
 pub record Leaf (w : World) (g : Guest) (status : ℕ) (o : Outcome) : Type 0 where
   pub says : Says g status o
   pub keeps-status : (call : HostCall) → AsksFor o call → statusOfPending (o .world .device .pending) ≡ some status
-  pub keeps-memory : InMemory w → InMemory (o .world)
   pub no-creation : CreatesNothing o
 
--- no creation is pending then
-no-creation : (p p′ : Pending) → isCreation p ≡ false → (i last : ℕ) → p ≡ Create i last → p′ ≡ Create i last
-unfolding isCreation
-no-creation p p′ n i last e = clash (ap isCreation e) n
-
 module _ (w : World) (g : Guest) (status : ℕ) where
-  leaf-served : (resp : VirtioMemResp) (w′ : World) → (InMemory w → InMemory w′) → Leaf w g status (served resp status w′ g)
-  leaf-served resp w′ m =
-      record { says = Responded resp refl refl; keeps-status = λ call e. let z : _≡_ {A = ℕ} 0 1 = cc in absurd (omega arith); keeps-memory = m; no-creation = λ guest size slot e. let z : _≡_ {A = ℕ} 0 1 = cc in omega arith }
+  leaf-served : (resp : VirtioMemResp) (w′ : World) → Leaf w g status (served resp status w′ g)
+  leaf-served resp w′ =
+      record { says = Responded resp refl refl; keeps-status = λ call e. let z : _≡_ {A = ℕ} 0 1 = cc in absurd (omega arith); no-creation = λ guest size slot e. let z : _≡_ {A = ℕ} 0 1 = cc in omega arith }
 
   leaf-silent : (o : Outcome) → responseOf (o .answer) ≡ none → o .bytes ≡ g .mem → ((call : HostCall) → AsksFor o call → statusOfPending (o .world .device .pending) ≡ some status)
-      → (InMemory w → InMemory (o .world)) → CreatesNothing o → Leaf w g status o
-  leaf-silent o n hush k m never = record { says = Silent n hush; keeps-status = k; keeps-memory = m; no-creation = never }
+      → CreatesNothing o → Leaf w g status o
+  leaf-silent o n hush k never = record { says = Silent n hush; keeps-status = k; no-creation = never }
 
   module _ (shaped : Parts (w .device)) where
     leaf-serve : (req : VirtioMemReq) → Leaf w g status (serve w req status g)
-    unfolding responseOf statusOfPending isCreation
+    unfolding responseOf statusOfPending
     leaf-serve req =
         let P = Leaf w g status in
         serve-cases P w req status g
-        (λ _. plug-cases P w shaped status g (req .addr .0) (req .«nb_blocks») (λ _ _ _ _. leaf-served _ _ (λ m. m)) (leaf-served _ _ (λ m. m)) (leaf-served _ _ (λ m. m)))
+        (λ _. plug-cases P w shaped status g (req .addr .0) (req .«nb_blocks») (λ _ _ _ _. leaf-served _ _) (leaf-served _ _) (leaf-served _ _))
         (λ _ _. unplug-cases P w shaped status g (req .addr .0) (req .«nb_blocks»)
-        (λ _ _ _ _ _ _. leaf-silent _ refl refl (λ _ _. refl) (λ m. other-call _ (no-creation _ _ refl) m) (λ _ _ _ e. let z : _≡_ {A = ℕ} 0 1 = cc in omega arith))
-        (λ _ _ _ _. leaf-silent _ refl refl (λ call e. let z : _≡_ {A = ℕ} 0 1 = cc in absurd (omega arith)) (λ m. m) (λ _ _ _ e. let z : _≡_ {A = ℕ} 0 1 = cc in omega arith))
-        (leaf-served _ _ (λ m. m)))
+        (λ _ _ _ _ _ _. leaf-silent _ refl refl (λ _ _. refl) (λ _ _ _ e. let z : _≡_ {A = ℕ} 0 1 = cc in omega arith))
+        (λ _ _ _ _. leaf-silent _ refl refl (λ call e. let z : _≡_ {A = ℕ} 0 1 = cc in absurd (omega arith)) (λ _ _ _ e. let z : _≡_ {A = ℕ} 0 1 = cc in omega arith))
+        (leaf-served _ _))
         (λ _ _ _. unplug-all-cases P w shaped status g 0
-        (λ _. leaf-served _ _ (λ m. other-call _ (no-creation _ _ refl) m))
-        (λ _ _ _ _ _. leaf-silent _ refl refl (λ _ _. refl) (λ m. other-call _ (no-creation _ _ refl) m) (λ _ _ _ e. let z : _≡_ {A = ℕ} 0 1 = cc in omega arith))
-        (leaf-served _ _ (λ m. other-call _ (no-creation _ _ refl) m)))
-        (λ _ _ _. leaf-served _ _ (λ m. m))
-        (leaf-silent _ refl refl (λ call e. let z : _≡_ {A = ℕ} 0 1 = cc in absurd (omega arith)) (λ m. m) (λ _ _ _ e. let z : _≡_ {A = ℕ} 0 1 = cc in omega arith))
+        (λ _. leaf-served _ _)
+        (λ _ _ _ _ _. leaf-silent _ refl refl (λ _ _. refl) (λ _ _ _ e. let z : _≡_ {A = ℕ} 0 1 = cc in omega arith))
+        (leaf-served _ _))
+        (λ _ _ _. leaf-served _ _)
+        (leaf-silent _ refl refl (λ call e. let z : _≡_ {A = ℕ} 0 1 = cc in absurd (omega arith)) (λ _ _ _ e. let z : _≡_ {A = ℕ} 0 1 = cc in omega arith))
 
 pub leaf-unplug : (w : World) (g : Guest) (first count : ℕ) (status : GuestAddr) (ok : Bool) (host : ℕ) → Leaf w g (status .0) (hostAnswer (Discard first count status) w g ok host)
-unfolding hostAnswer isCreation
-leaf-unplug w g first count status true host = leaf-served w g (status .0) _ _ (λ m. other-call _ (no-creation _ _ refl) m)
-leaf-unplug w g first count status false host = leaf-served w g (status .0) _ _ (λ m. other-call _ (no-creation _ _ refl) m)
+unfolding hostAnswer
+leaf-unplug w g first count status true host = leaf-served w g (status .0) _ _
+leaf-unplug w g first count status false host = leaf-served w g (status .0) _ _
 
 leaf-one : (w : World) (g : Guest) → Parts (w .device) → (j : ℕ) (status : GuestAddr) (ok : Bool) (host : ℕ) → Leaf w g (status .0) (hostAnswer (DiscardOne j status) w g ok host)
-unfolding hostAnswer responseOf statusOfPending isCreation
+unfolding hostAnswer responseOf statusOfPending
 leaf-one w g shaped j status true host =
     unplug-all-cases (Leaf w g (status .0)) (cleared w j) (cleared-shaped w j shaped) (status .0) g (j + 1)
-    (λ _. leaf-served w g (status .0) _ _ (λ m. other-call _ (no-creation _ _ refl) m))
-    (λ _ _ _ _ _. leaf-silent w g (status .0) _ refl refl (λ _ _. refl) (λ m. other-call _ (no-creation _ _ refl) m) (λ _ _ _ e. let z : _≡_ {A = ℕ} 0 1 = cc in omega arith))
-    (leaf-served w g (status .0) _ _ (λ m. other-call _ (no-creation _ _ refl) m))
-leaf-one w g shaped j status false host = leaf-served w g (status .0) _ _ (λ m. other-call _ (no-creation _ _ refl) m)
+    (λ _. leaf-served w g (status .0) _ _)
+    (λ _ _ _ _ _. leaf-silent w g (status .0) _ refl refl (λ _ _. refl) (λ _ _ _ e. let z : _≡_ {A = ℕ} 0 1 = cc in omega arith))
+    (leaf-served w g (status .0) _ _)
+leaf-one w g shaped j status false host = leaf-served w g (status .0) _ _
 
 -- ---- every call is one of these
 pub record Ways (w : World) (K : Call → Outcome → Type 0) : Type 0 where
@@ -153,68 +136,54 @@ fitting : (w : World) (quiet : Bool) → Entered (w .device) (length (w .blocks)
 unfolding tablesFit
 fitting w quiet e = rw (le-leb _ _ (e .is-long), le-leb _ _ (e .has-rows))
 
--- a usable size that is worked out, with what its growth tells
-resized-ways : (P : Outcome → Type 0) (w : World) → (growthOf (region w) (several w) (usable w) (newUsable w) (w .rows) ≡ Settled → P (sizes w))
-    → ((i last size : ℕ) → growthOf (region w) (several w) (usable w) (newUsable w) (w .rows) ≡ Asks i last size → P (asksCreate w i last size)) → P (resized w)
-unfolding resizes
-resized-ways P w settled asks = go (growthOf (region w) (several w) (usable w) (newUsable w) (w .rows)) refl
-  where
-    go : (x : Growth) → growthOf (region w) (several w) (usable w) (newUsable w) (w .rows) ≡ x → P (resizes x w)
-    go Settled e = settled e
-    go (Asks i last size) e = asks i last size e
-
 module _ (w : World) (K : Call → Outcome → Type 0) (k : Ways w K) where
   -- nothing is asked of the host
-  hush : (c : Call) (o : Outcome) → speaks (o .answer) ≡ false → (isConfigCall c ≡ false → o .bytes ≡ lentBy c .mem) → ((call : HostCall) → AsksFor o call → ⊥) → (InMemory w → InMemory (o .world))
+  hush : (c : Call) (o : Outcome) → speaks (o .answer) ≡ false → (isConfigCall c ≡ false → o .bytes ≡ lentBy c .mem) → ((call : HostCall) → AsksFor o call → ⊥)
       → ((isPlace c ≡ true → w .device .placed ≡ true) → o .world .blocks ≡ w .blocks) → K c o
-  hush c o mute bytes never memory blocks =
+  hush c o mute bytes never blocks =
       k .quiet c o
       (record {
         silent = mute;
         same-bytes = bytes;
         keeps-status = λ call e. absurd (never call e);
-        keeps-memory = memory;
         creates-outside = λ _ guest size slot e. absurd (never _ e);
         same-blocks = blocks;
       })
 
   -- and nothing happens
   idle : (c : Call) (o : Outcome) → o .world ≡ w → speaks (o .answer) ≡ false → (isConfigCall c ≡ false → o .bytes ≡ lentBy c .mem) → ((call : HostCall) → AsksFor o call → ⊥) → K c o
-  idle c o same mute bytes never = hush c o mute bytes never (λ m. rw same m) (λ _. rw same)
+  idle c o same mute bytes never = hush c o mute bytes never (λ _. rw same)
 
   refusal : (c : Call) (n : ℕ) (bytes : List ℕ) → (isConfigCall c ≡ false → bytes ≡ lentBy c .mem) → K c (refused n w bytes)
   unfolding speaks
   refusal c n bytes same = idle c _ refl refl same (λ call e. let z : _≡_ {A = ℕ} 0 1 = cc in omega arith)
 
   -- the usable size is worked out in the world w₁, or a creation is asked for there
-  sizing : (c : Call) (w₁ : World) → lentBy c .mem ≡ [] → (InMemory w → InMemory (sizes w₁ .world)) → ((isPlace c ≡ true → w .device .placed ≡ true) → w₁ .blocks ≡ w .blocks) → K c (sizes w₁)
+  sizing : (c : Call) (w₁ : World) → lentBy c .mem ≡ [] → ((isPlace c ≡ true → w .device .placed ≡ true) → w₁ .blocks ≡ w .blocks) → K c (sizes w₁)
   unfolding speaks
-  sizing c w₁ lends memory blocks = hush c (sizes w₁) refl (λ _. rw lends) (λ call e. let z : _≡_ {A = ℕ} 0 1 = cc in omega arith) memory blocks
+  sizing c w₁ lends blocks = hush c (sizes w₁) refl (λ _. rw lends) (λ call e. let z : _≡_ {A = ℕ} 0 1 = cc in omega arith) blocks
 
-  creating : (c : Call) (w₁ : World) (i last size : ℕ) → lentBy c .mem ≡ [] → statusFor w c ≡ none → (InMemory w → InMemory (asksCreate w₁ i last size .world)) → (InMemory w → usable w ≤ i * mapRegion)
+  creating : (c : Call) (w₁ : World) (i last size : ℕ) → lentBy c .mem ≡ [] → statusFor w c ≡ none → (InMemory w → usable w ≤ i * mapRegion)
       → ((isPlace c ≡ true → w .device .placed ≡ true) → w₁ .blocks ≡ w .blocks) → K c (asksCreate w₁ i last size)
   unfolding speaks statusOfPending
-  creating c w₁ i last size lends nowhere memory past blocks =
+  creating c w₁ i last size lends nowhere past blocks =
       k .quiet c (asksCreate w₁ i last size)
       (record {
         silent = refl;
         same-bytes = λ _. rw lends;
         keeps-status = λ _ _. rw nowhere;
-        keeps-memory = memory;
         creates-outside = λ m guest bytes slot e. let at : record { 0 = start w₁ + i * mapRegion } ≡ guest = cc in rw (← at) (omega (arith, past m));
         same-blocks = blocks;
       })
 
   by-pending : (g : Guest) (ok : Bool) (host : ℕ) (p : Pending) → w .device .pending ≡ p → Entered (w .device) (length (w .blocks)) (length (w .rows)) false → K (HostAnswer g ok host) (hostAnswer p w g ok host)
-  unfolding hostAnswer speaks lentBy isConfigCall isCreation
+  unfolding hostAnswer speaks lentBy isConfigCall
   by-pending g ok host Nothing q e = refusal (HostAnswer g ok host) 8 (g .mem) (λ _. refl)
   by-pending g true host (Create i last) q e =
       by-cond (K (HostAnswer g true host)) (ltb top (host + coveredBy w i last)) _ _ (λ _. refusal (HostAnswer g true host) 9 (g .mem) (λ _. refl))
-      (λ t.
-      hush (HostAnswer g true host) _ refl (λ _. refl) (λ call f. let z : _≡_ {A = ℕ} 0 1 = cc in omega arith)
-      (λ m. created-memory w i last host (g .mem) m (create-is (w .device) (shaped-when (w .device) (e .is-shaped)) i last q) q (e .has-rows) (ltb-false top (host + coveredBy w i last) t)) (λ _. refl))
+      (λ _. hush (HostAnswer g true host) _ refl (λ _. refl) (λ call f. let z : _≡_ {A = ℕ} 0 1 = cc in omega arith) (λ _. refl))
   by-pending g false host (Create i last) q e =
-      hush (HostAnswer g false host) _ refl (λ _. refl) (λ call f. let z : _≡_ {A = ℕ} 0 1 = cc in omega arith) (λ m. other-call _ (no-creation _ _ refl) m) (λ _. refl)
+      hush (HostAnswer g false host) _ refl (λ _. refl) (λ call f. let z : _≡_ {A = ℕ} 0 1 = cc in omega arith) (λ _. refl)
   by-pending g ok host (Discard first count status) q e =
       k .unplug-ends first count status (record { shaped = shaped-when (w .device) (e .is-shaped); waits = q; fits = fitting w false e }) g ok host
   by-pending g ok host (DiscardOne j status) q e =
@@ -236,28 +205,22 @@ module _ (w : World) (K : Call → Outcome → Type 0) (k : Ways w K) where
       let P = K (Place at size slots bs rows) in
       on-unplaced P w [] _ (λ n _ _. refusal (Place at size slots bs rows) n [] (λ _. refl)) (length bs) (length rows)
       (λ p e. place-cases P w at size slots bs rows (refusal _ 3 [] (λ _. refl)) (refusal _ 4 [] (λ _. refl))
-      (λ n _.
+      (λ _ _.
       let c = Place at size slots bs rows in
       let w₁ = placed w at slots bs rows in
-      let laid-out : InMemory w → InMemory w₁ = λ m. laid-memory rows slots p (e .is-idle) n (e .has-rows) m in
-      let rows-fit : regionRows w ≤ length (laid rows slots) = rw (laid-length rows slots) (e .has-rows) in
       let none-usable : (i : ℕ) → InMemory w → usable w ≤ i * mapRegion = λ i m. let none = m .early p in omega arith in
       by-cond P (several w) _ _
-      (λ s. resized-ways P w₁
-      (λ x. sizing c w₁ refl (λ m. sized-memory w₁ (laid-out m) (e .is-idle) rows-fit (λ f. clash s f) x) (λ h. clash (h refl) p))
-      (λ i last n x. creating c w₁ i last n refl refl (λ m. asks-memory w₁ i last n (laid-out m) (λ _. x)) (none-usable i) (λ h. clash (h refl) p)))
-      (λ s. creating c w₁ 0 0 (region w) refl refl (λ m. asks-memory w₁ 0 0 (region w) (laid-out m) (λ f. clash f s)) (none-usable 0) (λ h. clash (h refl) p))))
+      (λ _. resized-cases P w₁ (sizing c w₁ refl (λ h. clash (h refl) p)) (λ i last n _. creating c w₁ i last n refl refl (none-usable i) (λ h. clash (h refl) p)))
+      (λ _. creating c w₁ 0 0 (region w) refl refl (none-usable 0) (λ h. clash (h refl) p))))
   each-way (SetRequestedSize mib) =
       let c = SetRequestedSize mib in
       let P = K c in
       on-ready P w [] _ (λ n _ _. refusal c n [] (λ _. refl)) (length (w .blocks)) (length (w .rows))
-      (λ p e. size-cases P w mib (refusal _ 1 [] (λ _. refl))
+      (λ _ e. size-cases P w mib (refusal _ 1 [] (λ _. refl))
       (λ _ _.
       let w₁ = deviceOf (requestedTo (mib * 1048576) (w .device)) w in
-      let asked : InMemory w → InMemory w₁ = λ m. idle-memory (newUsable w₁) (e .is-idle) m in
-      resized-ways P w₁
-      (λ x. sizing c w₁ refl (λ m. sized-memory w₁ (asked m) (e .is-idle) (e .has-rows) (λ _. p) x) (λ _. refl))
-      (λ i last n x. creating c w₁ i last n refl refl (λ m. asks-memory w₁ i last n (asked m) (λ _. x)) (λ m. asks-outside w₁ i last n (asked m) (facts-of (w .device) (shaped-when (w .device) (e .is-shaped)) .rows-some) x) (λ _. refl))))
+      resized-cases P w₁ (sizing c w₁ refl (λ _. refl))
+      (λ i last n x. creating c w₁ i last n refl refl (λ m. asks-outside w₁ i last n (m .below) (facts-of (w .device) (shaped-when (w .device) (e .is-shaped)) .rows-some) x) (λ _. refl))))
   each-way (Request g descriptors head) =
       on-ready (K (Request g descriptors head)) w (g .mem) _ (λ n _ _. refusal (Request g descriptors head) n (g .mem) (λ _. refl)) (length (w .blocks)) (length (w .rows))
       (λ p e. by-chain g descriptors head (parsed (g .mem) (g .base) descriptors head) refl p e)

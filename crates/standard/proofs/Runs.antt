@@ -20,8 +20,7 @@ use Rattle.wire.specs.declared.VirtioMemReq.{VirtioMemReq}
 use Rattle.wire.specs.declared.VirtioMemResp.{VirtioMemResp}
 use Rattle.record.specs.declared.HostCall.{HostCall}
 use Rattle.record.specs.declared.HostCall.the-variants.{Discard as DiscardCall}
-use Rattle.record.specs.declared.Pending.{Pending}
-use Rattle.record.specs.declared.Pending.the-variants.{Nothing, Create, Discard, DiscardOne}
+use Rattle.record.specs.declared.Pending.the-variants.{Discard, DiscardOne}
 use Rattle.record.proofs.Laws.{shaped-is as facts-of, parts as parts-of}
 use Rattle.step.specs.declared.Answer.{Answer}
 use Rattle.step.specs.declared.Answer.the-variants.{Refused, Wants, Sized, Unserved, Served, Done}
@@ -29,12 +28,12 @@ use Rattle.step.specs.Answers.{servedWith}
 use Rattle.step.specs.World.{World, Guest, Call, Place, SetRequestedSize, Request, HostAnswer, ReadConfig, WriteConfig, Outcome}
 use Rattle.step.specs.Step.{step, hostAnswer, usable, blockSize, plugged, regionBlocks, cleared}
 use Rattle.history.specs.History.{Event, UnplugAllAck, Open, acknowledges, ackToRequest, ackToType, ackToHost, ifAck, eventsOf, Story, next}
-use Rattle.history.specs.Reached.{marks, counts, could, marked, counted, allCould, Reached, from-making, by-call, by-restore}
-use Rattle.history.specs.Rules.{InEveryRun, Whole, isPlace}
+use Rattle.history.specs.Reached.{marks, counts, could, marked, counted, allCould}
+use Rattle.history.specs.Good.{InMemory}
+use Rattle.history.specs.Rules.{FromEveryGood, Whole, isPlace}
 use Rattle.history.proofs.Shaped.{clash}
 use Rattle.history.proofs.Cases.{plug-cases}
 use Rattle.history.proofs.Observer.{openOf}
-use Rattle.history.proofs.Demand3.{demand-3, open-is}
 use Rattle.history.proofs.Sizes.{never-12}
 use Rattle.history.proofs.Whole.{whole-or-not-at-all}
 use Rattle.standard.specs.Config.{Constant}
@@ -43,70 +42,34 @@ use Rattle.standard.specs.Runs.{UsableIsMapped, FreeBlocksPlug, PluggedB
 use Rattle.standard.proofs.Config.{constant-fields, facts-at}
 use Rattle.standard.proofs.Requests.{whole-block, plug-standard, unplug-standard, unplug-all-standard, unknown-unserved, to-plug, to-state}
 use Rattle.standard.proofs.EveryCall.{speaks, CreatesPast, leaf-unplug, Ways, each-way}
-use Rattle.standard.proofs.Memory.{InMemory, usable-mapped}
+use Rattle.standard.proofs.Memory.{usable-mapped}
 use Rattle.standard.proofs.Responses.{by-type, mute}
-use Rattle.standard.proofs.Changed.{Changed, ByPlug, ByUnplug as ByHeldUnplug, ByUnplugAll as ByHeldAll, changed, all-same, plugged-inside}
+use Rattle.standard.proofs.Changed.{Changed, ByPlug, ByUnplug as ByHeldUnplug, ByUnplugAll as ByHeldAll, changed, all-same}
 
 -- ---- M11, M14: the host has memory for the usable region
-keeps-memory : (w : World) → Ways w (λ c o. InMemory w → InMemory (o .world))
-keeps-memory w =
-    record {
-      quiet = λ c o q. q .keeps-memory;
-      hears = λ g descriptors head req status h l. l .keeps-memory;
-      unplug-ends = λ first count status a g ok host. leaf-unplug w g first count status ok host .keeps-memory;
-      one-ends = λ j status a g ok host o h l. l .keeps-memory;
-    }
-
--- while nothing is pending no creation is
-nothing-asked : {A : Type 0} (p : Pending) (i last : ℕ) → p ≡ Nothing → p ≡ Create i last → A
-nothing-asked p i last idle e = let z : _≡_ {A = ℕ} 0 1 = cc in absurd (omega arith)
-
-pub in-memory : (s : Story) → Reached s → InMemory (s .world)
-unfolding next
-in-memory s (from-making {d} fresh) =
-    record {
-      early = λ _. fresh .nothing-usable;
-      fits = λ r l mapped. absurd (mapped refl);
-      below = λ r l _ _. let none = fresh .nothing-usable in omega arith;
-      single = λ _ p _. clash p (fresh .unplaced);
-      asked = λ i last e. nothing-asked (d .pending) i last (fresh .waits-for-nothing) e;
-    }
-in-memory s (by-call {s = before} r c) =
-    let w = before .world in
-    each-way w (λ c o. InMemory w → InMemory (o .world)) (keeps-memory w) c (in-memory before r)
-in-memory s (by-restore {s = before} r l) =
-    let m = in-memory before r in
-    record {
-      early = m .early;
-      fits = m .fits;
-      below = m .below;
-      single = m .single;
-      asked = λ i last e. nothing-asked (before .world .device .pending) i last (l .waits-for-nothing) e;
-    }
-
-pub usable-is-mapped : InEveryRun UsableIsMapped
-usable-is-mapped s r c req p =
+pub usable-is-mapped : FromEveryGood UsableIsMapped
+usable-is-mapped s g c req p =
     let w = s .world in
-    let f = facts-at s r in
+    let f = facts-at s g in
     let v = p .valid in
     let some : 0 < sizeOf w req = mul-pos (v .some-blocks) (omega (arith, f .block-size)) in
-    usable-mapped w (in-memory s r) f (offsetOf w req) (sizeOf w req) some (omega (arith, v .from-start, v .to-usable)) (p .no-border)
+    usable-mapped w (g .mapped) f (offsetOf w req) (sizeOf w req) some (omega (arith, v .from-start, v .to-usable)) (p .no-border)
 
-pub free-blocks-plug : InEveryRun FreeBlocksPlug
-free-blocks-plug s r c b p within free =
+pub free-blocks-plug : FromEveryGood FreeBlocksPlug
+free-blocks-plug s g c b p within free =
     let w = s .world in
-    let counted = demand-3 s r .count in
+    let counted = g .told .count in
     rw (b .is-request)
     (plug-standard w (b .guest) (b .descriptors) (b .head) (b .req) (b .status) (b .hears) (b .is-type) .granted
-    (record { within-requested = omega arith; valid = p .valid; all-unplugged = free; mapped = usable-is-mapped s r c (b .req) p }))
+    (record { within-requested = omega arith; valid = p .valid; all-unplugged = free; mapped = usable-is-mapped s g c (b .req) p }))
 
-pub plugged-blocks-unplug : InEveryRun PluggedBlocksUnplug
-plugged-blocks-unplug s r c b p all =
+pub plugged-blocks-unplug : FromEveryGood PluggedBlocksUnplug
+plugged-blocks-unplug s g c b p all =
     let w = s .world in
     let u = unplug-standard w (b .guest) (b .descriptors) (b .head) (b .req) (b .status) (b .hears) (b .is-type) in
-    let can : CanUnplug w (b .req) = record { valid = p .valid; all-plugged = all; mapped = usable-is-mapped s r c (b .req) p } in
+    let can : CanUnplug w (b .req) = record { valid = p .valid; all-plugged = all; mapped = usable-is-mapped s g c (b .req) p } in
     by-test (ltb (plugged w) (sizeOf w (b .req)))
-    (λ t. absurd (never-12 s r c (rw (b .is-request) (u .spoiled can (ltb-true _ _ t)))))
+    (λ t. absurd (never-12 s g c (rw (b .is-request) (u .spoiled can (ltb-true _ _ t)))))
     (λ t. (can .mapped .host, ap (λ x. step w x .answer) (b .is-request) ∙ u .granted can (ltb-false _ _ t)))
 
 -- ---- M15: an ACK to an unplug-all
@@ -139,20 +102,20 @@ none-plugged w w′ rest k h =
       size-zero = h .size-by;
     }
 
-pub unplug-all-acknowledged : InEveryRun UnplugAllAcknowledged
+pub unplug-all-acknowledged : FromEveryGood UnplugAllAcknowledged
 unfolding eventsOf next
-unplug-all-acknowledged s r c e responds =
-    let whole = whole-or-not-at-all s r c (no-place (s .world) (s .«open») c e) in
+unplug-all-acknowledged s g c e responds =
+    let whole = whole-or-not-at-all s g c (no-place (s .world) (s .«open») c e) in
     none-plugged (s .world) _ _ (constant-fields (s .world) c) (rw (e, ack-tells _ (UnplugAllAck ∷ []) responds) at whole)
 
 -- ---- M15: an ERROR to an unplug-all
-pub plugged-can-be-discarded : InEveryRun PluggedCanBeDiscarded
-plugged-can-be-discarded s r c i l p =
+pub plugged-can-be-discarded : FromEveryGood PluggedCanBeDiscarded
+plugged-can-be-discarded s g c i l p =
     let w = s .world in
-    let f = facts-at s r in
-    let inside = plugged-inside s r i l p in
+    let f = facts-at s g in
+    let inside = g .inside i l p in
     let end = whole-block (blockSize w) (usable w) i (f .block-size) (f .usable-blocks) inside in
-    record { in-usable = inside; mapped = usable-mapped w (in-memory s r) f (i * blockSize w) (blockSize w) (omega (arith, f .block-size)) end (λ _. in-one (blockSize w) (f .block-size)) }
+    record { in-usable = inside; mapped = usable-mapped w (g .mapped) f (i * blockSize w) (blockSize w) (omega (arith, f .block-size)) end (λ _. in-one (blockSize w) (f .block-size)) }
   where
     in-one : (b : ℕ) → b ≡ 4194304 → i * b % mapRegion + b ≤ mapRegion
     in-one b e = rw e (omega arith)
@@ -193,10 +156,10 @@ fails w =
       one-ends = λ j status a g ok host o h l can e r. one-fails w j g ok host o h can r;
     }
 
-pub unplug-all-fails-by-host : InEveryRun UnplugAllFailsByHost
-unplug-all-fails-by-host s r c e responds =
+pub unplug-all-fails-by-host : FromEveryGood UnplugAllFailsByHost
+unplug-all-fails-by-host s g c e responds =
     let w = s .world in
-    each-way w (FailsByHost w) (fails w) c (plugged-can-be-discarded s r c) (rw (open-is s r) e) responds
+    each-way w (FailsByHost w) (fails w) c (plugged-can-be-discarded s g c) (rw (g .opened) e) responds
 
 -- ---- M18: a block is unplugged by what the driver asks for
 unplugged-by : (s : Story) (c : Call) (i : ℕ) → openOf (s .world .device .pending) ≡ s .«open» → IsUnplugged (step (s .world) c .world) i → Changed (s .world) c (step (s .world) c) i
@@ -206,10 +169,10 @@ unplugged-by s c i seen is (ByPlug b covers r p) = clash p is
 unplugged-by s c i seen is (ByHeldUnplug first count status q low high agrees p) = (ByOpenUnplug first count (sym seen ∙ ap openOf q) low high, agrees)
 unplugged-by s c i seen is (ByHeldAll status q agrees p) = (ByOpenUnplugAll i (sym seen ∙ ap openOf q), agrees)
 
-pub unplugged-by-request : InEveryRun UnpluggedByRequest
+pub unplugged-by-request : FromEveryGood UnpluggedByRequest
 unfolding next
-unplugged-by-request s r c there i was is =
-    unplugged-by s c i (open-is s r) is (changed (s .world) c (λ _. there) i (λ same. clash was (sym same ∙ is)))
+unplugged-by-request s g c there i was is =
+    unplugged-by s c i (g .opened) is (changed (s .world) c (λ _. there) i (λ same. clash was (sym same ∙ is)))
 
 -- ---- M18: what is asked of the host
 -- in a world where this is open
@@ -296,11 +259,11 @@ discards w =
       one-ends = λ j status a g ok host o h l. one-discards w j status a g ok host o h;
     }
 
-pub discards-by-request : InEveryRun DiscardsByRequest
+pub discards-by-request : FromEveryGood DiscardsByRequest
 unfolding next
-discards-by-request s r c offset size host e i low high =
+discards-by-request s g c offset size host e i low high =
     let w = s .world in
-    rw (open-is s r) at (each-way w (Discards w) (discards w) c offset size host e i (omega arith) (omega arith))
+    rw (g .opened) at (each-way w (Discards w) (discards w) c offset size host e i (omega arith) (omega arith))
 
 -- ---- M18: a creation lies outside of the usable region
 abbrev Creates : World → Call → Outcome → Type 0
@@ -315,6 +278,6 @@ outside w =
       one-ends = λ j status a g ok host o h l _ guest size slot e. absurd (l .no-creation guest size slot e);
     }
 
-pub creates-outside : InEveryRun CreatesOutside
+pub creates-outside : FromEveryGood CreatesOutside
 unfolding next
-creates-outside s r c guest size slot e = let w = s .world in each-way w (Creates w) (outside w) c (in-memory s r) guest size slot e
+creates-outside s g c guest size slot e = let w = s .world in each-way w (Creates w) (outside w) c (g .mapped) guest size slot e
