@@ -1,5 +1,4 @@
--- SPDX-License-Identifier: Apache-2.0 AND BSD-3-Clause
--- The planner and the device over every run: each theorem of the crate `driving`, at a point that a run led to.
+-- The planner and the device over every run: each theorem of the crate `driving`, in a good story.
 use Prim.Native.Nat.{ℕ, zero, suc, _+_, _-_, _≤_, _<_}
 use mathlib.Core.Path.{_≡_, refl, ap, _∙_, sym}
 use mathlib.Core.Bool.{true}
@@ -23,7 +22,7 @@ use Rattle.driving.proofs.Acks.{plan-is, acknowledged, one-acknowledged}
 use Rattle.driving.proofs.Exact.{none-acknowledged}
 use Rattle.driving.proofs.Settles.{only-17, stays, gets-there, drive-keeps, step-drives}
 use Rattle.history.specs.History.{Story, next, after}
-use Rattle.history.specs.Rules.{InEveryRun}
+use Rattle.history.specs.Rules.{FromEveryGood}
 use Rattle.history.proofs.Cases.{plug-cases}
 use Rattle.standard.specs.Requests.{Responds, responseOf, Hears, «VIRTIO_MEM_RESP_ACK»}
 use Rattle.standard.proofs.Requests.{to-plug}
@@ -33,10 +32,10 @@ use Rattle.driving_runs.specs.Runs.{ProposalAcknowledged, NothingToPlug,
 use Rattle.driving_runs.proofs.Ready.{ready-in-run, ready-and-counted}
 
 -- ---- what is proposed is acknowledged
-pub run-acknowledges : InEveryRun ProposalAcknowledged
-run-acknowledges s reached c t addr count e =
+pub run-acknowledges : FromEveryGood ProposalAcknowledged
+run-acknowledges s good c t addr count e =
     let w = s .world in
-    let r = ready-in-run s reached t in (
+    let r = ready-in-run s good t in (
       (λ a. let q = ap (step w) (a .is-request) in rw q (acknowledged w r addr count e (a .guest) (a .descriptors) (a .head) (a .status) (a .reads))),
       λ a. let q = ap (step w) (a .is-request) in rw q (one-acknowledged w r addr count e (a .guest) (a .descriptors) (a .head) (a .status) (a .reads)),
     )
@@ -71,11 +70,11 @@ few-enough w r addr n e =
     let per : blocksIn (blockSize w) mapRegion ≡ 512 = rw bsz in
     omega (arith, per, p .count-is, count-few (blockSize w) (usable w) (plugged w) (requested w) (w .blocks) (p .first) (omega arith))
 
-pub run-17-exactly : InEveryRun SeventeenExactly
+pub run-17-exactly : FromEveryGood SeventeenExactly
 unfolding responseOf
-run-17-exactly s reached c t =
+run-17-exactly s good c t =
     let w = s .world in
-    let r = ready-in-run s reached t in
+    let r = ready-in-run s good t in
     record {
       says = λ e call addr a k.
           let q = ap (step w) (a .is-request) in
@@ -154,16 +153,16 @@ unfolding after Follows drives
 plugs-of zero s r c = record { plugs = []; follow = tt; at-most = omega arith; lead = refl }
 plugs-of (suc k) s r c = one-more k s r c (plugs-of k) (planned (s .world)) refl
 
-pub run-gets-there : InEveryRun PlannerGetsThere
-run-gets-there s reached c t =
-    let h = ready-and-counted s reached c t in
+pub run-gets-there : FromEveryGood PlannerGetsThere
+run-gets-there s good c t =
+    let h = ready-and-counted s good c t in
     let p = plugs-of (freeRuns (s .world)) s (h .0) (h .1) in
     record { plugs = p .plugs; follow = p .follow; at-most = p .at-most; there = rw (p .lead) (gets-there (freeRuns (s .world)) (s .world) (h .0) (h .1) (omega arith)) }
 
-pub run-gets-nowhere-else : InEveryRun FollowingGetsThere
-run-gets-nowhere-else s reached c t plugs f =
+pub run-gets-nowhere-else : FromEveryGood FollowingGetsThere
+run-gets-nowhere-else s good c t plugs f =
     let w = s .world in
-    let h = ready-and-counted s reached c t in
+    let h = ready-and-counted s good c t in
     let k : ℕ = freeRuns w in
     let n : ℕ = length plugs in
     let there = gets-there k w (h .0) (h .1) (omega arith) in
