@@ -14,13 +14,15 @@ use Rattle.record.specs.Changes.{configWith, configTo}
 use Rattle.record.proofs.Laws.{Parts, parts, shaped-is}
 use Rattle.step.specs.World.{World, Call, worldOf}
 use Rattle.history.specs.History.{Event, Story, next, after, Told}
+use Rattle.history.specs.Good.{Good}
 use Rattle.history.specs.Reached.{marked, counted, Restores, afterRestore, restored, Reached, by-restore}
 use Rattle.history.proofs.Shaped.{idle-nothing}
 use Rattle.history.proofs.Invariant.{Inv}
 use Rattle.history.proofs.Restored.{inv-restored}
 use Rattle.history.proofs.Observer.{openOf, sees}
 use Rattle.history.proofs.Calls.{each-call}
-use Rattle.history.proofs.Demand3.{Kept, kept}
+use Rattle.history.proofs.Keeps.{Kept, kept}
+use Rattle.history.proofs.Good.{good-restored}
 use Rattle.runs.specs.Runs.{Run, runsOf, Apart, total, laidOn}
 use Rattle.runs.proofs.Spread.{runs-inside, runs-laid, runs-ones}
 use Rattle.save.specs.declared.Fields.{Fields}
@@ -47,6 +49,9 @@ told-after s o h (c ∷ cs) =
 -- a run that led to a world goes on from a restore of it
 continues : (s : Story) → Reached s → (w : World) (requested : ℕ) (plugs : List Event) → s .world ≡ w → Restores w requested plugs → Reached (restored w requested plugs)
 continues s reached w requested plugs e l = let here : Restores (s .world) requested plugs = rw e l in rw e at (by-restore reached here)
+
+stays : (s : Story) → Good s → (w : World) (requested : ℕ) (plugs : List Event) → s .world ≡ w → Restores w requested plugs → Good (restored w requested plugs)
+stays s good w requested plugs e l = let here : Restores (s .world) requested plugs = rw e l in rw e at (good-restored s requested plugs good here)
 
 size-of : (f : Fields) → shapeOk f ≡ true → sizeOk (f .block) (f .requested) (f .region) ≡ true
 unfolding configShapedOf
@@ -137,6 +142,7 @@ module _ (d d′ : Device) (text bitmap bitmap′ table : List ℕ) (r : Restori
         restores = is-restore;
         leads = is-after;
         goes-on = λ s reached e. rw same (continues s reached w requested plugs e is-restore);
+        stays-good = λ s good e. rw same (stays s good w requested plugs e is-restore);
         told = λ cs. rw same (told-after (starts (afterRestore w requested plugs) plugs) (rw waits) (inv-restored w requested is-shaped plugs is-restore) cs);
       }
 

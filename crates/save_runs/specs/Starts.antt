@@ -7,6 +7,7 @@ use Rattle.record.specs.declared.Device.{Device}
 use Rattle.step.specs.World.{World, Call, worldOf}
 use Rattle.history.specs.History.{Event, PlugAck, NoRequest, Story, after, Told}
 use Rattle.history.specs.Reached.{Restores, afterRestore, Reached}
+use Rattle.history.specs.Good.{Good}
 use Rattle.runs.specs.Runs.{Run, runsOf}
 use Rattle.saving.specs.Restoring.{Restoring}
 
@@ -24,8 +25,9 @@ pub record StartsWith (w : World) (requested : ℕ) (plugs : List Event) (w′ :
   -- it is a restore as the crate `history` has it
   pub restores : Restores w requested plugs
   pub leads : w′ ≡ afterRestore w requested plugs
-  -- so a run that has led to w goes on, with all that is proved of runs
+  -- so a run that has led to w goes on, and what was good stays good, with all that is proved of either
   pub goes-on : (s : Story) → Reached s → s .world ≡ w → Reached (starts w′ plugs)
+  pub stays-good : (s : Story) → Good s → s .world ≡ w → Good (starts w′ plugs)
   -- and demand 3 holds from there on after any calls, none included, whatever led to w
   pub told : (cs : List Call) → let s = after (starts w′ plugs) cs in Told (s .world) (s .events)
 
