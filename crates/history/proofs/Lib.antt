@@ -17,5 +17,6 @@ pub mod Whole
 pub mod HostCalls
 pub mod Questions
 pub mod Refusals
+pub mod Runs
 pub mod Example
 pub mod Newly

@@ -1,7 +1,7 @@
 -- The sizes: 12 never appears in a run, an unplug-all takes off what was counted, the usable size never shrinks, only a size change moves the requested size, and a plug never takes the plugged size past it.
 use Prim.Native.Nat.{ℕ, _+_, _*_, _≤_}
 use mathlib.Core.Path.{_≡_, refl, ap}
-use mathlib.Core.Bool.{Bool, false}
+use mathlib.Core.Bool.{Bool, true, false}
 use mathlib.Core.List.{List}
 use native.Mathlib.Omega.{arith}
 use lib.Dec.{eqb}
@@ -9,8 +9,9 @@ use borrow.Author.Tests.{ne-eqb}
 use Rattle.step.specs.declared.Answer.{Answer}
 use Rattle.step.specs.declared.Answer.the-variants.{Refused, Wants, Sized, Unserved, Served, Done}
 use Rattle.step.specs.World.{World, Call, Outcome}
-use Rattle.step.specs.Step.{blockSize, usable, plugged, requested, regionBlocks}
+use Rattle.step.specs.Step.{blockSize, region, usable, plugged, requested, regionBlocks}
 use Rattle.history.specs.History.{Event}
+use Rattle.history.specs.Promises.{Moves, MovesSizes}
 use Rattle.history.specs.Rules.{FromEveryGood, FromEveryWorld, Never12, DiscardIsCounted, UsableNeverShrinks, isSizeChange, OnlySizeChangeMovesRequested, PlugWithinRequested}
 use Rattle.record.proofs.Laws.{Parts, whole as shaped-when}
 use Rattle.history.proofs.Shaped.{clash}
@@ -82,54 +83,53 @@ discard-is-counted s r c block status waits =
     let enough = are-counted (blockSize w) (plugged w) 1 _ _ (used-one (regionBlocks w) (w .blocks) block (rw waits at (h .asked))) (h .told .count) in
     omega arith
 
--- ---- the usable size never shrinks, only a size change moves the requested size, and a plug never takes the plugged size past it
-record Moved (w : World) (c : Call) (o : Outcome) : Type 0 where
-  pub not-shrunk : UsableNeverShrinks w c o
-  pub requested-kept : OnlySizeChangeMovesRequested w c o
-  pub within : PlugWithinRequested w c o
-
+-- ---- the sizes, of any call from any world
 abbrev IsMoved : World → Call → Outcome → List Event → Type 0
-IsMoved w c o new = Moved w c o
+IsMoved w c o new = Moves w c (o .world)
 
 -- an ending that plugs nothing and leaves the requested size as it is
-calm : (w : World) (c : Call) (o : Outcome) → usable w ≤ usable (o .world) → plugged (o .world) ≤ plugged w → requested (o .world) ≡ requested w → Moved w c o
-calm w c o u p r = record { not-shrunk = u; requested-kept = λ _. r; within = λ more. absurd (omega arith) }
+calm : (w : World) (c : Call) (w′ : World) → usable w ≤ usable w′ → plugged w′ ≤ plugged w → requested w′ ≡ requested w
+    → blockSize w′ ≡ blockSize w → region w′ ≡ region w → (w .device .placed ≡ true → w′ .device .placed ≡ true) → Moves w c w′
+calm w c w′ u p r b n there = record { plugs-within = omega arith; requested-stays = λ _. r; usable-grows = u; same-block-size = b; same-region = n; stays-placed = there }
 
 moved : (w : World) → Endings w (IsMoved w)
 unfolding isSizeChange
 moved w =
     record {
-      refuses = λ c n _ _. calm w c _ (omega arith) (omega arith) refl;
-      reads = λ offset buffer bytes. calm w _ _ (omega arith) (omega arith) refl;
-      writes = λ offset buffer. calm w _ _ (omega arith) (omega arith) refl;
-      unserves = λ a reason. calm w _ _ (omega arith) (omega arith) refl;
-      responds = λ a resp. calm w _ _ (omega arith) (omega arith) refl;
-      plugs-range = λ a addr count first offset fits _. record { not-shrunk = omega arith; requested-kept = λ _. refl; within = λ more. fits };
-      asks-range = λ a addr count first offset host _ _ _. calm w _ _ (omega arith) (omega arith) refl;
-      spoils = λ a addr count first offset _ _. calm w _ _ (omega arith) (omega arith) refl;
-      ends-at-once = λ a r. calm w _ _ (omega arith) (omega arith) refl;
-      asks-first = λ a block offset host r _. calm w _ _ (omega arith) (omega arith) refl;
-      stops-at-once = λ a. calm w _ _ (omega arith) (omega arith) refl;
-      maps = λ i last a. calm w _ _ (omega arith) (omega arith) refl;
-      create-fails = λ i last a. calm w _ _ (omega arith) (omega arith) refl;
-      unplugs-range = λ first count status a. calm w _ _ (omega arith) (omega arith) refl;
-      discard-fails = λ first count status a. calm w _ _ (omega arith) (omega arith) refl;
-      ends-all = λ j status a r. calm w _ _ (omega arith) (omega arith) refl;
-      asks-next = λ j status a block offset host r _. calm w _ _ (omega arith) (omega arith) refl;
-      stops-after = λ j status a. calm w _ _ (omega arith) (omega arith) refl;
-      one-fails = λ j status a. calm w _ _ (omega arith) (omega arith) refl;
-      resizes = λ a. record { not-shrunk = omega arith; requested-kept = λ e. clash refl e; within = λ more. absurd (omega arith) };
-      resize-asks = λ a i last size _. record { not-shrunk = omega arith; requested-kept = λ e. clash refl e; within = λ more. absurd (omega arith) };
-      places = λ a. calm w _ _ (omega arith) (omega arith) refl;
-      place-asks = λ a i last size _. calm w _ _ (omega arith) (omega arith) refl;
-      place-asks-whole = λ a _. calm w _ _ (omega arith) (omega arith) refl;
+      refuses = λ c n _ _. calm w c _ (omega arith) (omega arith) refl refl refl (λ p. p);
+      reads = λ offset buffer bytes. calm w _ _ (omega arith) (omega arith) refl refl refl (λ p. p);
+      writes = λ offset buffer. calm w _ _ (omega arith) (omega arith) refl refl refl (λ p. p);
+      unserves = λ a reason. calm w _ _ (omega arith) (omega arith) refl refl refl (λ p. p);
+      responds = λ a resp. calm w _ _ (omega arith) (omega arith) refl refl refl (λ p. p);
+      plugs-range = λ a addr count first offset fits _. record { plugs-within = omega arith; requested-stays = λ _. refl; usable-grows = omega arith; same-block-size = refl; same-region = refl; stays-placed = λ p. p };
+      asks-range = λ a addr count first offset host _ _ _. calm w _ _ (omega arith) (omega arith) refl refl refl (λ p. p);
+      spoils = λ a addr count first offset _ _. calm w _ _ (omega arith) (omega arith) refl refl refl (λ p. p);
+      ends-at-once = λ a r. calm w _ _ (omega arith) (omega arith) refl refl refl (λ p. p);
+      asks-first = λ a block offset host r _. calm w _ _ (omega arith) (omega arith) refl refl refl (λ p. p);
+      stops-at-once = λ a. calm w _ _ (omega arith) (omega arith) refl refl refl (λ p. p);
+      maps = λ i last a. calm w _ _ (omega arith) (omega arith) refl refl refl (λ _. refl);
+      create-fails = λ i last a. calm w _ _ (omega arith) (omega arith) refl refl refl (λ p. p);
+      unplugs-range = λ first count status a. calm w _ _ (omega arith) (omega arith) refl refl refl (λ p. p);
+      discard-fails = λ first count status a. calm w _ _ (omega arith) (omega arith) refl refl refl (λ p. p);
+      ends-all = λ j status a r. calm w _ _ (omega arith) (omega arith) refl refl refl (λ p. p);
+      asks-next = λ j status a block offset host r _. calm w _ _ (omega arith) (omega arith) refl refl refl (λ p. p);
+      stops-after = λ j status a. calm w _ _ (omega arith) (omega arith) refl refl refl (λ p. p);
+      one-fails = λ j status a. calm w _ _ (omega arith) (omega arith) refl refl refl (λ p. p);
+      resizes = λ a. record { plugs-within = omega arith; requested-stays = λ e. clash refl e; usable-grows = omega arith; same-block-size = refl; same-region = refl; stays-placed = λ _. refl };
+      resize-asks = λ a i last size _. record { plugs-within = omega arith; requested-stays = λ e. clash refl e; usable-grows = omega arith; same-block-size = refl; same-region = refl; stays-placed = λ p. p };
+      places = λ a. calm w _ _ (omega arith) (omega arith) refl refl refl (λ _. refl);
+      place-asks = λ a i last size _. calm w _ _ (omega arith) (omega arith) refl refl refl (λ p. p);
+      place-asks-whole = λ a _. calm w _ _ (omega arith) (omega arith) refl refl refl (λ p. p);
     }
 
+pub moves : FromEveryWorld MovesSizes
+moves w c = each-call w (IsMoved w) (moved w) c
+
 pub usable-never-shrinks : FromEveryWorld UsableNeverShrinks
-usable-never-shrinks w c = each-call w (IsMoved w) (moved w) c .not-shrunk
+usable-never-shrinks w c = moves w c .usable-grows
 
 pub only-size-change-moves-requested : FromEveryWorld OnlySizeChangeMovesRequested
-only-size-change-moves-requested w c = each-call w (IsMoved w) (moved w) c .requested-kept
+only-size-change-moves-requested w c = moves w c .requested-stays
 
 pub plug-within-requested : FromEveryWorld PlugWithinRequested
-plug-within-requested w c = each-call w (IsMoved w) (moved w) c .within
+plug-within-requested w c more = omega (arith, moves w c .plugs-within)

@@ -4,3 +4,5 @@ pub mod Good
 pub mod Rules
 pub mod Questions
 pub mod Refusals
+pub mod Promises
+pub mod Runs
