@@ -24,11 +24,12 @@ use Rattle.driving.proofs.Settles.{only-17, stays, gets-there, drive-keeps, ste
 use Rattle.history.specs.History.{Story, next, after}
 use Rattle.history.specs.Rules.{FromEveryGood}
 use Rattle.history.proofs.Cases.{plug-cases}
+use Rattle.history.proofs.Good.{in-every-run}
 use Rattle.standard.specs.Requests.{Responds, responseOf, Hears, «VIRTIO_MEM_RESP_ACK»}
 use Rattle.standard.proofs.Requests.{to-plug}
 use Rattle.in_parts.specs.InParts.{plugRequest, Askable}
 use Rattle.in_parts.proofs.Asking.{any-up-to-65535}
-use Rattle.driving_runs.specs.Runs.{ProposalAcknowledged, NothingToPlug, SeventeenExactly, Proposed, Follows, PlannerGetsThere, FollowingGetsThere}
+use Rattle.driving_runs.specs.Runs.{ReadyAndCounted, ProposalAcknowledged, NothingToPlug, SeventeenExactly, Proposed, Follows, PlannerGetsThere, FollowingGetsThere, PlannerInRuns}
 use Rattle.driving_runs.proofs.Ready.{ready-in-run, ready-and-counted}
 
 -- ---- what is proposed is acknowledged
@@ -174,4 +175,15 @@ run-gets-nowhere-else s good c t plugs f =
           let q : k ≡ n + (k - n) = omega arith in
           let same : drives k w ≡ drives n w = ap (λ (m : ℕ). drives m w) q ∙ drives-add n (k - n) w ∙ stays (k - n) (drives n w) (rw leads at e) in
           rw (leads, ← same) there;
+    }
+
+-- ---- in every run
+pub planner-in-runs : PlannerInRuns
+planner-in-runs =
+    record {
+      ready-and-counted = in-every-run ReadyAndCounted ready-and-counted;
+      acknowledges = in-every-run ProposalAcknowledged run-acknowledges;
+      seventeen-exactly = in-every-run SeventeenExactly run-17-exactly;
+      gets-there = in-every-run PlannerGetsThere run-gets-there;
+      nowhere-else = in-every-run FollowingGetsThere run-gets-nowhere-else;
     }

@@ -1,5 +1,4 @@
--- SPDX-License-Identifier: Apache-2.0 AND BSD-3-Clause
--- The planner and the device, in every run (R14.9 to R14.11): what it proposes is acknowledged, 17 says that nothing can be plugged, and it gets there. The planner has the device's config and bitmap; guest memory is any that holds the chain.
+-- The planner and the device, in every good story and so in every run (02, request 3): what it proposes is acknowledged, 17 says that nothing can be plugged, and it gets there. The planner has the device's config and bitmap; guest memory is any that holds the chain.
 use Prim.Native.Nat.{ℕ, _≤_}
 use mathlib.Core.Path.{_≡_}
 use mathlib.Core.Bool.{true}
@@ -12,6 +11,7 @@ use Rattle.step.specs.Step.{step}
 use Rattle.driver.specs.declared.Proposal.the-variants.{Plug, Refused}
 use Rattle.driving.specs.Sound.{Ready, Acknowledged, planned, Counted, There, freeRuns}
 use Rattle.history.specs.History.{Story, after}
+use Rattle.history.specs.Rules.{InEveryRun}
 use Rattle.standard.specs.Requests.{Responds, «VIRTIO_MEM_RESP_ACK»}
 use Rattle.in_parts.specs.InParts.{Asks}
 
@@ -75,3 +75,11 @@ pub record NowhereElse (s : Story) (plugs : List Call) : Type 0 where
 
 abbrev pub FollowingGetsThere : Story → Call → Type 0
 FollowingGetsThere s c = TakesRequests (s .world) → (plugs : List Call) → Follows (s .world) plugs → NowhereElse s plugs
+
+-- ---- all of it, in every run from a newly made device on
+pub record PlannerInRuns : Type 0 where
+  pub ready-and-counted : InEveryRun ReadyAndCounted
+  pub acknowledges : InEveryRun ProposalAcknowledged
+  pub seventeen-exactly : InEveryRun SeventeenExactly
+  pub gets-there : InEveryRun PlannerGetsThere
+  pub nowhere-else : InEveryRun FollowingGetsThere

@@ -34,17 +34,18 @@ use Rattle.history.specs.Rules.{FromEveryGood, Whole, isPlace}
 use Rattle.history.proofs.Shaped.{clash}
 use Rattle.history.proofs.Cases.{plug-cases}
 use Rattle.history.proofs.Observer.{openOf}
+use Rattle.history.proofs.Good.{in-every-run}
 use Rattle.history.proofs.Sizes.{never-12}
 use Rattle.history.proofs.Whole.{whole-or-not-at-all}
-use Rattle.standard.specs.Config.{Constant}
+use Rattle.standard.specs.Config.{Constant, FieldsLaidOut, PluggedSizeIsOfBlocks, OutsideIsUnplugged}
 use Rattle.standard.specs.Requests.{Responds, responseOf, among, AsksFor, CanDiscard, IsPlugged, IsUnplugged, Covers, sizeOf, offsetOf, Hears, CanUnplug, Unplug, UnplugsFrom, AsksLowest, OneAnswered, Awaits, «VIRTIO_MEM_REQ_UNPLUG», «VIRTIO_MEM_RESP_ACK», «VIRTIO_MEM_RESP_ERROR»}
-use Rattle.standard.specs.Runs.{UsableIsMapped, FreeBlocksPlug, PluggedBlocksUnplug, NonePlugged, UnplugAllAcknowledged, PluggedCanBeDiscarded, UnplugAllFailsByHost, AsksToUnplug, ByUnplug, ByUnplugAll, ByOpenUnplug, ByOpenUnplugAll, hostAgrees, UnpluggedByRequest, DiscardsByRequest, CreatesOutside}
-use Rattle.standard.proofs.Config.{constant-fields, facts-at}
+use Rattle.standard.specs.Runs.{UsableIsMapped, FreeBlocksPlug, PluggedBlocksUnplug, NonePlugged, UnplugAllAcknowledged, PluggedCanBeDiscarded, UnplugAllFailsByHost, AsksToUnplug, ByUnplug, ByUnplugAll, ByOpenUnplug, ByOpenUnplugAll, hostAgrees, UnpluggedByRequest, DiscardsByRequest, CreatesOutside, ClausesInRuns}
+use Rattle.standard.proofs.Config.{constant-fields, facts-at, fields-laid-out, plugged-size-is-of-blocks}
 use Rattle.standard.proofs.Requests.{whole-block, plug-standard, unplug-standard, unplug-all-standard, unknown-unserved, to-plug, to-state}
 use Rattle.standard.proofs.EveryCall.{speaks, CreatesPast, leaf-unplug, Ways, each-way}
 use Rattle.standard.proofs.Memory.{usable-mapped}
 use Rattle.standard.proofs.Responses.{by-type, mute}
-use Rattle.standard.proofs.Changed.{Changed, ByPlug, ByUnplug as ByHeldUnplug, ByUnplugAll as ByHeldAll, changed, all-same}
+use Rattle.standard.proofs.Changed.{Changed, ByPlug, ByUnplug as ByHeldUnplug, ByUnplugAll as ByHeldAll, changed, all-same, outside-is-unplugged}
 
 -- ---- M11, M14: the host has memory for the usable region
 pub usable-is-mapped : FromEveryGood UsableIsMapped
@@ -281,3 +282,21 @@ outside w =
 pub creates-outside : FromEveryGood CreatesOutside
 unfolding next
 creates-outside s g c guest size slot e = let w = s .world in each-way w (Creates w) (outside w) c (g .mapped) guest size slot e
+
+-- ---- in every run
+pub clauses-in-runs : ClausesInRuns
+clauses-in-runs =
+    record {
+      fields-laid-out = in-every-run FieldsLaidOut fields-laid-out;
+      plugged-size-is-of-blocks = in-every-run PluggedSizeIsOfBlocks plugged-size-is-of-blocks;
+      outside-is-unplugged = in-every-run OutsideIsUnplugged outside-is-unplugged;
+      usable-is-mapped = in-every-run UsableIsMapped usable-is-mapped;
+      free-blocks-plug = in-every-run FreeBlocksPlug free-blocks-plug;
+      plugged-blocks-unplug = in-every-run PluggedBlocksUnplug plugged-blocks-unplug;
+      unplug-all-acknowledged = in-every-run UnplugAllAcknowledged unplug-all-acknowledged;
+      plugged-can-be-discarded = in-every-run PluggedCanBeDiscarded plugged-can-be-discarded;
+      unplug-all-fails-by-host = in-every-run UnplugAllFailsByHost unplug-all-fails-by-host;
+      unplugged-by-request = in-every-run UnpluggedByRequest unplugged-by-request;
+      discards-by-request = in-every-run DiscardsByRequest discards-by-request;
+      creates-outside = in-every-run CreatesOutside creates-outside;
+    }

@@ -1,5 +1,4 @@
--- SPDX-License-Identifier: Apache-2.0 AND BSD-3-Clause
--- What Virtio 1.2 asks in every run, which starts at a newly made device and goes on by calls and restores: M11, M14, M15 and M18, where a run says more than a world alone. The names M11, Q9, .. are clauses of sections 5.15 and 2.7, retold and numbered in docs/STANDARD.md. M5 and M6 are in Config.antt.
+-- What Virtio 1.2 asks of every good story, and so of every run, which starts at a newly made device and goes on by calls and restores: M11, M14, M15 and M18, where a run says more than a world alone. The names M11, Q9, .. are clauses of sections 5.15 and 2.7, retold and numbered in docs/STANDARD.md. M5 and M6 are in Config.antt.
 use Prim.Native.Nat.{ℕ, _+_, _*_, _%_, _≤_, _<_}
 use mathlib.Core.Path.{_≡_}
 use mathlib.Core.Bool.{Bool, true, false}
@@ -14,6 +13,8 @@ use Rattle.record.specs.declared.HostCall.the-variants.{Create, Discard}
 use Rattle.step.specs.World.{World, Guest, Call, Place, SetRequestedSize, Request, HostAnswer, ReadConfig, WriteConfig, Outcome}
 use Rattle.step.specs.Step.{step, blockSize, start, several, usable, plugged, requested, regionBlocks}
 use Rattle.history.specs.History.{Open, Unplugging, UnpluggingAll, UnplugAllAck, acknowledges, used, Story, next}
+use Rattle.history.specs.Rules.{InEveryRun}
+use Rattle.standard.specs.Config.{FieldsLaidOut, PluggedSizeIsOfBlocks, OutsideIsUnplugged}
 use Rattle.standard.specs.Requests.{Responds, AsksFor, IsPlugged, IsUnplugged, Covers, Valid, sizeOf, offsetOf, OneMapping, Brings, CanDiscard, «VIRTIO_MEM_REQ_PLUG», «VIRTIO_MEM_REQ_UNPLUG», «VIRTIO_MEM_REQ_UNPLUG_ALL», «VIRTIO_MEM_RESP_ACK», «VIRTIO_MEM_RESP_ERROR»}
 
 -- ---- M11, M14: in a run the host has memory for the whole usable region. What is narrower is that a request may not cross a border: with several regions each 2 GiB of offsets are a map region
@@ -87,3 +88,18 @@ DiscardsByRequest s c = (offset : RegionOffset) (size : ℕ) (host : HostAddr) �
 -- a creation touches none either: it begins at the end of the usable region or past it, where no block is plugged (M6)
 abbrev pub CreatesOutside : Story → Call → Type 0
 CreatesOutside s c = (guest : GuestAddr) (size slot : ℕ) → AsksFor (step (s .world) c) (Create guest size slot) → start (next s c .world) + usable (s .world) ≤ guest .0
+
+-- ---- all of it, in every run from a newly made device on
+pub record ClausesInRuns : Type 0 where
+  pub fields-laid-out : InEveryRun FieldsLaidOut
+  pub plugged-size-is-of-blocks : InEveryRun PluggedSizeIsOfBlocks
+  pub outside-is-unplugged : InEveryRun OutsideIsUnplugged
+  pub usable-is-mapped : InEveryRun UsableIsMapped
+  pub free-blocks-plug : InEveryRun FreeBlocksPlug
+  pub plugged-blocks-unplug : InEveryRun PluggedBlocksUnplug
+  pub unplug-all-acknowledged : InEveryRun UnplugAllAcknowledged
+  pub plugged-can-be-discarded : InEveryRun PluggedCanBeDiscarded
+  pub unplug-all-fails-by-host : InEveryRun UnplugAllFailsByHost
+  pub unplugged-by-request : InEveryRun UnpluggedByRequest
+  pub discards-by-request : InEveryRun DiscardsByRequest
+  pub creates-outside : InEveryRun CreatesOutside
