@@ -25,6 +25,7 @@ use Rattle.record.specs.Changes.{requestedTo}
 use Rattle.resize.specs.declared.Growth.the-variants.{Asks}
 use Rattle.resize.specs.Resize.{growthOf}
 use Rattle.step.specs.declared.Answer.the-variants.{Done}
+use Rattle.step.specs.Answers.{refusal, response}
 use Rattle.step.specs.World.{World, Guest, Call, Place, SetRequestedSize, Request, HostAnswer, ReadConfig, WriteConfig, Outcome}
 use Rattle.step.specs.Step.{blockSize, region, usable, plugged, requested, several, regionBlocks, regionRows, deviceOf, newUsable}
 use Rattle.step.specs.Step.{refused, unserved, served, plugs, asksDiscard, unplugs, stops, asksOne, cleared, endsAll, sizes, asksCreate, creates, createFails, placed, coveredBy}
@@ -141,7 +142,7 @@ module _ (w : World) (K : Call → Outcome → List Event → Type 0) (k : Endin
 
   of-place : (at size : ℕ) (slots : List ℕ) (bs : List Bool) (rows : List MapRow) → w .device .placed ≡ false → Entered (w .device) (length bs) (length rows) true
       → With (Place at size slots bs rows) [] [] (place w at size slots bs rows)
-  unfolding ifAck unlessRefused lentBytes
+  unfolding response refusal lentBytes
   of-place at size slots bs rows p e =
       let c = Place at size slots bs rows in
       place-cases (With c [] []) w at size slots bs rows
@@ -152,7 +153,7 @@ module _ (w : World) (K : Call → Outcome → List Event → Type 0) (k : Endin
       placing-cases (With c [] []) (placed w at slots bs rows) (k .places a) (λ i last m r. k .place-asks a i last m r) (λ r. k .place-asks-whole a r))
 
   of-size : (mib : ℕ) → w .device .placed ≡ true → Entered (w .device) (length (w .blocks)) (length (w .rows)) true → With (SetRequestedSize mib) [] [] (setRequestedSize w mib)
-  unfolding ifAck unlessRefused lentBytes
+  unfolding response refusal lentBytes
   of-size mib p e =
       let c = SetRequestedSize mib in
       size-cases (With c [] []) w mib
@@ -170,12 +171,12 @@ module _ (w : World) (K : Call → Outcome → List Event → Type 0) (k : Endin
 
     -- a response that acknowledges nothing
     of-response : (status : ℕ) (resp : VirtioMemResp) → With c [] [] (served resp status w g)
-    unfolding ifAck unlessRefused
+    unfolding response refusal
     of-response status resp = simp cond-same (k .responds (asking status _ refl) resp)
 
     of-serve : (req : VirtioMemReq) (status : ℕ) → typeOf (parsed (g .mem) (g .base) descriptors head) ≡ some (req .«req_type»)
         → With c (ackToType w req) [] (serve w req status g)
-    unfolding ackToType ifAck unlessRefused lentBytes
+    unfolding ackToType response refusal lentBytes
     of-serve req status q =
         let s = e .is-shaped in
         let addr = req .addr .0 in
@@ -198,13 +199,13 @@ module _ (w : World) (K : Call → Outcome → List Event → Type 0) (k : Endin
         (k .unserves (asking status _ q) 0)
 
     of-request : (chain : Parsed) → parsed (g .mem) (g .base) descriptors head ≡ chain → With c (ackToRequest w chain) [] (request chain w g)
-    unfolding request ackToRequest ifAck unlessRefused typeOf
+    unfolding request ackToRequest response refusal typeOf
     of-request (Bad reason) q = k .unserves (asking 0 _ refl) reason
     of-request (Got req status) q = of-serve req (status .0) (ap typeOf q)
 
   of-answer : (p : Pending) (ok : Bool) (a : Answering w p ok)
       → With (answerOf a) (acknowledges w (openOf p) (answerOf a)) (reports (openOf p) (answerOf a)) (hostAnswer p w (a .guest) ok (a .host))
-  unfolding hostAnswer openOf acknowledges ackToHost reports discardOf ifAck unlessRefused lentBytes
+  unfolding hostAnswer openOf acknowledges ackToHost reports discardOf response refusal lentBytes
   of-answer Nothing true a = k .refuses (answerOf a) 8 (λ z. omega arith) (λ z. absurd (omega arith))
   of-answer Nothing false a = k .refuses (answerOf a) 8 (λ z. omega arith) (λ z. absurd (omega arith))
   of-answer (Create i last) true a =
@@ -221,7 +222,7 @@ module _ (w : World) (K : Call → Outcome → List Event → Type 0) (k : Endin
   of-answer (DiscardOne j status) false a = k .one-fails j status a
 
   pub each-call : (c : Call) → K c (step w c) (eventsOf w (openOf (w .device .pending)) c (step w c .answer))
-  unfolding step eventsOf acknowledges reports ifAck unlessRefused lentBytes
+  unfolding step eventsOf acknowledges reports response refusal lentBytes
   each-call (Place at size slots bs rows) =
       let c = Place at size slots bs rows in
       on-unplaced (With c [] []) w [] _ (λ n. k .refuses c n) (length bs) (length rows) (λ p e. of-place at size slots bs rows p e)

@@ -21,10 +21,10 @@ use Rattle.resize.specs.Resize.{newSize, growthOf}
 use Rattle.change.specs.Change.{insideOf, rangeOf, hostSum, hostIn, hostOf, legalAt, changeIn, stateIn, stateOf}
 use Rattle.step.specs.declared.Answer.{Answer}
 use Rattle.step.specs.declared.Answer.the-variants.{Wants, Sized}
-use Rattle.step.specs.Answers.{servedWith}
+use Rattle.step.specs.Answers.{servedWith, refusal, response}
 use Rattle.step.specs.World.{World, Guest, Call, Place, SetRequestedSize, Request, HostAnswer}
 use Rattle.step.specs.Step.{tablesFit, readyRefusal, unplacedRefusal, pendingRefusal, rangeRefusal, unless, plugAs, plug, unplugAs, oneAs, nextAs, stateType, serve, request, resizes, placing, place, setRequestedSize, hostAnswer, step, plugged, respond}
-use Rattle.history.specs.History.{Event, PlugAck, UnplugAck, Discarded, UnplugAllAck, ackToType, ackToRequest, ackToHost, acknowledges, discardOf, reports, ifAck, unlessRefused, eventsOf, openedByType, openedByRequest, goesOn, openedBy, askedBy, openAfter, Story, next, after, Fresh, begun, wasPlug, used}
+use Rattle.history.specs.History.{Event, PlugAck, UnplugAck, Discarded, UnplugAllAck, ackToType, ackToRequest, ackToHost, acknowledges, discardOf, reports, eventsOf, openedByType, openedByRequest, goesOn, openedBy, askedBy, openAfter, Story, next, after, Fresh, begun, wasPlug, used}
 use Rattle.history.specs.Reached.{marks, counts, could, marked, counted, allCould, allPlugs, Restores, restored}
 
 -- capacity_mib=256 requested_mib=16 multi=0 node=none boot=1073741824
@@ -175,7 +175,7 @@ pub record Example : Type 0 where
   pub resumed-counted : ones (used (after resumed on-with .world)) ≡ 2
 
 pub example : Example
-unfolding device chainTo chain place-it calls more again saved resumed on-with answers mapRegions every fill firstOf ones value littleEndian part put requestAt responseBytes virtqDesc descriptorAt descriptorAddr inside linkAt linkAfter withSecond withFirst parsed reaches delivered mappingOf fillRows laid alignmentOk regionOk sizeOk spanOf startOk severalOk pendingOk shapedOf newSize growthOf insideOf rangeOf hostSum hostIn hostOf legalAt changeIn stateIn stateOf tablesFit readyRefusal unplacedRefusal pendingRefusal rangeRefusal unless plugAs plug unplugAs oneAs nextAs stateType serve request resizes placing place setRequestedSize hostAnswer step ackToType ackToRequest ackToHost acknowledges discardOf reports ifAck unlessRefused eventsOf openedByType openedByRequest goesOn openedBy askedBy openAfter next after wasPlug marks counts could marked counted allCould allPlugs
+unfolding device chainTo chain place-it calls more again saved resumed on-with answers mapRegions every fill firstOf ones value littleEndian part put requestAt responseBytes virtqDesc descriptorAt descriptorAddr inside linkAt linkAfter withSecond withFirst parsed reaches delivered mappingOf fillRows laid alignmentOk regionOk sizeOk spanOf startOk severalOk pendingOk shapedOf newSize growthOf insideOf rangeOf hostSum hostIn hostOf legalAt changeIn stateIn stateOf tablesFit readyRefusal unplacedRefusal pendingRefusal rangeRefusal unless plugAs plug unplugAs oneAs nextAs stateType serve request resizes placing place setRequestedSize hostAnswer step ackToType ackToRequest ackToHost acknowledges discardOf reports response refusal eventsOf openedByType openedByRequest goesOn openedBy askedBy openAfter next after wasPlug marks counts could marked counted allCould allPlugs
 example =
     record {
       answered = refl;

@@ -9,9 +9,10 @@ use Rattle.record.specs.declared.Pending.{Pending}
 use Rattle.record.specs.declared.Pending.the-variants.{Nothing, Create, Discard, DiscardOne}
 use Rattle.record.specs.Shape.{isIdle}
 use Rattle.step.specs.declared.Answer.the-variants.{Refused}
+use Rattle.step.specs.Answers.{question, refusal}
 use Rattle.step.specs.World.{World, Call, Place, SetRequestedSize, Request, HostAnswer, ReadConfig, WriteConfig, Outcome}
 use Rattle.history.specs.History.{Event, next, after}
-use Rattle.history.specs.Rules.{FromEveryGood, FromEveryWorld, asks, taken, takes, waits, askedIn, takenIn, EachAskedAnswered, PendingStays, AsksWhatIsDue}
+use Rattle.history.specs.Rules.{FromEveryGood, FromEveryWorld, asks, takes, waits, askedIn, takenIn, EachAskedAnswered, PendingStays, AsksWhatIsDue}
 use Rattle.history.proofs.Shaped.{clash, idle-nothing}
 use Rattle.history.proofs.Calls.{Endings, each-call}
 
@@ -24,7 +25,7 @@ idle-waits (Discard first count status) e = clash e refl
 idle-waits (DiscardOne block status) e = clash e refl
 
 refused-takes : (c : Call) (n : ℕ) → (n ≡ 10 → ⊥) → takes c (Refused n) ≡ 0
-unfolding takes taken
+unfolding takes refusal
 refused-takes (Place at size slots blocks rows) n h = refl
 refused-takes (SetRequestedSize mib) n h = refl
 refused-takes (Request guest descriptors head) n h = refl
@@ -36,7 +37,7 @@ abbrev Balanced : World → Call → Outcome → List Event → Type 0
 Balanced w c o new = asks (o .answer) + waits (w .device .pending) ≡ takes c (o .answer) + waits (o .world .device .pending)
 
 balanced : (w : World) → Endings w (Balanced w)
-unfolding asks takes taken waits
+unfolding question takes refusal waits
 balanced w =
     let p = w .device .pending in
     record {
@@ -76,7 +77,7 @@ abbrev Stays : World → Call → Outcome → List Event → Type 0
 Stays w c o new = PendingStays w c o
 
 stays : (w : World) → Endings w (Stays w)
-unfolding asks takes taken
+unfolding question takes refusal
 stays w =
     let p = w .device .pending in
     record {

@@ -17,6 +17,7 @@ use Rattle.change.specs.declared.HostRange.the-variants.{At}
 use Rattle.change.specs.Change.{hostOf}
 use Rattle.step.specs.declared.Answer.{Answer}
 use Rattle.step.specs.declared.Answer.the-variants.{Wants}
+use Rattle.step.specs.Answers.{question}
 use Rattle.step.specs.World.{World, Call, Outcome}
 use Rattle.step.specs.Step.{blockSize, region, start, several}
 use Rattle.history.specs.History.{Event, openOf}
@@ -28,7 +29,7 @@ use Rattle.history.proofs.Calls.{Endings, each-call}
 -- ---- the questions
 -- an answer that is no question
 pub silent : {A : Type 0} (a : Answer) (call : HostCall) → asks a ≡ 0 → a ≡ Wants call → A
-unfolding asks
+unfolding question
 silent a call h e = let one : asks a ≡ 1 = ap asks e in absurd (omega arith)
 
 discard-asked : (w : World) (first count offset host : ℕ) (call : HostCall) → offset ≡ bytesOf (blockSize w) first
@@ -62,9 +63,9 @@ asks-none w c o none = record { is-pending = λ call e. silent (o .answer) call 
 asks-creation : (w : World) (c : Call) (o : Outcome) (guest : GuestAddr) (size slot : ℕ) → o .answer ≡ Wants (CreateCall guest size slot) → AsksForPending w c o → Question w c o
 asks-creation w c o guest size slot is p = record { is-pending = p; by-unplug = λ offset n host e. let z : _≡_ {A = ℕ} 0 1 = cc in absurd (omega arith) }
 
-question : (w : World) → Endings w (IsQuestion w)
-unfolding asks WaitsFor isUnplug isUnplugAll mayDiscard openOf
-question w =
+questions : (w : World) → Endings w (IsQuestion w)
+unfolding question WaitsFor isUnplug isUnplugAll mayDiscard openOf
+questions w =
     record {
       refuses = λ c n _ _. asks-none w c _ refl;
       reads = λ offset buffer bytes. asks-none w _ _ refl;
@@ -105,10 +106,10 @@ question w =
     }
 
 pub asks-for-pending : FromEveryWorld AsksForPending
-asks-for-pending w c = each-call w (IsQuestion w) (question w) c .is-pending
+asks-for-pending w c = each-call w (IsQuestion w) (questions w) c .is-pending
 
 pub only-unplugs-discard : FromEveryWorld OnlyUnplugsDiscard
-only-unplugs-discard w c = each-call w (IsQuestion w) (question w) c .by-unplug
+only-unplugs-discard w c = each-call w (IsQuestion w) (questions w) c .by-unplug
 
 pub only-open-unplugs-discard : FromEveryGood OnlyOpenUnplugsDiscard
 only-open-unplugs-discard s g c = rw (g .opened) at (only-unplugs-discard (s .world) c)

@@ -13,13 +13,14 @@ use Rattle.record.specs.declared.Pending.the-variants.{Nothing}
 use Rattle.record.specs.Changes.{pendingTo}
 use Rattle.record.specs.Shape.{shapedOf, isIdle, startOk}
 use Rattle.record.proofs.Laws.{Parts, whole as shaped-when, start-keeps}
-use Rattle.step.specs.declared.Answer.{Answer}
-use Rattle.step.specs.declared.Answer.the-variants.{Refused, Wants, Sized, Unserved, Served, Done}
+use Rattle.step.specs.declared.Answer.the-variants.{Refused, Wants, Sized}
+use Rattle.step.specs.Answers.{question, refusal}
 use Rattle.step.specs.World.{World, Guest, Call, Place, SetRequestedSize, Request, HostAnswer, ReadConfig, WriteConfig, Outcome}
 use Rattle.step.specs.Step.{region, several, regionBlocks, regionRows, deviceOf, asksCreate, createFails, placed, tablesFit, unplacedRefusal, rangeRefusal, unless, place, hostAnswer, step}
 use Rattle.step.proofs.Entry.{waits-when}
 use Rattle.history.specs.History.{Event}
-use Rattle.history.specs.Rules.{FromEveryWorld, isPlace, asks}
+use Rattle.history.specs.History.{present}
+use Rattle.history.specs.Rules.{FromEveryWorld, isPlace}
 use Rattle.history.specs.Refusals.{lentBytes, RefusedChangesNothing, TenIsCreationFailed, SizeChangeFailed, TenInSizeChange, PlacingFailed, TenInPlacing}
 use Rattle.history.proofs.Shaped.{clash, idle-nothing}
 use Rattle.history.proofs.Cases.{on-ready, on-unplaced, size-cases, resized-cases, place-cases, placing-cases}
@@ -28,14 +29,6 @@ use Rattle.history.proofs.KeepsShape.{stays-shaped}
 use Rattle.history.proofs.Questions.{silent}
 
 -- ---- one call
-unfoldable isRefused : Answer → Bool
-isRefused (Refused n) = true
-isRefused (Wants call) = false
-isRefused Sized = false
-isRefused (Unserved reason) = false
-isRefused (Served reply) = false
-isRefused Done = false
-
 record Left (w : World) (c : Call) (o : Outcome) : Type 0 where
   pub same : RefusedChangesNothing w c o
   pub ten : TenIsCreationFailed w c o
@@ -44,12 +37,12 @@ abbrev IsLeft : World → Call → Outcome → List Event → Type 0
 IsLeft w c o new = Left w c o
 
 -- an ending that is no refusal
-done : (w : World) (c : Call) (o : Outcome) → isRefused (o .answer) ≡ false → Left w c o
-unfolding isRefused
-done w c o h = record { same = λ n e _. clash (ap isRefused e) h; ten = λ e. clash (ap isRefused e) h }
+done : (w : World) (c : Call) (o : Outcome) → present (refusal (o .answer)) ≡ false → Left w c o
+unfolding refusal
+done w c o h = record { same = λ n e _. clash (ap (λ a. present (refusal a)) e) h; ten = λ e. clash (ap (λ a. present (refusal a)) e) h }
 
 left : (w : World) → Endings w (IsLeft w)
-unfolding isRefused lentBytes
+unfolding refusal lentBytes
 left w =
     record {
       refuses = λ c n not-ten _. record { same = λ m e _. (refl, refl); ten = λ e. let ten : n ≡ 10 = cc in absurd (not-ten ten) };
@@ -111,7 +104,7 @@ idle-again : (w : World) → isIdle (w .device .pending) ≡ true → deviceOf (
 idle-again w e = ap (λ p. deviceOf (pendingTo p (w .device)) w) (idle-nothing (w .device .pending) e)
 
 pub ten-in-size-change : TenInSizeChange
-unfolding step asks
+unfolding step question
 ten-in-size-change w mib call asked g host =
     let P : Outcome → Type 0 = λ o. o .answer ≡ Wants call → SizeChangeFailed w mib (step (o .world) (HostAnswer g false host)) in
     on-ready P w [] _ (λ n _ _ e. silent (Refused n) call refl e) (length (w .blocks)) (length (w .rows))
@@ -163,7 +156,7 @@ failed w a i last size g host s =
     })
 
 pub ten-in-placing : TenInPlacing
-unfolding step asks
+unfolding step question
 ten-in-placing w at size slots bs rows call asked g host =
     let P : Outcome → Type 0 = λ o. o .answer ≡ Wants call → PlacingFailed w at slots bs rows (step (o .world) (HostAnswer g false host)) in
     on-unplaced P w [] _ (λ n _ _ e. silent (Refused n) call refl e) (length bs) (length rows)

@@ -3,11 +3,11 @@ use Prim.Native.Nat.{ℕ, _+_, _*_, _≤_}
 use mathlib.Core.Path.{_≡_, refl, ap}
 use mathlib.Core.Bool.{Bool, true, false}
 use mathlib.Core.List.{List}
+use mathlib.Core.Option.{Option, some, none}
 use native.Mathlib.Omega.{arith}
 use lib.Dec.{eqb}
 use borrow.Author.Tests.{ne-eqb}
-use Rattle.step.specs.declared.Answer.{Answer}
-use Rattle.step.specs.declared.Answer.the-variants.{Refused, Wants, Sized, Unserved, Served, Done}
+use Rattle.step.specs.Answers.{refusal}
 use Rattle.step.specs.World.{World, Call, Outcome}
 use Rattle.step.specs.Step.{blockSize, region, usable, plugged, requested, regionBlocks}
 use Rattle.history.specs.History.{Event}
@@ -21,16 +21,12 @@ use Rattle.history.proofs.Good.{invariant}
 use Rattle.history.proofs.KeepsShape.{is-shaped}
 
 -- ---- 12 never appears
-unfoldable is12 : Answer → Bool
-is12 (Refused n) = eqb n 12
-is12 (Wants call) = false
-is12 Sized = false
-is12 (Unserved reason) = false
-is12 (Served reply) = false
-is12 Done = false
+abbrev is12 : Option ℕ → Bool
+is12 none = false
+is12 (some number) = eqb number 12
 
 abbrev Not12 : Call → Outcome → List Event → Type 0
-Not12 c o new = is12 (o .answer) ≡ false
+Not12 c o new = is12 (refusal (o .answer)) ≡ false
 
 -- blocks that are plugged are counted in the plugged size
 are-counted : (b s c a n : ℕ) → n + c ≡ a → s ≡ a * b → c * b ≤ s
@@ -38,7 +34,7 @@ are-counted b s c a n p q = rw (q, ← p) (omega arith)
 
 module _ (w : World) (s : Parts (w .device)) (es : List Event) (h : Inv w es) where
   not-12 : Endings w Not12
-  unfolding is12
+  unfolding refusal
   not-12 =
       record {
         refuses = λ c n _ spoilt. ne-eqb n 12 (λ e. clash (shaped-when (w .device) s) (spoilt e));
@@ -71,8 +67,8 @@ module _ (w : World) (s : Parts (w .device)) (es : List Event) (h : Inv w es) wh
       }
 
 pub never-12 : FromEveryGood Never12
-unfolding is12
-never-12 s r c e = clash (ap is12 e) (each-call (s .world) Not12 (not-12 (s .world) (is-shaped s r) (s .events) (invariant s r)) c)
+unfolding refusal
+never-12 s r c e = clash (ap (λ a. is12 (refusal a)) e) (each-call (s .world) Not12 (not-12 (s .world) (is-shaped s r) (s .events) (invariant s r)) c)
 
 -- ---- the block that an unplug-all waits for is counted
 pub discard-is-counted : FromEveryGood DiscardIsCounted

@@ -9,6 +9,7 @@ use lib.ListN.{take}
 use Rattle.units.specs.Numbers.{bytesOf, blocksIn}
 use Rattle.bitmap.specs.Blocks.{blockAt, ones}
 use Rattle.wire.specs.declared.VirtioMemReq.{VirtioMemReq}
+use Rattle.wire.specs.declared.VirtioMemResp.{VirtioMemResp}
 use Rattle.chain.specs.declared.Parsed.{Parsed}
 use Rattle.chain.specs.declared.Parsed.the-variants.{Request as Got, Bad}
 use Rattle.chain.specs.Chain.{parsed}
@@ -20,6 +21,7 @@ use Rattle.record.specs.declared.HostCall.the-variants.{Create, Discard}
 use Rattle.record.specs.Shape.{shapedOf}
 use Rattle.step.specs.declared.Answer.{Answer}
 use Rattle.step.specs.declared.Answer.the-variants.{Refused, Wants, Sized, Unserved, Served, Done}
+use Rattle.step.specs.Answers.{refusal, response}
 use Rattle.step.specs.World.{World, Call, Place, SetRequestedSize, Request, HostAnswer, ReadConfig, WriteConfig}
 use Rattle.step.specs.Step.{step, blockSize, start, plugged, regionBlocks}
 
@@ -89,22 +91,20 @@ reports o (ReadConfig offset buffer) = []
 reports o (WriteConfig offset buffer) = []
 
 -- "an ACK counts as acknowledged" also where it could not be delivered, with length 0
-unfoldable pub ifAck : Answer → List Event → List Event
-ifAck (Refused n) es = []
-ifAck (Wants call) es = []
-ifAck Sized es = []
-ifAck (Unserved reason) es = []
-ifAck (Served reply) es = cond (eqb (reply .response .«resp_type») 0) es []
-ifAck Done es = []
+abbrev pub isAck : Option VirtioMemResp → Bool
+isAck none = false
+isAck (some resp) = eqb (resp .«resp_type») 0
+
+abbrev pub ifAck : Answer → List Event → List Event
+ifAck a es = cond (isAck (response a)) es []
 
 -- a host answer that is refused is no event
-unfoldable pub unlessRefused : Answer → List Event → List Event
-unlessRefused (Refused n) es = []
-unlessRefused (Wants call) es = es
-unlessRefused Sized es = es
-unlessRefused (Unserved reason) es = es
-unlessRefused (Served reply) es = es
-unlessRefused Done es = es
+abbrev pub present : {A : Type 0} → Option A → Bool
+present none = false
+present (some x) = true
+
+abbrev pub unlessRefused : Answer → List Event → List Event
+unlessRefused a es = cond (present (refusal a)) [] es
 
 -- the events of one call, newest first: from the call, what was open before it, and its answer
 unfoldable pub eventsOf : World → Open → Call → Answer → List Event

@@ -1,5 +1,5 @@
 -- What any call may do to the sizes of any device, from every world: no run and no sound bitmap is asked for.
-use Prim.Native.Nat.{ℕ, max, _≤_}
+use Prim.Native.Nat.{max, _≤_}
 use mathlib.Core.Path.{_≡_}
 use mathlib.Core.Bool.{true, false}
 use Rattle.step.specs.World.{World, Call, Outcome}

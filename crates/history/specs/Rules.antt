@@ -3,6 +3,7 @@ use Prim.Native.Nat.{ℕ, _+_, _*_, _≤_, _<_}
 use mathlib.Core.Path.{_≡_}
 use mathlib.Core.Bool.{Bool, true, false, cond}
 use mathlib.Core.List.{List, [], _∷_}
+use mathlib.Core.Option.{Option, some, none}
 use lib.Dec.{eqb}
 use Rattle.units.specs.declared.GuestAddr.{GuestAddr}
 use Rattle.units.specs.declared.RegionOffset.{RegionOffset}
@@ -12,10 +13,11 @@ use Rattle.record.specs.declared.Pending.the-variants.{Nothing, Create, Discard
 use Rattle.record.specs.declared.HostCall.the-variants.{Discard as DiscardCall}
 use Rattle.record.specs.Shape.{shapedOf}
 use Rattle.step.specs.declared.Answer.{Answer}
-use Rattle.step.specs.declared.Answer.the-variants.{Refused, Wants, Sized, Unserved, Served, Done}
+use Rattle.step.specs.declared.Answer.the-variants.{Refused, Wants}
+use Rattle.step.specs.Answers.{refusal, question}
 use Rattle.step.specs.World.{World, Call, Place, SetRequestedSize, Request, HostAnswer, ReadConfig, WriteConfig, Outcome}
 use Rattle.step.specs.Step.{step, blockSize, usable, plugged, requested, newUsable, regionBlocks, Untouched}
-use Rattle.history.specs.History.{Event, eventsOf, Story, next, after}
+use Rattle.history.specs.History.{Event, present, eventsOf, Story, next, after}
 use Rattle.history.specs.Reached.{marked, counted, allCould, Reached}
 use Rattle.history.specs.Good.{due, Good}
 
@@ -103,22 +105,16 @@ WholeOrNotAtAll s c = isPlace c ≡ false → Whole (s .world) (eventsOf (s .wor
 
 -- ---- no host call is asked twice or left unanswered
 -- the questions to the host in an answer
-unfoldable pub asks : Answer → ℕ
-asks (Refused n) = 0
-asks (Wants call) = 1
-asks Sized = 0
-asks (Unserved reason) = 0
-asks (Served reply) = 0
-asks Done = 0
+abbrev pub asks : Answer → ℕ
+asks a = cond (present (question a)) 1 0
 
 -- a host answer is taken unless it is refused; 10 says that it was taken, and that it was no
-unfoldable pub taken : Answer → ℕ
-taken (Refused n) = cond (eqb n 10) 1 0
-taken (Wants call) = 1
-taken Sized = 1
-taken (Unserved reason) = 1
-taken (Served reply) = 1
-taken Done = 1
+abbrev pub isTaken : Option ℕ → Bool
+isTaken none = true
+isTaken (some number) = eqb number 10
+
+abbrev pub taken : Answer → ℕ
+taken a = cond (isTaken (refusal a)) 1 0
 
 unfoldable pub takes : Call → Answer → ℕ
 takes (Place at size slots blocks rows) a = 0
