@@ -14,7 +14,7 @@ use Rattle.driver.proofs.Laws.{count-few, starts}
 use Rattle.record.proofs.Laws.{shaped-is as facts-of, parts as parts-of}
 use Rattle.chain.specs.declared.Parsed.the-variants.{Request as Got}
 use Rattle.chain.specs.Chain.{parsed}
-use Rattle.step.specs.Answers.{servedWith}
+use Rattle.step.specs.Answers.{servedWith, response}
 use Rattle.step.specs.World.{World, Guest, Call, Request, Outcome}
 use Rattle.step.specs.Step.{step, tablesFit, blockSize, usable, plugged, requested, regionBlocks, regionRows, ack}
 use Rattle.driving.specs.Sound.{Ready, planned, driveAt, drives, Counted, freeRuns}
@@ -45,7 +45,7 @@ run-acknowledges s good c t addr count e =
 -- an ACK to a plug is the ACK of state 0
 plain-ack : (w : World) → Ready w → (g : Guest) (descriptors head addr count : ℕ) (status : GuestAddr) → parsed (g .mem) (g .base) descriptors head ≡ Got (plugRequest addr count) status
     → Responds (step w (Request g descriptors head)) «VIRTIO_MEM_RESP_ACK» → (len : ℕ) × (step w (Request g descriptors head) .answer ≡ servedWith ack len)
-unfolding responseOf tablesFit
+unfolding response tablesFit
 plain-ack w r g descriptors head addr count status q =
     let P : Outcome → Type 0 = λ o. Responds o «VIRTIO_MEM_RESP_ACK» → (len : ℕ) × (o .answer ≡ servedWith ack len) in
     let fit : tablesFit (w .device) (length (w .blocks)) (length (w .rows)) ≡ true = rw (le-leb (regionBlocks w) (length (w .blocks)) (r .blocks-fit)) (le-leb (regionRows w) (length (w .rows)) (r .rows-fit)) in
@@ -72,7 +72,7 @@ few-enough w r addr n e =
     omega (arith, per, p .count-is, count-few (blockSize w) (usable w) (plugged w) (requested w) (w .blocks) (p .first) (omega arith))
 
 pub run-17-exactly : FromEveryGood SeventeenExactly
-unfolding responseOf
+unfolding response
 run-17-exactly s good c t =
     let w = s .world in
     let r = ready-in-run s good t in

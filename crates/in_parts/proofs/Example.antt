@@ -20,9 +20,10 @@ use Rattle.rows.specs.Rows.{mappingOf}
 use Rattle.record.specs.declared.Pending.the-variants.{Nothing}
 use Rattle.record.specs.Shape.{alignmentOk, regionOk, sizeOk, spanOf, startOk, severalOk, pendingOk, shapedOf}
 use Rattle.change.specs.Change.{insideOf, rangeOf, hostSum, hostIn, hostOf, legalAt, changeIn}
+use Rattle.step.specs.Answers.{response}
 use Rattle.step.specs.World.{World, Guest, Call, Request}
 use Rattle.step.specs.Step.{tablesFit, readyRefusal, unless, plugAs, plug, serve, request, step}
-use Rattle.standard.specs.Requests.{responseOf, «VIRTIO_MEM_RESP_ACK», «VIRTIO_MEM_RESP_NACK»}
+use Rattle.standard.specs.Requests.{«VIRTIO_MEM_RESP_ACK», «VIRTIO_MEM_RESP_NACK»}
 use Rattle.in_parts.specs.InParts.{plugRequest, Asks, Acknowledged, AllAcknowledged, endOf, SameAs, InTwo, Part, borderBetween, Raised}
 use Rattle.in_parts.proofs.Asking.{asking}
 
@@ -82,7 +83,7 @@ pub record Example : Type 0 where
   pub raised : Raised 20971520 (device 16777216) (plugs 0 4)
 
 pub example : Example
-unfolding device plugs halves asking AllAcknowledged endOf borderBetween mapRegions every fill value littleEndian part put virtioMemReq requestAt responseBytes virtqDesc descriptorAt descriptorAddr inside linkAt linkAfter withSecond withFirst parsed reaches delivered mappingOf alignmentOk regionOk sizeOk spanOf startOk severalOk pendingOk shapedOf insideOf rangeOf hostSum hostIn hostOf legalAt changeIn tablesFit readyRefusal unless plugAs plug serve request step responseOf
+unfolding device plugs halves asking AllAcknowledged endOf borderBetween mapRegions every fill value littleEndian part put virtioMemReq requestAt responseBytes virtqDesc descriptorAt descriptorAddr inside linkAt linkAfter withSecond withFirst parsed reaches delivered mappingOf alignmentOk regionOk sizeOk spanOf startOk severalOk pendingOk shapedOf insideOf rangeOf hostSum hostIn hostOf legalAt changeIn tablesFit readyRefusal unless plugAs plug serve request step response
 example =
     record {
       cut = record { asks-whole = asks _ _ _ refl; asks-first = asks _ _ _ refl; asks-second = asks _ _ _ refl };

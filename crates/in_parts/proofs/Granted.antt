@@ -20,11 +20,12 @@ use Rattle.change.specs.declared.Change.{Change}
 use Rattle.change.specs.declared.Change.the-variants.{Legal, Outside, WrongState, NoHost}
 use Rattle.change.proofs.Laws.{IsLegal, legal-is, legal-when}
 use Rattle.change.proofs.Split.{legal-first, legal-second, legal-joined, no-seam}
+use Rattle.step.specs.Answers.{response}
 use Rattle.step.specs.World.{World, Guest, Call}
 use Rattle.step.specs.Step.{step, unless, request, serve, readyRefusal, tablesFit, plug, plugAs, plugs, changing, blockSize, start, usable, several, plugged, requested}
 use Rattle.step.proofs.Entry.{Ready, ready-is, ready-when}
 use Rattle.history.specs.History.{blockOf}
-use Rattle.standard.specs.Requests.{Responds, responseOf, «VIRTIO_MEM_RESP_ERROR»}
+use Rattle.standard.specs.Requests.{Responds, «VIRTIO_MEM_RESP_ERROR»}
 use Rattle.history.proofs.KeepsShape.{step-shaped}
 use Rattle.in_parts.specs.InParts.{Asks, Acknowledged}
 
@@ -61,7 +62,7 @@ module _ (w : World) (addr count : ℕ) (first : ℕ) (offset : RegionOffset) (h
 
 module _ (w : World) (addr count status : ℕ) (g : Guest) where
   within-granted : (c : Change) → changing w addr count true ≡ c → plugged w + bytesOf (blockSize w) count ≤ requested w → Acknowledged (plugAs c w count status g) → Granted w addr count
-  unfolding plugAs responseOf
+  unfolding plugAs response
   within-granted (Legal first offset host) q h a =
       granted w addr count first offset host h (legal-is (blockSize w) (start w) (usable w) (several w) addr count true (w .blocks) (w .rows) first offset host q)
   within-granted (Outside part) q h a = let y : _≡_ {A = ℕ} 0 1 = cc in absurd (omega arith)
@@ -69,7 +70,7 @@ module _ (w : World) (addr count status : ℕ) (g : Guest) where
   within-granted (NoHost part) q h a = let y : _≡_ {A = ℕ} 0 1 = cc in absurd (omega arith)
 
   plug-granted : Acknowledged (plug w addr count status g) → Granted w addr count
-  unfolding plug responseOf
+  unfolding plug response
   plug-granted e =
       by-test (ltb (requested w) (plugged w + bytesOf (blockSize w) count))
       (λ t. let z = rw t at e in let y : _≡_ {A = ℕ} 0 1 = cc in absurd (omega arith))
@@ -83,7 +84,7 @@ module _ (w : World) (addr count status : ℕ) (g : Guest) where
 
   -- within the requested size and not granted, it is ERROR
   plug-error : plugged w + bytesOf (blockSize w) count ≤ requested w → (Granted w addr count → ⊥) → Responds (plug w addr count status g) «VIRTIO_MEM_RESP_ERROR»
-  unfolding plug plugAs responseOf
+  unfolding plug plugAs response
   plug-error h never = rw (le-ltb (requested w) (plugged w + bytesOf (blockSize w) count) h) (go (changing w addr count true) refl)
     where
       go : (c : Change) → changing w addr count true ≡ c → Responds (plugAs c w count status g) «VIRTIO_MEM_RESP_ERROR»
@@ -178,7 +179,7 @@ module _ (w : World) (c : Call) (addr count : ℕ) (a : Asks c addr count) where
 
   -- only a device that is ready acknowledges
   pub acknowledged-reached : Acknowledged (step w c) → Reached w
-  unfolding step unless responseOf
+  unfolding step unless response
   acknowledged-reached e =
       by-test (eqb (readyRefusal (w .device) (length (w .blocks)) (length (w .rows))) 0)
       (λ t. ready-is (w .device) (length (w .blocks)) (length (w .rows)) (eqb-true _ 0 t))
@@ -192,7 +193,7 @@ module _ (w : World) (c : Call) (addr count : ℕ) (a : Asks c addr count) where
     granted-does = reached-serves r ∙ granted-plugs w addr count (a .status .0) (a .guest) (positive-of w r) x
 
     pub granted-acknowledged : Acknowledged (step w c)
-    unfolding responseOf
+    unfolding response
     granted-acknowledged = rw granted-does
 
     pub granted-takes : step w c .world ≡ taken w addr count

@@ -2,9 +2,9 @@
 -- Every call in every world, as the standard sees it: a request that is heard, the host's answer to a discard, and all else, which gives no response and asks for no discard. By it M8, M12 and M17, and what waits for the host.
 use Prim.Native.Nat.{ℕ, _+_, _-_, _*_, _≤_}
 use mathlib.Core.Path.{_≡_, refl}
-use mathlib.Core.Bool.{Bool, true, false, cond}
+use mathlib.Core.Bool.{Bool, true, false, cond, _||_}
 use mathlib.Core.List.{List, []}
-use mathlib.Core.Option.{some, none}
+use mathlib.Core.Option.{Option, some, none}
 use native.Mathlib.Omega.{arith}
 use lib.Dec.{ltb}
 use lib.ListN.{length}
@@ -23,10 +23,10 @@ use Rattle.record.specs.declared.Pending.the-variants.{Nothing, Create, Discard
 use Rattle.record.specs.Changes.{requestedTo}
 use Rattle.record.proofs.Laws.{Parts, shaped-is as facts-of, whole as shaped-when}
 use Rattle.step.specs.declared.Answer.{Answer}
-use Rattle.step.specs.declared.Answer.the-variants.{Refused, Wants, Sized, Unserved, Served, Done}
-use Rattle.step.specs.Answers.{servedWith}
+use Rattle.step.specs.Answers.{servedWith, question, response}
 use Rattle.step.specs.World.{World, Guest, Call, Place, SetRequestedSize, Request, HostAnswer, ReadConfig, WriteConfig, Outcome}
 use Rattle.step.specs.Step.{start, sizes, asksCreate, placing, step, request, serve, hostAnswer, tablesFit, region, usable, several, served, refused, cleared, coveredBy, placed, deviceOf}
+use Rattle.history.specs.History.{present}
 use Rattle.history.specs.Rules.{isPlace}
 use Rattle.history.specs.Good.{InMemory}
 use Rattle.history.proofs.Shaped.{clash, cleared-shaped}
@@ -37,14 +37,13 @@ use Rattle.standard.proofs.Memory.{asks-outside}
 
 -- ---- a call that is no part of a request
 -- a response, or a question for a discard
-unfoldable pub speaks : Answer → Bool
-speaks (Refused n) = false
-speaks (Wants (CreateCall guest size slot)) = false
-speaks (Wants (DiscardCall offset size host)) = true
-speaks Sized = false
-speaks (Unserved reason) = false
-speaks (Served reply) = true
-speaks Done = false
+abbrev isDiscard : Option HostCall → Bool
+isDiscard none = false
+isDiscard (some (CreateCall guest size slot)) = false
+isDiscard (some (DiscardCall offset size host)) = true
+
+abbrev pub speaks : Answer → Bool
+speaks a = present (response a) || isDiscard (question a)
 
 -- a config call lends a buffer, which is no guest memory
 unfoldable pub isConfigCall : Call → Bool
@@ -91,7 +90,7 @@ module _ (w : World) (g : Guest) (status : ℕ) where
 
   module _ (shaped : Parts (w .device)) where
     leaf-serve : (req : VirtioMemReq) → Leaf w g status (serve w req status g)
-    unfolding responseOf statusOfPending
+    unfolding response statusOfPending
     leaf-serve req =
         let P = Leaf w g status in
         serve-cases P w req status g
@@ -113,7 +112,7 @@ leaf-unplug w g first count status true host = leaf-served w g (status .0) _ _
 leaf-unplug w g first count status false host = leaf-served w g (status .0) _ _
 
 leaf-one : (w : World) (g : Guest) → Parts (w .device) → (j : ℕ) (status : GuestAddr) (ok : Bool) (host : ℕ) → Leaf w g (status .0) (hostAnswer (DiscardOne j status) w g ok host)
-unfolding hostAnswer responseOf statusOfPending
+unfolding hostAnswer response statusOfPending
 leaf-one w g shaped j status true host =
     unplug-all-cases (Leaf w g (status .0)) (cleared w j) (cleared-shaped w j shaped) (status .0) g (j + 1)
     (λ _. leaf-served w g (status .0) _ _)
@@ -155,17 +154,17 @@ module _ (w : World) (K : Call → Outcome → Type 0) (k : Ways w K) where
   idle c o same mute bytes never = hush c o mute bytes never (λ _. rw same)
 
   refusal : (c : Call) (n : ℕ) (bytes : List ℕ) → (isConfigCall c ≡ false → bytes ≡ lentBy c .mem) → K c (refused n w bytes)
-  unfolding speaks
+  unfolding response question
   refusal c n bytes same = idle c _ refl refl same (λ call e. let z : _≡_ {A = ℕ} 0 1 = cc in omega arith)
 
   -- the usable size is worked out in the world w₁, or a creation is asked for there
   sizing : (c : Call) (w₁ : World) → lentBy c .mem ≡ [] → ((isPlace c ≡ true → w .device .placed ≡ true) → w₁ .blocks ≡ w .blocks) → K c (sizes w₁)
-  unfolding speaks
+  unfolding response question
   sizing c w₁ lends blocks = hush c (sizes w₁) refl (λ _. rw lends) (λ call e. let z : _≡_ {A = ℕ} 0 1 = cc in omega arith) blocks
 
   creating : (c : Call) (w₁ : World) (i last size : ℕ) → lentBy c .mem ≡ [] → statusFor w c ≡ none → (InMemory w → usable w ≤ i * mapRegion)
       → ((isPlace c ≡ true → w .device .placed ≡ true) → w₁ .blocks ≡ w .blocks) → K c (asksCreate w₁ i last size)
-  unfolding speaks statusOfPending
+  unfolding response question statusOfPending
   creating c w₁ i last size lends nowhere past blocks =
       k .quiet c (asksCreate w₁ i last size)
       (record {
@@ -177,7 +176,7 @@ module _ (w : World) (K : Call → Outcome → Type 0) (k : Ways w K) where
       })
 
   by-pending : (g : Guest) (ok : Bool) (host : ℕ) (p : Pending) → w .device .pending ≡ p → Entered (w .device) (length (w .blocks)) (length (w .rows)) false → K (HostAnswer g ok host) (hostAnswer p w g ok host)
-  unfolding hostAnswer speaks lentBy isConfigCall
+  unfolding hostAnswer response question lentBy isConfigCall
   by-pending g ok host Nothing q e = refusal (HostAnswer g ok host) 8 (g .mem) (λ _. refl)
   by-pending g true host (Create i last) q e =
       by-cond (K (HostAnswer g true host)) (ltb top (host + coveredBy w i last)) _ _ (λ _. refusal (HostAnswer g true host) 9 (g .mem) (λ _. refl))
@@ -192,7 +191,7 @@ module _ (w : World) (K : Call → Outcome → Type 0) (k : Ways w K) where
 
   by-chain : (g : Guest) (descriptors head : ℕ) (p : Parsed) → parsed (g .mem) (g .base) descriptors head ≡ p → w .device .placed ≡ true → Entered (w .device) (length (w .blocks)) (length (w .rows)) true
       → K (Request g descriptors head) (request p w g)
-  unfolding request speaks lentBy isConfigCall
+  unfolding request response question lentBy isConfigCall
   by-chain g descriptors head (Bad reason) q p e = idle (Request g descriptors head) _ refl refl (λ _. refl) (λ call f. let z : _≡_ {A = ℕ} 0 1 = cc in omega arith)
   by-chain g descriptors head (Got req status) q p e =
       let h : Hears w g descriptors head req status = record { shaped = shaped-when (w .device) (e .is-shaped); is-idle = e .is-idle; is-placed = p; fits = fitting w true e; reads = q } in
@@ -200,7 +199,7 @@ module _ (w : World) (K : Call → Outcome → Type 0) (k : Ways w K) where
       rw is at (k .hears g descriptors head req status h (rw is (leaf-serve w g (status .0) (e .is-shaped) req)))
 
   pub each-way : (c : Call) → K c (step w c)
-  unfolding step placing speaks lentBy isConfigCall statusOfPending statusFor isPlace
+  unfolding step placing response question lentBy isConfigCall statusOfPending statusFor isPlace
   each-way (Place at size slots bs rows) =
       let P = K (Place at size slots bs rows) in
       on-unplaced P w [] _ (λ n _ _. refusal (Place at size slots bs rows) n [] (λ _. refl)) (length bs) (length rows)

@@ -34,6 +34,7 @@ use Rattle.change.specs.declared.Range.the-variants.{Inside, Misaligned, NoBloc
 use Rattle.change.specs.Change.{rangeOf, stateOf, stateIn}
 use Rattle.change.proofs.Laws.{InRange, inside-is, inside-when, host-is, legal-is, legal-when, whole-blocks}
 use Rattle.step.specs.declared.Answer.the-variants.{Refused}
+use Rattle.step.specs.Answers.{response}
 use Rattle.step.specs.World.{World, Guest, Request, HostAnswer, Outcome}
 use Rattle.step.specs.Step.{step, request, unless, pendingRefusal, tablesFit, serve, blockSize, region, usable, plugged, requested, start, several, regionBlocks, deviceOf, changing, plugAs, plug, plugs, unplugAs, asksDiscard, unplugs, asksOne, oneAs, nextAs, unplugAll, stops, cleared, stateType, stateResp, served, unserved, error, hostAnswer}
 use Rattle.step.proofs.Entry.{ready-when, waits-when}
@@ -41,7 +42,7 @@ use Rattle.step.proofs.InTable.{cleared-shaped, cleared-fits}
 use Rattle.step.proofs.Laws.{one-inside, one-before, one-behind}
 use Rattle.history.proofs.Shaped.{clash, awaiting}
 use Rattle.history.proofs.Cases.{by-cond}
-use Rattle.standard.specs.Requests.{OfEvery, OfEveryUnknown, Unknown, Hears, Awaits, Valid, Covers, Responds, responseOf, among, AsksFor, sizeOf, offsetOf, stateFieldOf, IsPlugged, IsUnplugged, OneMapping, WholeOrNothing, CanPlug, Plug, CanUnplug, UnplugAnswered, Unplug, UnplugAll, UnplugsFrom, Lowest, NoneFrom, AsksLowest, OneUnplugged, OneAnswered, OfEveryOne, CanDiscard, addressOf, State, Unchanged, «VIRTIO_MEM_REQ_PLUG», «VIRTIO_MEM_REQ_UNPLUG», «VIRTIO_MEM_REQ_UNPLUG_ALL», «VIRTIO_MEM_REQ_STATE»}
+use Rattle.standard.specs.Requests.{OfEvery, OfEveryUnknown, Unknown, Hears, Awaits, Valid, Covers, Responds, responseOf, among, AsksFor, sizeOf, offsetOf, IsPlugged, IsUnplugged, OneMapping, WholeOrNothing, CanPlug, Plug, CanUnplug, UnplugAnswered, Unplug, UnplugAll, UnplugsFrom, Lowest, NoneFrom, AsksLowest, OneUnplugged, OneAnswered, OfEveryOne, CanDiscard, addressOf, State, Unchanged, «VIRTIO_MEM_REQ_PLUG», «VIRTIO_MEM_REQ_UNPLUG», «VIRTIO_MEM_REQ_UNPLUG_ALL», «VIRTIO_MEM_REQ_STATE»}
 
 -- ---- the blocks that a request covers
 -- block i begins in the bytes from addr on: it is one of the `count` blocks from `first` on
@@ -203,7 +204,7 @@ module _ (w : World) (req : VirtioMemReq) (sound : Sound w) where
 
   -- ---- PLUG
   plug-at : req .«req_type» ≡ «VIRTIO_MEM_REQ_PLUG» → (status : ℕ) (g : Guest) → Plug w req (plug w (req .addr .0) (req .«nb_blocks») status g)
-  unfolding plug plugAs responseOf among isLegal
+  unfolding plug plugAs response among isLegal
   plug-at t status g =
       by-cond (Plug w req) (ltb (requested w) (plugged w + sizeOf w req)) _ _
       (λ u.
@@ -266,7 +267,7 @@ module _ (w : World) (req : VirtioMemReq) (sound : Sound w) where
 
   -- ---- UNPLUG
   unplug-at : req .«req_type» ≡ «VIRTIO_MEM_REQ_UNPLUG» → (status : ℕ) (g : Guest) → Unplug w req (unplugAs (changing w (req .addr .0) (req .«nb_blocks») false) w (req .«nb_blocks») status g)
-  unfolding unplugAs responseOf among isLegal hostAnswer pendingOk
+  unfolding unplugAs response among isLegal hostAnswer pendingOk
   unplug-at t status g = go (changing w (req .addr .0) (req .«nb_blocks») false) refl
     where
       unchanged : (o : Outcome) → (Responds o 0 → ⊥) → Unchanged w (o .world) → WholeOrNothing w req o
@@ -380,7 +381,7 @@ module _ (w : World) (req : VirtioMemReq) (sound : Sound w) where
       rw (le-ltb (req .addr .0) (start w) (v .from-start), range-take (regionBlocks w) (w .blocks) (blocksIn (blockSize w) (offsetOf w req)) (req .«nb_blocks») (sp .ends))
 
   state-at : req .«req_type» ≡ «VIRTIO_MEM_REQ_STATE» → (status : ℕ) (g : Guest) → State w req (served (stateResp w (req .addr .0) (req .«nb_blocks»)) status w g)
-  unfolding responseOf stateFieldOf stateIn
+  unfolding response stateIn
   state-at t status g =
       let enough = long w sound in
       let first = blocksIn (blockSize w) (offsetOf w req) in
@@ -462,7 +463,7 @@ module _ (w : World) (sound : Sound w) where
       record { in-usable = omega (arith, o .spans .valid .to-usable); mapped = record { host = o .mapped .host; maps = rw (there, one) at (o .mapped .maps) } }
 
   unplugs-from : (from status : ℕ) (g : Guest) → UnplugsFrom w from (unplugAll w from status g)
-  unfolding nextAs oneAs responseOf among isLegal pendingOk
+  unfolding nextAs oneAs response among isLegal pendingOk
   unplugs-from from status g = go (nextSet (w .blocks) from (regionBlocks w)) refl
     where
       lowest : (block : ℕ) → nextSet (w .blocks) from (regionBlocks w) ≡ At block → Lowest w from block
@@ -615,7 +616,7 @@ one-unplugged w j l =
     after i apart h = omega (arith, apart)
 
 pub one-standard : OfEveryOne
-unfolding hostAnswer responseOf
+unfolding hostAnswer response
 one-standard w j status a g ok host = rw (answered w (DiscardOne j status) a refl g ok host) (by-ok ok)
   where
     sound : Sound w
@@ -650,7 +651,7 @@ one-standard w j status a g ok host = rw (answered w (DiscardOne j status) a ref
 -- ---- tried against M11, M14 and M15: a device that answers ERROR always
 module _ (w : World) (req : VirtioMemReq) (status : ℕ) (g : Guest) where
   pub error-always-no-plug : CanPlug w req → Plug w req (served error status w g) → ⊥
-  unfolding responseOf
+  unfolding response
   error-always-no-plug can p = let e = p .granted can in let z : _≡_ {A = ℕ} 0 1 = cc in omega arith
 
   pub error-always-no-unplug : CanUnplug w req → sizeOf w req ≤ plugged w → Unplug w req (served error status w g) → ⊥

@@ -2,9 +2,9 @@
 -- The device and the clauses M8, M12 and M17, of every call in every world; and that nothing changes while a request waits for the host.
 use Prim.Native.Nat.{ℕ, _+_, _-_, _^_, _≤_, _<_}
 use mathlib.Core.Path.{_≡_, refl, ap, _∙_, sym}
-use mathlib.Core.Bool.{Bool, true, false, cond, not}
+use mathlib.Core.Bool.{Bool, true, false, cond, not, _||_}
 use mathlib.Core.List.{List, [], _∷_}
-use mathlib.Core.Option.{some, none}
+use mathlib.Core.Option.{Option, some, none}
 use native.Mathlib.Omega.{arith}
 use lib.Dec.{ltb, eqb}
 use lib.ListN.{length}
@@ -13,7 +13,7 @@ use Rattle.units.specs.declared.GuestAddr.{GuestAddr}
 use Rattle.units.proofs.Tests.{by-test}
 use Rattle.wire.specs.declared.VirtioMemReq.{VirtioMemReq}
 use Rattle.wire.specs.declared.VirtioMemResp.{VirtioMemResp}
-use Rattle.wire.proofs.Standard.{response}
+use Rattle.wire.proofs.Standard.{response as response-bytes}
 use Rattle.descriptors.specs.Descriptors.{inside, linkAt, linkAfter}
 use Rattle.descriptors.proofs.Laws.{inside-facts}
 use Rattle.descriptors.specs.declared.Descriptor.{Descriptor}
@@ -26,14 +26,16 @@ use Rattle.chain.specs.Chain.{withSecond, withFirst, parsed, reaches, delivered
 use Rattle.chain.proofs.Laws.{length-delivered, delivered-reads, undelivered, delivered-before, delivered-behind}
 use Rattle.record.specs.declared.Pending.the-variants.{Discard}
 use Rattle.step.specs.declared.Answer.{Answer}
-use Rattle.step.specs.declared.Answer.the-variants.{Refused, Wants, Sized, Unserved, Served, Done}
+use Rattle.step.specs.declared.Answer.the-variants.{Served}
 use Rattle.step.specs.declared.Reply.{Reply}
+use Rattle.step.specs.Answers.{response}
 use Rattle.step.specs.World.{World, Guest, Call, Place, SetRequestedSize, Request, HostAnswer, ReadConfig, WriteConfig, Outcome}
 use Rattle.step.specs.Step.{step, hostAnswer}
+use Rattle.history.specs.History.{present}
 use Rattle.history.specs.Rules.{FromEveryWorld}
 use Rattle.history.proofs.Shaped.{clash}
 use Rattle.history.proofs.Cases.{on-ready, on-unplaced, read-cases, write-cases}
-use Rattle.standard.specs.Requests.{Responds, responseOf, among, isHostAnswer, WaitingStays, lentBy, statusOfChain, statusOfPending, statusFor, Written, Delivered, ResponseIsDelivered, WritableAt, StatusIsWritable, StatusIsKept, SilenceWritesNothing, OneAnswered, NackOnlyPastRequested, PlugPastRequested, NeverBusy, «VIRTIO_MEM_REQ_PLUG», «VIRTIO_MEM_REQ_UNPLUG», «VIRTIO_MEM_REQ_UNPLUG_ALL», «VIRTIO_MEM_REQ_STATE», «VIRTIO_MEM_RESP_NACK», «VIRTIO_MEM_RESP_BUSY»}
+use Rattle.standard.specs.Requests.{Responds, typeField, responseOf, among, isHostAnswer, WaitingStays, lentBy, statusOfChain, statusOfPending, statusFor, Written, Delivered, ResponseIsDelivered, WritableAt, StatusIsWritable, StatusIsKept, SilenceWritesNothing, OneAnswered, NackOnlyPastRequested, PlugPastRequested, NeverBusy, «VIRTIO_MEM_REQ_PLUG», «VIRTIO_MEM_REQ_UNPLUG», «VIRTIO_MEM_REQ_UNPLUG_ALL», «VIRTIO_MEM_REQ_STATE», «VIRTIO_MEM_RESP_NACK», «VIRTIO_MEM_RESP_BUSY»}
 use Rattle.standard.proofs.Requests.{plug-standard, unplug-standard, unplug-all-standard, state-standard, unknown-unserved}
 use Rattle.standard.proofs.EveryCall.{speaks, isConfigCall, Says, Responded, Silent, leaf-unplug, Ways, each-way}
 
@@ -45,7 +47,7 @@ laid g status resp t =
     record {
       from-base = i .from-base;
       to-end = i .to-end;
-      laid-out = delivered-reads (g .mem) (g .base) status resp t ∙ response resp;
+      laid-out = delivered-reads (g .mem) (g .base) status resp t ∙ response-bytes resp;
       same-before = λ at n h. delivered-before (g .mem) (g .base) status resp at n (omega arith);
       same-behind = λ at n h. delivered-behind (g .mem) (g .base) status resp at n (omega arith);
       same-length = length-delivered (g .mem) (g .base) status resp;
@@ -63,7 +65,7 @@ delivery g status resp =
     (λ t. record { whole = λ e. let z = rw t at e in absurd (omega arith); nothing = λ _. undelivered (g .mem) (g .base) status resp t; no-other = rw t; with-room = λ p q r. clash (room g status p q r) t })
 
 delivers : (g : Guest) (status : ℕ) (o : Outcome) → Says g status o → (reply : Reply) → o .answer ≡ Served reply → Delivered g status reply (o .bytes)
-unfolding responseOf
+unfolding response
 delivers g status o (Responded given a b) reply e =
     let same : record { response = given; used = cond (reaches (g .mem) (g .base) status) 10 0 } ≡ reply = cc in
     rw (b, ← same) (delivery g status given)
@@ -71,16 +73,14 @@ delivers g status o (Silent n b) reply e = let z : none ≡ some (reply .respons
 
 -- what says nothing is no response, and no question for a discard
 pub mute : (a : Answer) → speaks a ≡ false → responseOf a ≡ none
-unfolding speaks responseOf
-mute (Refused n) e = refl
-mute (Wants call) e = refl
-mute Sized e = refl
-mute (Unserved reason) e = refl
-mute (Served reply) e = clash refl e
-mute Done e = refl
+mute a e = go (response a) _ e
+  where
+    go : (r : Option VirtioMemResp) (more : Bool) → (present r || more) ≡ false → typeField r ≡ none
+    go none more q = refl
+    go (some resp) more q = clash refl q
 
 response-by : (w : World) → Ways w (ResponseIsDelivered w)
-unfolding lentBy statusFor statusOfChain statusOfPending responseOf
+unfolding lentBy statusFor statusOfChain statusOfPending response
 response-by w =
     record {
       quiet = λ c o q reply e. let y : none ≡ some (reply .response .«resp_type») = sym (mute (o .answer) (q .silent)) ∙ ap responseOf e in let z : _≡_ {A = ℕ} 0 1 = cc in absurd (omega arith);
@@ -143,7 +143,7 @@ abbrev NoByte : Call → Outcome → Type 0
 NoByte c o = isConfigCall c ≡ false → responseOf (o .answer) ≡ none → o .bytes ≡ lentBy c .mem
 
 says-nothing : (g : Guest) (status : ℕ) (o : Outcome) → Says g status o → responseOf (o .answer) ≡ none → o .bytes ≡ g .mem
-unfolding responseOf
+unfolding response
 says-nothing g status o (Responded resp a b) n = let y : some (resp .«resp_type») ≡ none = sym (ap responseOf a) ∙ n in let z : _≡_ {A = ℕ} 0 1 = cc in absurd (omega arith)
 says-nothing g status o (Silent _ b) n = b
 
@@ -187,7 +187,7 @@ unfolding among
 among-more m ms n e = by-test (eqb m n) (λ t. rw t) (λ t. rw t e)
 
 by-ok : (w : World) (first count : ℕ) (status : GuestAddr) (g : Guest) (ok : Bool) (host : ℕ) (type : ℕ) → Responds (hostAnswer (Discard first count status) w g ok host) type → among (0 ∷ 3 ∷ []) type ≡ true
-unfolding hostAnswer responseOf among
+unfolding hostAnswer response among
 by-ok w first count status g true host type r = let e : 0 ≡ type = cc in rw (← e)
 by-ok w first count status g false host type r = let e : 3 ≡ type = cc in rw (← e)
 
@@ -197,7 +197,7 @@ one-by-ok w j true o a type r = a .ok-goes-on refl .responses type r
 one-by-ok w j false o a type r = let rejected = a .no-rejected refl in let e : 3 ≡ type = cc in rw (← e)
 
 given-by : (w : World) → Ways w (IsGiven w)
-unfolding among responseOf
+unfolding among response
 given-by w =
     record {
       quiet = λ c o q type r. let y : none ≡ some type = sym (mute (o .answer) (q .silent)) ∙ r in let z : _≡_ {A = ℕ} 0 1 = cc in absurd (omega arith);

@@ -2,7 +2,7 @@
 -- The device and the clauses M11, M14, M15 and M18 over every run.
 use Prim.Native.Nat.{ℕ, _+_, _*_, _%_, _≤_, _<_}
 use mathlib.Core.Path.{_≡_, refl, ap, _∙_, sym}
-use mathlib.Core.Bool.{Bool, true, false}
+use mathlib.Core.Bool.{Bool, true, false, cond}
 use mathlib.Core.List.{List, [], _∷_}
 use mathlib.Core.Option.{Option, some, none}
 use native.Mathlib.Nat.{mul-pos}
@@ -22,12 +22,11 @@ use Rattle.record.specs.declared.HostCall.{HostCall}
 use Rattle.record.specs.declared.HostCall.the-variants.{Discard as DiscardCall}
 use Rattle.record.specs.declared.Pending.the-variants.{Discard, DiscardOne}
 use Rattle.record.proofs.Laws.{shaped-is as facts-of, parts as parts-of}
-use Rattle.step.specs.declared.Answer.{Answer}
-use Rattle.step.specs.declared.Answer.the-variants.{Refused, Wants, Sized, Unserved, Served, Done}
-use Rattle.step.specs.Answers.{servedWith}
+use Rattle.step.specs.declared.Answer.the-variants.{Wants}
+use Rattle.step.specs.Answers.{servedWith, question, response}
 use Rattle.step.specs.World.{World, Guest, Call, Place, SetRequestedSize, Request, HostAnswer, ReadConfig, WriteConfig, Outcome}
 use Rattle.step.specs.Step.{step, hostAnswer, usable, blockSize, plugged, regionBlocks, cleared}
-use Rattle.history.specs.History.{Event, UnplugAllAck, Open, acknowledges, ackToRequest, ackToType, ackToHost, ifAck, eventsOf, Story, next}
+use Rattle.history.specs.History.{Event, UnplugAllAck, Open, acknowledges, ackToRequest, ackToType, ackToHost, isAck, eventsOf, Story, next}
 use Rattle.history.specs.Reached.{marks, counts, could, marked, counted, allCould}
 use Rattle.history.specs.Good.{InMemory}
 use Rattle.history.specs.Rules.{FromEveryGood, Whole, isPlace}
@@ -38,7 +37,7 @@ use Rattle.history.proofs.Good.{in-every-run}
 use Rattle.history.proofs.Sizes.{never-12}
 use Rattle.history.proofs.Whole.{whole-or-not-at-all}
 use Rattle.standard.specs.Config.{Constant, FieldsLaidOut, PluggedSizeIsOfBlocks, OutsideIsUnplugged}
-use Rattle.standard.specs.Requests.{Responds, responseOf, among, AsksFor, CanDiscard, IsPlugged, IsUnplugged, Covers, sizeOf, offsetOf, Hears, CanUnplug, Unplug, UnplugsFrom, AsksLowest, OneAnswered, Awaits, «VIRTIO_MEM_REQ_UNPLUG», «VIRTIO_MEM_RESP_ACK», «VIRTIO_MEM_RESP_ERROR»}
+use Rattle.standard.specs.Requests.{Responds, typeField, responseOf, among, AsksFor, CanDiscard, IsPlugged, IsUnplugged, Covers, sizeOf, offsetOf, Hears, CanUnplug, Unplug, UnplugsFrom, AsksLowest, OneAnswered, Awaits, «VIRTIO_MEM_REQ_UNPLUG», «VIRTIO_MEM_RESP_ACK», «VIRTIO_MEM_RESP_ERROR»}
 use Rattle.standard.specs.Runs.{UsableIsMapped, FreeBlocksPlug, PluggedBlocksUnplug, NonePlugged, UnplugAllAcknowledged, PluggedCanBeDiscarded, UnplugAllFailsByHost, AsksToUnplug, ByUnplug, ByUnplugAll, ByOpenUnplug, ByOpenUnplugAll, hostAgrees, UnpluggedByRequest, DiscardsByRequest, CreatesOutside, ClausesInRuns}
 use Rattle.standard.proofs.Config.{constant-fields, facts-at, fields-laid-out, plugged-size-is-of-blocks}
 use Rattle.standard.proofs.Requests.{whole-block, plug-standard, unplug-standard, unplug-all-standard, unknown-unserved, to-plug, to-state}
@@ -75,14 +74,9 @@ plugged-blocks-unplug s g c b p all =
 
 -- ---- M15: an ACK to an unplug-all
 -- an ACK tells what the call acknowledges
-ack-tells : (a : Answer) (es : List Event) → responseOf a ≡ some «VIRTIO_MEM_RESP_ACK» → ifAck a es ≡ es
-unfolding responseOf ifAck
-ack-tells (Refused n) es e = let z : _≡_ {A = ℕ} 0 1 = cc in absurd (omega arith)
-ack-tells (Wants call) es e = let z : _≡_ {A = ℕ} 0 1 = cc in absurd (omega arith)
-ack-tells Sized es e = let z : _≡_ {A = ℕ} 0 1 = cc in absurd (omega arith)
-ack-tells (Unserved reason) es e = let z : _≡_ {A = ℕ} 0 1 = cc in absurd (omega arith)
-ack-tells (Served reply) es e = let t : reply .response .«resp_type» ≡ 0 = cc in rw t
-ack-tells Done es e = let z : _≡_ {A = ℕ} 0 1 = cc in absurd (omega arith)
+ack-tells : (r : Option VirtioMemResp) (es : List Event) → typeField r ≡ some «VIRTIO_MEM_RESP_ACK» → cond (isAck r) es [] ≡ es
+ack-tells none es e = let z : _≡_ {A = ℕ} 0 1 = cc in absurd (omega arith)
+ack-tells (some resp) es e = let t : resp .«resp_type» ≡ 0 = cc in rw t
 
 no-place : (w : World) (o : Open) (c : Call) → acknowledges w o c ≡ UnplugAllAck ∷ [] → isPlace c ≡ false
 unfolding acknowledges isPlace
@@ -141,7 +135,7 @@ one-fails w j g true host o h can r = absurd (no-error (cleared w j) (j + 1) o s
         record { in-usable = there .in-usable; mapped = record { host = there .mapped .host; maps = there .mapped .maps } }
 
 fails : (w : World) → Ways w (FailsByHost w)
-unfolding acknowledges ackToRequest ackToType ackToHost openOf responseOf
+unfolding acknowledges ackToRequest ackToType ackToHost openOf response
 fails w =
     record {
       quiet = λ c o q can e r. let y : _≡_ {A = Option ℕ} none (some 3) = sym (mute (o .answer) (q .silent)) ∙ r in let z : _≡_ {A = ℕ} 0 1 = cc in absurd (omega arith);
@@ -232,7 +226,7 @@ answer-discards w first count status g true host call e = no-question _ _ call e
 answer-discards w first count status g false host call e = no-question _ _ call e
 
 one-discards : (w : World) (j : ℕ) (status : GuestAddr) → Awaits w (DiscardOne j status) → (g : Guest) (ok : Bool) (host : ℕ) (o : Outcome) → OneAnswered w j ok o → Discards w (HostAnswer g ok host) o
-unfolding openOf responseOf
+unfolding openOf response
 one-discards w j status a g true host o h offset size at e i low high =
     (ByOpenUnplugAll j (ap openOf (a .waits)), lowest-plugged (cleared w j) (j + 1) o (facts-of (w .device) (a .shaped) .block-size) (h .ok-goes-on refl) offset size at e i low high)
 one-discards w j status a g false host o h offset size at e i low high =
@@ -240,7 +234,7 @@ one-discards w j status a g false host o h offset size at e i low high =
     let z : _≡_ {A = ℕ} 0 1 = cc in absurd (omega arith)
 
 discards : (w : World) → Ways w (Discards w)
-unfolding speaks
+unfolding response question
 discards w =
     record {
       quiet = λ c o q offset size host e i low high. clash (ap speaks e) (q .silent);

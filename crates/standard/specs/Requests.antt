@@ -29,8 +29,9 @@ use Rattle.record.specs.declared.Pending.{Pending}
 use Rattle.record.specs.declared.Pending.the-variants.{Nothing, Create, Discard, DiscardOne}
 use Rattle.record.specs.Shape.{shapedOf, isIdle}
 use Rattle.step.specs.declared.Answer.{Answer}
-use Rattle.step.specs.declared.Answer.the-variants.{Refused, Wants, Sized, Unserved, Served, Done}
+use Rattle.step.specs.declared.Answer.the-variants.{Refused, Wants, Unserved, Served}
 use Rattle.step.specs.declared.Reply.{Reply}
+use Rattle.step.specs.Answers.{response}
 use Rattle.step.specs.World.{World, Guest, noGuest, Call, Place, SetRequestedSize, Request, HostAnswer, ReadConfig, WriteConfig, Outcome}
 use Rattle.step.specs.Step.{step, blockSize, usable, plugged, requested, start, several, regionBlocks, tablesFit, cleared}
 use Rattle.standard.specs.Config.{configOf}
@@ -70,29 +71,33 @@ abbrev pub «VIRTIO_MEM_STATE_MIXED» : ℕ
 «VIRTIO_MEM_STATE_MIXED» = 2
 
 -- ---- the response
--- its type, where the device has responded
-unfoldable pub responseOf : Answer → Option ℕ
-responseOf (Refused n) = none
-responseOf (Wants call) = none
-responseOf Sized = none
-responseOf (Unserved reason) = none
-responseOf (Served reply) = some (reply .response .«resp_type»)
-responseOf Done = none
+-- its type and its state, where the device has responded
+abbrev pub typeField : Option VirtioMemResp → Option ℕ
+typeField none = none
+typeField (some resp) = some (resp .«resp_type»)
 
--- and its state
-unfoldable pub stateFieldOf : Answer → Option ℕ
-stateFieldOf (Refused n) = none
-stateFieldOf (Wants call) = none
-stateFieldOf Sized = none
-stateFieldOf (Unserved reason) = none
-stateFieldOf (Served reply) = some (reply .response .state)
-stateFieldOf Done = none
+abbrev pub stateField : Option VirtioMemResp → Option ℕ
+stateField none = none
+stateField (some resp) = some (resp .state)
+
+abbrev pub responseOf : Answer → Option ℕ
+responseOf a = typeField (response a)
 
 abbrev pub Responds : Outcome → (type : ℕ) → Type 0
 Responds o type = responseOf (o .answer) ≡ some type
 
+-- ACK, NACK and ERROR
+abbrev pub Acknowledged : Outcome → Type 0
+Acknowledged o = Responds o «VIRTIO_MEM_RESP_ACK»
+
+abbrev pub Declined : Outcome → Type 0
+Declined o = Responds o «VIRTIO_MEM_RESP_NACK»
+
+abbrev pub Rejected : Outcome → Type 0
+Rejected o = Responds o «VIRTIO_MEM_RESP_ERROR»
+
 abbrev pub Tells : Outcome → (state : ℕ) → Type 0
-Tells o state = stateFieldOf (o .answer) ≡ some state
+Tells o state = stateField (response (o .answer)) ≡ some state
 
 -- one of these
 unfoldable pub among : List ℕ → ℕ → Bool
@@ -106,6 +111,10 @@ RespondsAmong o types = (type : ℕ) → Responds o type → among types type �
 -- the host is asked for this
 abbrev pub AsksFor : Outcome → HostCall → Type 0
 AsksFor o call = o .answer ≡ Wants call
+
+-- to discard so many bytes from an offset in the region on
+abbrev pub AsksToDiscard : Outcome → (offset size : ℕ) → HostAddr → Type 0
+AsksToDiscard o offset size host = AsksFor o (DiscardCall (record { 0 = offset }) size host)
 
 -- ---- the blocks
 -- memory block i of the device-managed region begins at this guest address
@@ -285,27 +294,34 @@ pub record CarriedOut (w : World) (req : VirtioMemReq) (w′ : World) : Type 0 w
   pub same-requested : requested w′ ≡ requested w
 
 pub record WholeOrNothing (w : World) (req : VirtioMemReq) (o : Outcome) : Type 0 where
-  pub acknowledged : Responds o «VIRTIO_MEM_RESP_ACK» → CarriedOut w req (o .world)
-  pub otherwise : (Responds o «VIRTIO_MEM_RESP_ACK» → ⊥) → Unchanged w (o .world)
+  pub acknowledged : Acknowledged o → CarriedOut w req (o .world)
+  pub otherwise : (Acknowledged o → ⊥) → Unchanged w (o .world)
 
 -- ---- M11, M12, M13: PLUG
+-- with the request plugged_size stays within requested_size, or would exceed it
+abbrev pub Within : World → VirtioMemReq → Type 0
+Within w req = plugged w + sizeOf w req ≤ requested w
+
+abbrev pub Exceeds : World → VirtioMemReq → Type 0
+Exceeds w req = requested w < plugged w + sizeOf w req
+
 -- what a plug is acknowledged for. Narrower: one mapping of the host has the whole range
 pub record CanPlug (w : World) (req : VirtioMemReq) : Type 0 where
-  pub within-requested : plugged w + sizeOf w req ≤ requested w
+  pub within-requested : Within w req
   pub valid : Valid w req
   pub all-unplugged : (i : ℕ) → Covers w req i → IsUnplugged w i
   pub mapped : OneMapping w (offsetOf w req) (sizeOf w req)
 
 pub record Plug (w : World) (req : VirtioMemReq) (o : Outcome) : Type 0 where
   -- M12: rejected with NACK if plugged_size would exceed requested_size, and then only
-  pub over : requested w < plugged w + sizeOf w req → Responds o «VIRTIO_MEM_RESP_NACK»
-  pub only-over : Responds o «VIRTIO_MEM_RESP_NACK» → requested w < plugged w + sizeOf w req
+  pub over : Exceeds w req → Declined o
+  pub only-over : Declined o → Exceeds w req
   -- M11: rejected with ERROR if it is not valid, or a block is plugged already. Narrower: NACK goes first
-  pub bad-range : plugged w + sizeOf w req ≤ requested w → (Valid w req → ⊥) → Responds o «VIRTIO_MEM_RESP_ERROR»
-  pub already : plugged w + sizeOf w req ≤ requested w → (i : ℕ) → Covers w req i → IsPlugged w i → Responds o «VIRTIO_MEM_RESP_ERROR»
+  pub bad-range : Within w req → (Valid w req → ⊥) → Rejected o
+  pub already : Within w req → (i : ℕ) → Covers w req i → IsPlugged w i → Rejected o
   -- acknowledged otherwise, and then only
-  pub granted : CanPlug w req → Responds o «VIRTIO_MEM_RESP_ACK»
-  pub only-granted : Responds o «VIRTIO_MEM_RESP_ACK» → CanPlug w req
+  pub granted : CanPlug w req → Acknowledged o
+  pub only-granted : Acknowledged o → CanPlug w req
   -- M10, M13
   pub whole : WholeOrNothing w req o
   pub responses : RespondsAmong o («VIRTIO_MEM_RESP_ACK» ∷ «VIRTIO_MEM_RESP_NACK» ∷ «VIRTIO_MEM_RESP_ERROR» ∷ [])
@@ -318,16 +334,16 @@ pub record CanUnplug (w : World) (req : VirtioMemReq) : Type 0 where
 
 -- what the host's answer brings to a request that was made in the world w: its ok is acknowledged, and all blocks are unplugged (M10); its no is an ERROR
 pub record UnplugAnswered (w : World) (req : VirtioMemReq) (ok : Bool) (o : Outcome) : Type 0 where
-  pub ok-acknowledged : ok ≡ true → Responds o «VIRTIO_MEM_RESP_ACK»
-  pub no-rejected : ok ≡ false → Responds o «VIRTIO_MEM_RESP_ERROR»
+  pub ok-acknowledged : ok ≡ true → Acknowledged o
+  pub no-rejected : ok ≡ false → Rejected o
   pub whole : WholeOrNothing w req o
 
 pub record Unplug (w : World) (req : VirtioMemReq) (o : Outcome) : Type 0 where
   -- rejected with ERROR if it is not valid, or a block is unplugged already
-  pub bad-range : (Valid w req → ⊥) → Responds o «VIRTIO_MEM_RESP_ERROR»
-  pub already : (i : ℕ) → Covers w req i → IsUnplugged w i → Responds o «VIRTIO_MEM_RESP_ERROR»
+  pub bad-range : (Valid w req → ⊥) → Rejected o
+  pub already : (i : ℕ) → Covers w req i → IsUnplugged w i → Rejected o
   -- otherwise the host is asked for the range, by its offset and size. Narrower: where one mapping of the host has it. A plugged_size that has not so much is spoiled, and in no run (`PluggedBlocksUnplug`)
-  pub granted : (can : CanUnplug w req) → sizeOf w req ≤ plugged w → AsksFor o (DiscardCall (record { 0 = offsetOf w req }) (sizeOf w req) (can .mapped .host))
+  pub granted : (can : CanUnplug w req) → sizeOf w req ≤ plugged w → AsksToDiscard o (offsetOf w req) (sizeOf w req) (can .mapped .host)
   pub spoiled : CanUnplug w req → plugged w < sizeOf w req → o .answer ≡ Refused 12
   pub only-granted : (call : HostCall) → AsksFor o call → CanUnplug w req
   -- there is no response yet, and nothing is unplugged (M10), until the host has answered
@@ -356,23 +372,23 @@ pub record AsksLowest (w : World) (from : ℕ) (o : Outcome) : Type 0 where
   pub block : ℕ
   pub lowest : Lowest w from block
   pub can : CanDiscard w block
-  pub asks : AsksFor o (DiscardCall (record { 0 = block * blockSize w }) (blockSize w) (can .mapped .host))
+  pub asks : AsksToDiscard o (block * blockSize w) (blockSize w) (can .mapped .host)
   pub status : GuestAddr
   pub awaits : Awaits (o .world) (DiscardOne block status)
 
 -- an unplug-all that has come to block `from`
 pub record UnplugsFrom (w : World) (from : ℕ) (o : Outcome) : Type 0 where
   -- acknowledged if no block is plugged any more, and then only; plugged_size is 0
-  pub none-left : NoneFrom w from → Responds o «VIRTIO_MEM_RESP_ACK»
-  pub only-none-left : Responds o «VIRTIO_MEM_RESP_ACK» → NoneFrom w from
-  pub size-zero : Responds o «VIRTIO_MEM_RESP_ACK» → (o .world .blocks ≡ w .blocks) × (plugged (o .world) ≡ 0)
+  pub none-left : NoneFrom w from → Acknowledged o
+  pub only-none-left : Acknowledged o → NoneFrom w from
+  pub size-zero : Acknowledged o → (o .world .blocks ≡ w .blocks) × (plugged (o .world) ≡ 0)
   -- otherwise the host is asked for the lowest one, and for no other, which stays plugged until it answers
   pub asks-lowest : (i : ℕ) → Lowest w from i → CanDiscard w i → AsksLowest w from o
   pub only-lowest : (call : HostCall) → AsksFor o call → AsksLowest w from o
-  pub not-yet : (Responds o «VIRTIO_MEM_RESP_ACK» → ⊥) → Unchanged w (o .world)
+  pub not-yet : (Acknowledged o → ⊥) → Unchanged w (o .world)
   -- ERROR if no mapping has it, and for no other reason
-  pub cannot : (i : ℕ) → Lowest w from i → (CanDiscard w i → ⊥) → Responds o «VIRTIO_MEM_RESP_ERROR»
-  pub only-cannot : Responds o «VIRTIO_MEM_RESP_ERROR» → (i : ℕ) × Lowest w from i × (CanDiscard w i → ⊥)
+  pub cannot : (i : ℕ) → Lowest w from i → (CanDiscard w i → ⊥) → Rejected o
+  pub only-cannot : Rejected o → (i : ℕ) × Lowest w from i × (CanDiscard w i → ⊥)
   pub responses : RespondsAmong o («VIRTIO_MEM_RESP_ACK» ∷ «VIRTIO_MEM_RESP_ERROR» ∷ [])
 
 abbrev pub UnplugAll : World → VirtioMemReq → Outcome → Type 0
@@ -386,7 +402,7 @@ pub record OneUnplugged (w : World) (j : ℕ) (w′ : World) : Type 0 where
 
 -- the host has answered for block j of an unplug-all: its no is an ERROR, and nothing has changed; by its ok the block is unplugged, and the next is looked for
 pub record OneAnswered (w : World) (j : ℕ) (ok : Bool) (o : Outcome) : Type 0 where
-  pub no-rejected : ok ≡ false → Responds o «VIRTIO_MEM_RESP_ERROR»
+  pub no-rejected : ok ≡ false → Rejected o
   pub no-unchanged : ok ≡ false → Unchanged w (o .world)
   pub ok-unplugs : OneUnplugged w j (cleared w j)
   pub ok-goes-on : ok ≡ true → UnplugsFrom (cleared w j) (j + 1) o
@@ -397,8 +413,8 @@ OfEveryOne = (w : World) (j : ℕ) (status : GuestAddr) → Awaits w (DiscardOne
 -- ---- M16: STATE
 pub record State (w : World) (req : VirtioMemReq) (o : Outcome) : Type 0 where
   -- rejected with ERROR if it is not valid, and acknowledged otherwise
-  pub bad-range : (Valid w req → ⊥) → Responds o «VIRTIO_MEM_RESP_ERROR»
-  pub acknowledged : Valid w req → Responds o «VIRTIO_MEM_RESP_ACK»
+  pub bad-range : (Valid w req → ⊥) → Rejected o
+  pub acknowledged : Valid w req → Acknowledged o
   -- with PLUGGED, UNPLUGGED or MIXED
   pub all-plugged : Valid w req → ((i : ℕ) → Covers w req i → IsPlugged w i) → Tells o «VIRTIO_MEM_STATE_PLUGGED»
   pub all-unplugged : Valid w req → ((i : ℕ) → Covers w req i → IsUnplugged w i) → Tells o «VIRTIO_MEM_STATE_UNPLUGGED»
@@ -416,10 +432,10 @@ pub record Unknown (w : World) (req : VirtioMemReq) (o : Outcome) : Type 0 where
 -- M12: NACK is given to no other request than a plug whose plugged_size would exceed requested_size
 pub record PlugPastRequested (w : World) (c : Call) : Type 0 where
   pub brings : Brings w c «VIRTIO_MEM_REQ_PLUG»
-  pub over : requested w < plugged w + sizeOf w (brings .req)
+  pub over : Exceeds w (brings .req)
 
 abbrev pub NackOnlyPastRequested : World → Call → Outcome → Type 0
-NackOnlyPastRequested w c o = Responds o «VIRTIO_MEM_RESP_NACK» → PlugPastRequested w c
+NackOnlyPastRequested w c o = Declined o → PlugPastRequested w c
 
 -- M17: BUSY is never given, so no request is asked to be tried again
 abbrev pub NeverBusy : World → Call → Outcome → Type 0

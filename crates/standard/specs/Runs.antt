@@ -15,7 +15,7 @@ use Rattle.step.specs.Step.{step, blockSize, start, several, usable, plugged, r
 use Rattle.history.specs.History.{Open, Unplugging, UnpluggingAll, UnplugAllAck, acknowledges, used, Story, next}
 use Rattle.history.specs.Rules.{InEveryRun}
 use Rattle.standard.specs.Config.{FieldsLaidOut, PluggedSizeIsOfBlocks, OutsideIsUnplugged}
-use Rattle.standard.specs.Requests.{Responds, AsksFor, IsPlugged, IsUnplugged, Covers, Valid, sizeOf, offsetOf, OneMapping, Brings, CanDiscard, «VIRTIO_MEM_REQ_PLUG», «VIRTIO_MEM_REQ_UNPLUG», «VIRTIO_MEM_REQ_UNPLUG_ALL», «VIRTIO_MEM_RESP_ACK», «VIRTIO_MEM_RESP_ERROR»}
+use Rattle.standard.specs.Requests.{Acknowledged, Rejected, AsksFor, AsksToDiscard, IsPlugged, IsUnplugged, Covers, Valid, sizeOf, offsetOf, OneMapping, Brings, CanDiscard, «VIRTIO_MEM_REQ_PLUG», «VIRTIO_MEM_REQ_UNPLUG», «VIRTIO_MEM_REQ_UNPLUG_ALL»}
 
 -- ---- M11, M14: in a run the host has memory for the whole usable region. What is narrower is that a request may not cross a border: with several regions each 2 GiB of offsets are a map region
 pub record InOneMapRegion (w : World) (req : VirtioMemReq) : Type 0 where
@@ -29,12 +29,12 @@ UsableIsMapped s c = (req : VirtioMemReq) → InOneMapRegion (s .world) req → 
 abbrev pub FreeBlocksPlug : Story → Call → Type 0
 FreeBlocksPlug s c = let w = s .world in (b : Brings w c «VIRTIO_MEM_REQ_PLUG») → InOneMapRegion w (b .req)
     → ones (used w) * blockSize w + sizeOf w (b .req) ≤ requested w → ((i : ℕ) → Covers w (b .req) i → IsUnplugged w i)
-    → Responds (step w c) «VIRTIO_MEM_RESP_ACK»
+    → Acknowledged (step w c)
 
 -- M14: plugged blocks can be unplugged, since plugged_size has them: the host is asked for their offset and size
 abbrev pub PluggedBlocksUnplug : Story → Call → Type 0
 PluggedBlocksUnplug s c = let w = s .world in (b : Brings w c «VIRTIO_MEM_REQ_UNPLUG») → InOneMapRegion w (b .req) → ((i : ℕ) → Covers w (b .req) i → IsPlugged w i)
-    → (host : HostAddr) × AsksFor (step w c) (Discard (record { 0 = offsetOf w (b .req) }) (sizeOf w (b .req)) host)
+    → (host : HostAddr) × AsksToDiscard (step w c) (offsetOf w (b .req)) (sizeOf w (b .req)) host
 
 -- ---- M15: an ACK to an unplug-all, at once or when the host has discarded the last block, says that no block is plugged and that plugged_size is 0
 pub record NonePlugged (w : World) : Type 0 where
@@ -43,7 +43,7 @@ pub record NonePlugged (w : World) : Type 0 where
 
 abbrev pub UnplugAllAcknowledged : Story → Call → Type 0
 UnplugAllAcknowledged s c = acknowledges (s .world) (s .«open») c ≡ UnplugAllAck ∷ []
-    → Responds (step (s .world) c) «VIRTIO_MEM_RESP_ACK» → NonePlugged (next s c .world)
+    → Acknowledged (step (s .world) c) → NonePlugged (next s c .world)
 
 -- M15: every plugged block can be discarded, so an unplug-all meets with an ERROR only by the host's no
 abbrev pub PluggedCanBeDiscarded : Story → Call → Type 0
@@ -51,7 +51,7 @@ PluggedCanBeDiscarded s c = (i : ℕ) → i < regionBlocks (s .world) → IsPlug
 
 abbrev pub UnplugAllFailsByHost : Story → Call → Type 0
 UnplugAllFailsByHost s c = acknowledges (s .world) (s .«open») c ≡ UnplugAllAck ∷ []
-    → Responds (step (s .world) c) «VIRTIO_MEM_RESP_ERROR» → (guest : Guest) × (host : ℕ) × (c ≡ HostAnswer guest false host)
+    → Rejected (step (s .world) c) → (guest : Guest) × (host : ℕ) × (c ≡ HostAnswer guest false host)
 
 -- ---- M18: what the driver asks to unplug, by the request that the call brings, or by one that has not ended
 pub data AsksToUnplug (w : World) (o : Open) (c : Call) (i : ℕ) : Type 0 where
@@ -72,7 +72,7 @@ hostAgrees (WriteConfig offset buffer) = false
 -- no block is plugged but by a plug request that covers it; placing, which clears every block, is before any driver
 abbrev pub PluggedByRequest : World → Call → Outcome → Type 0
 PluggedByRequest w c o = w .device .placed ≡ true → (i : ℕ) → IsUnplugged w i → IsPlugged (o .world) i
-    → (b : Brings w c «VIRTIO_MEM_REQ_PLUG») × Covers w (b .req) i × Responds o «VIRTIO_MEM_RESP_ACK»
+    → (b : Brings w c «VIRTIO_MEM_REQ_PLUG») × Covers w (b .req) i × Acknowledged o
 
 -- none is unplugged but by an unplug request that covers it, or by an unplug-all, when the host agrees
 abbrev pub UnpluggedByRequest : Story → Call → Type 0
