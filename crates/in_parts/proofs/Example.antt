@@ -23,8 +23,8 @@ use Rattle.change.specs.Change.{insideOf, rangeOf, hostSum, hostIn, hostOf, leg
 use Rattle.step.specs.Answers.{response}
 use Rattle.step.specs.World.{World, Guest, Call, Request}
 use Rattle.step.specs.Step.{tablesFit, readyRefusal, unless, plugAs, plug, serve, request, step}
-use Rattle.standard.specs.Requests.{«VIRTIO_MEM_RESP_ACK», «VIRTIO_MEM_RESP_NACK»}
-use Rattle.in_parts.specs.InParts.{plugRequest, Asks, Acknowledged, AllAcknowledged, endOf, SameAs, InTwo, Part, borderBetween, Raised}
+use Rattle.standard.specs.Requests.{Acknowledged, «VIRTIO_MEM_RESP_ACK», «VIRTIO_MEM_RESP_NACK»}
+use Rattle.in_parts.specs.InParts.{plugRequest, Asks, AllAcknowledged, endOf, SameAs, InTwo, Part, borderBetween, Raised}
 use Rattle.in_parts.proofs.Asking.{asking}
 
 -- the device of the whole example (R12.12), placed, with nothing plugged and so much requested

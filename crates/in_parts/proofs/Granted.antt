@@ -25,9 +25,9 @@ use Rattle.step.specs.World.{World, Guest, Call}
 use Rattle.step.specs.Step.{step, unless, request, serve, readyRefusal, tablesFit, plug, plugAs, plugs, changing, blockSize, start, usable, several, plugged, requested}
 use Rattle.step.proofs.Entry.{Ready, ready-is, ready-when}
 use Rattle.history.specs.History.{blockOf}
-use Rattle.standard.specs.Requests.{Responds, «VIRTIO_MEM_RESP_ERROR»}
+use Rattle.standard.specs.Requests.{Acknowledged, Rejected}
 use Rattle.history.proofs.KeepsShape.{step-shaped}
-use Rattle.in_parts.specs.InParts.{Asks, Acknowledged}
+use Rattle.in_parts.specs.InParts.{Asks}
 
 -- ---- what is so of a plug that is acknowledged
 -- tests (b) to (d) are passed
@@ -83,11 +83,11 @@ module _ (w : World) (addr count status : ℕ) (g : Guest) where
       rw (le-ltb (requested w) (plugged w + bytesOf (blockSize w) count) (x .within), q)
 
   -- within the requested size and not granted, it is ERROR
-  plug-error : plugged w + bytesOf (blockSize w) count ≤ requested w → (Granted w addr count → ⊥) → Responds (plug w addr count status g) «VIRTIO_MEM_RESP_ERROR»
+  plug-error : plugged w + bytesOf (blockSize w) count ≤ requested w → (Granted w addr count → ⊥) → Rejected (plug w addr count status g)
   unfolding plug plugAs response
   plug-error h never = rw (le-ltb (requested w) (plugged w + bytesOf (blockSize w) count) h) (go (changing w addr count true) refl)
     where
-      go : (c : Change) → changing w addr count true ≡ c → Responds (plugAs c w count status g) «VIRTIO_MEM_RESP_ERROR»
+      go : (c : Change) → changing w addr count true ≡ c → Rejected (plugAs c w count status g)
       go (Legal first offset host) q = absurd (never (within-granted (Legal first offset host) q h refl))
       go (Outside part) q = refl
       go WrongState q = refl
@@ -205,5 +205,5 @@ module _ (w : World) (c : Call) (addr count : ℕ) (a : Asks c addr count) where
         let kept = whole _ (step-shaped w (parts (w .device) (r .shaped)) c) in
         record { shaped = rw granted-does at kept; idle = r .idle; is-placed = r .is-placed; fits = rw (fill-length (w .blocks) (blockOf w addr) count true) (r .fits) }
 
-  pub not-granted-error : Reached w → plugged w + bytesOf (blockSize w) count ≤ requested w → (Granted w addr count → ⊥) → Responds (step w c) «VIRTIO_MEM_RESP_ERROR»
+  pub not-granted-error : Reached w → plugged w + bytesOf (blockSize w) count ≤ requested w → (Granted w addr count → ⊥) → Rejected (step w c)
   not-granted-error r h never = rw (reached-serves r) (plug-error w addr count (a .status .0) (a .guest) h never)

@@ -11,7 +11,8 @@ use Rattle.units.specs.Numbers.{bytesOf, mapRegion}
 use Rattle.step.specs.World.{World, Call}
 use Rattle.step.specs.Step.{step, blockSize, start, several, plugged, requested}
 use Rattle.history.proofs.Shaped.{clash}
-use Rattle.in_parts.specs.InParts.{Asks, Acknowledged, AllAcknowledged, endOf, onBorder, OneThenTwo, TwoThenOne, Part, callsOf, total, EachSome, InTurn, borderBetween, OneThenMany, ManyThenOne, IsPlug, EachPlugs, AnyOrder, OneThenAnyOrder}
+use Rattle.standard.specs.Requests.{Acknowledged}
+use Rattle.in_parts.specs.InParts.{Asks, AllAcknowledged, endOf, onBorder, OneThenTwo, TwoThenOne, Part, callsOf, total, EachSome, InTurn, borderBetween, OneThenMany, ManyThenOne, IsPlug, EachPlugs, AnyOrder, OneThenAnyOrder}
 use Rattle.in_parts.proofs.Granted.{Granted, taken, Reached, positive-of, granted-first, granted-second, taken-both, granted-joined, granted-no-seam, other-first, then-this, taken-swap, acknowledged-reached, acknowledged-granted, granted-acknowledged, granted-takes, still-reached, not-granted-error}
 
 -- ---- the seam

@@ -14,9 +14,9 @@ use Rattle.chain.specs.Chain.{parsed}
 use Rattle.record.specs.Shape.{sizeOk}
 use Rattle.record.specs.Changes.{requestedTo}
 use Rattle.step.specs.declared.Answer.the-variants.{Refused, Sized}
-use Rattle.step.specs.World.{World, Guest, Call, SetRequestedSize, Request, Outcome}
+use Rattle.step.specs.World.{World, Guest, Call, SetRequestedSize, Request}
 use Rattle.step.specs.Step.{step, blockSize, region, start, several, requested, deviceOf}
-use Rattle.standard.specs.Requests.{Responds, «VIRTIO_MEM_REQ_PLUG», «VIRTIO_MEM_RESP_ACK», «VIRTIO_MEM_RESP_ERROR»}
+use Rattle.standard.specs.Requests.{Acknowledged, Rejected, «VIRTIO_MEM_REQ_PLUG»}
 
 -- ---- a plug, as the guest asks for it
 abbrev pub plugRequest : (addr count : ℕ) → VirtioMemReq
@@ -41,9 +41,6 @@ AnyUpTo65535 = (addr count : ℕ) → addr < 2 ^ 64 → count ≤ 65535 → Aska
 
 abbrev pub NoneAbove65535 : Type 0
 NoneAbove65535 = (c : Call) (addr count : ℕ) (a : Asks c addr count) → ((i : ℕ) → getD (a .guest .mem) i 0 < 256) → count ≤ 65535
-
-abbrev pub Acknowledged : Outcome → Type 0
-Acknowledged o = Responds o «VIRTIO_MEM_RESP_ACK»
 
 -- ---- calls one after the other: each is acknowledged; and the record, bits and rows that they end in
 unfoldable pub AllAcknowledged : World → List Call → Type 0
@@ -78,7 +75,7 @@ OneThenTwo = (w : World) (addr n k : ℕ) (whole first second : Call) → InTwo 
 -- R16.2, of the whole where its parts are acknowledged: without a border between so is it, and it ends as they do; with one it is ERROR
 pub record Joined (w : World) (border : Bool) (cs : List Call) (whole : Call) : Type 0 where
   pub same : border ≡ false → Acknowledged (step w whole) × (step w whole .world ≡ endOf w cs)
-  pub stopped : border ≡ true → Responds (step w whole) «VIRTIO_MEM_RESP_ERROR»
+  pub stopped : border ≡ true → Rejected (step w whole)
 
 abbrev pub TwoThenOne : Type 0
 TwoThenOne = (w : World) (addr n k : ℕ) (whole first second : Call) → InTwo (blockSize w) addr n k whole first second
