@@ -23,7 +23,7 @@ use Rattle.step.specs.World.{World, Guest, Request}
 use Rattle.step.specs.Step.{blockSize, usable, plugged, requested, start, several, regionBlocks, regionRows, tablesFit, readyRefusal, unless, plugAs, plug, serve, request, step}
 use Rattle.driver.specs.declared.Proposal.the-variants.{Plug, Refused}
 use Rattle.driver.specs.Plan.{roomOf, countOf, planAt, planOf}
-use Rattle.driving.specs.Sound.{Ready, Acknowledged}
+use Rattle.driving.specs.Sound.{Ready, PlugAcknowledged}
 use Rattle.driving.proofs.Legal.{proposed, some-count}
 
 clash : {A : Type 0} {n m : ℕ} {a : GuestAddr} → Refused n ≡ Plug a m → A
@@ -90,7 +90,7 @@ ready-zero w r h = simp (r .shaped, r .idle, r .placed, le-leb (regionBlocks w) 
 -- ---- as many blocks as proposed, or fewer, from the start of the proposal on
 module _ (w : World) (r : Ready w) (addr : GuestAddr) (n : ℕ) (e : planOf (w .device .config) (w .blocks) ≡ Plug addr n)
     (g : Guest) (descriptors head : ℕ) (status : GuestAddr) where
-  up-to : (m : ℕ) → (n ≡ 0 → ⊥) × (0 < m → m ≤ n → parsed (g .mem) (g .base) descriptors head ≡ Got (record { «req_type» = 0; addr = addr; «nb_blocks» = m }) status → Acknowledged w (addr .0) m (status .0) g (step w (Request g descriptors head)))
+  up-to : (m : ℕ) → (n ≡ 0 → ⊥) × (0 < m → m ≤ n → parsed (g .mem) (g .base) descriptors head ≡ Got (record { «req_type» = 0; addr = addr; «nb_blocks» = m }) status → PlugAcknowledged w (addr .0) m (status .0) g (step w (Request g descriptors head)))
   unfolding step unless request serve plug plugAs
   up-to m =
       let p = plan-is (w .device .config) (w .blocks) addr n e in
@@ -112,7 +112,7 @@ module _ (w : World) (r : Ready w) (addr : GuestAddr) (n : ℕ) (e : planOf (w .
 -- ---- R14.9: a device that is ready acknowledges what is proposed
 pub acknowledged : (w : World) → Ready w → (addr : GuestAddr) (n : ℕ) → planOf (w .device .config) (w .blocks) ≡ Plug addr n
     → (g : Guest) (descriptors head : ℕ) (status : GuestAddr) → parsed (g .mem) (g .base) descriptors head ≡ Got (record { «req_type» = 0; addr = addr; «nb_blocks» = n }) status
-    → Acknowledged w (addr .0) n (status .0) g (step w (Request g descriptors head))
+    → PlugAcknowledged w (addr .0) n (status .0) g (step w (Request g descriptors head))
 acknowledged w r addr n e g descriptors head status q =
     let u = up-to w r addr n e g descriptors head status n in
     let s : 0 < n = omega (arith, u .0) in
@@ -121,7 +121,7 @@ acknowledged w r addr n e g descriptors head status q =
 -- ---- and the plug of one block at its start
 pub one-acknowledged : (w : World) → Ready w → (addr : GuestAddr) (n : ℕ) → planOf (w .device .config) (w .blocks) ≡ Plug addr n
     → (g : Guest) (descriptors head : ℕ) (status : GuestAddr) → parsed (g .mem) (g .base) descriptors head ≡ Got (record { «req_type» = 0; addr = addr; «nb_blocks» = 1 }) status
-    → Acknowledged w (addr .0) 1 (status .0) g (step w (Request g descriptors head))
+    → PlugAcknowledged w (addr .0) 1 (status .0) g (step w (Request g descriptors head))
 one-acknowledged w r addr n e g descriptors head status q =
     let u = up-to w r addr n e g descriptors head status 1 in
     let s : 1 ≤ n = omega (arith, u .0) in

@@ -35,12 +35,12 @@ use Rattle.driver.specs.declared.Proposal.the-variants.{Plug, Refused}
 use Rattle.driver.specs.Plan.{planOf}
 use Rattle.driver.specs.Text.{requestBytes, Wrote}
 use Rattle.driver.proofs.Laws.{count-few, starts}
-use Rattle.driving.specs.Sound.{Ready, Acknowledged}
-use Rattle.driving.specs.Chain.{Stands, RequestFits, Holds, plugOf, Places, firstAddr, secondAddr, Apart, PlacesIn, putAt, laidIn, in66}
+use Rattle.driving.specs.Sound.{Ready, PlugAcknowledged}
+use Rattle.driving.specs.Chain.{BytesAt, RequestFits, HoldsRequest, plugOf, Places, firstAddr, secondAddr, NoOverlap, PlacesIn, putAt, laidIn, in66}
 use Rattle.driving.proofs.Acks.{plan-is, acknowledged, one-acknowledged}
 use Rattle.driving.proofs.Exact.{none-acknowledged}
 
-module _ (g : Guest) (descriptors head : ℕ) (q : VirtioMemReq) (status : GuestAddr) (h : Holds g descriptors head q status) where
+module _ (g : Guest) (descriptors head : ℕ) (q : VirtioMemReq) (status : GuestAddr) (h : HoldsRequest g descriptors head q status) where
   abbrev first : Descriptor
   first = record { addr = record { 0 = h .request-at }; len = 24; flags = 1; next = h .second-index }
 
@@ -80,7 +80,7 @@ length-request : (q : VirtioMemReq) → length (requestBytes q) ≡ 24
 length-request q = request-size (q .«req_type») 0 0 0 (q .addr .0) (q .«nb_blocks») 0 0 0
 
 -- bytes that are written where they lie inside stand there
-put-stands : (g : Guest) (addr n : ℕ) (bytes : List ℕ) → length bytes ≡ n → inside (length (g .mem)) (g .base) addr n ≡ true → Stands (putAt g addr bytes) addr n bytes
+put-stands : (g : Guest) (addr n : ℕ) (bytes : List ℕ) → length bytes ≡ n → inside (length (g .mem)) (g .base) addr n ≡ true → BytesAt (putAt g addr bytes) addr n bytes
 put-stands g addr n bytes e l =
     let i = inside-facts (length (g .mem)) (g .base) addr n l in
     record {
@@ -89,13 +89,13 @@ put-stands g addr n bytes e l =
     }
 
 -- and bytes apart from them stay
-part-apart : (xs : List ℕ) (base addr n other m : ℕ) (ys : List ℕ) → length ys ≡ m → base ≤ addr → base ≤ other → Apart addr n other m
+part-apart : (xs : List ℕ) (base addr n other m : ℕ) (ys : List ℕ) → length ys ≡ m → base ≤ addr → base ≤ other → NoOverlap addr n other m
     → part (put xs (other - base) ys) (addr - base) n ≡ part xs (addr - base) n
 part-apart xs base addr n other m ys e a o (inl h) = part-put-before xs (other - base) ys (addr - base) n (omega arith)
 part-apart xs base addr n other m ys e a o (inr h) = part-put-behind xs (other - base) ys (addr - base) n (omega arith)
 
-still-stands : (g : Guest) (addr n : ℕ) (bytes : List ℕ) (other m : ℕ) (more : List ℕ) → length more ≡ m → inside (length (g .mem)) (g .base) other m ≡ true → Apart addr n other m
-    → Stands g addr n bytes → Stands (putAt g other more) addr n bytes
+still-stands : (g : Guest) (addr n : ℕ) (bytes : List ℕ) (other m : ℕ) (more : List ℕ) → length more ≡ m → inside (length (g .mem)) (g .base) other m ≡ true → NoOverlap addr n other m
+    → BytesAt g addr n bytes → BytesAt (putAt g other more) addr n bytes
 still-stands g addr n bytes other m more e l apart s =
     let i = inside-facts (length (g .mem)) (g .base) addr n (s .lies) in
     let j = inside-facts (length (g .mem)) (g .base) other m l in
@@ -109,7 +109,7 @@ pub length-laid : (g : Guest) (p : Places) (q : VirtioMemReq) → length (laidIn
 length-laid g p q = rw (length-put, length-put, length-put)
 
 module _ (g : Guest) (p : Places) (q : VirtioMemReq) (fit : PlacesIn g p) where
-  descs-apart : Apart (firstAddr p) 16 (secondAddr p) 16
+  descs-apart : NoOverlap (firstAddr p) 16 (secondAddr p) 16
   unfolding descriptorAddr
   descs-apart =
       by-test (ltb (p .head) (p .second))
@@ -134,7 +134,7 @@ module _ (g : Guest) (p : Places) (q : VirtioMemReq) (fit : PlacesIn g p) where
   request-lies : inside (length (two .mem)) (g .base) (p .request) 24 ≡ true
   request-lies = rw (length-put (one .mem) (secondAddr p - g .base) secondBytes, length-put (g .mem) (firstAddr p - g .base) firstBytes) (fit .request-lies)
 
-  pub laid-holds : RequestFits q → Holds (laidIn g p q) (p .descriptors) (p .head) q (p .status)
+  pub laid-holds : RequestFits q → HoldsRequest (laidIn g p q) (p .descriptors) (p .head) q (p .status)
   laid-holds f =
       let d = length-desc (p .request) 24 1 (p .second) in
       let e = length-desc (p .status .0) (p .len) 2 0 in
@@ -188,7 +188,7 @@ in-66 g long low =
 
 -- ---- the request that `write_request` writes
 -- a slice that it wrote, 0 being its answer, standing at an address, is a request standing there
-pub wrote-stands : (q : VirtioMemReq) (entry exit : List ℕ) → Wrote q entry exit 0 → (g : Guest) (addr : ℕ) → Stands g addr (length exit) exit → Stands g addr 24 (requestBytes q)
+pub wrote-stands : (q : VirtioMemReq) (entry exit : List ℕ) → Wrote q entry exit 0 → (g : Guest) (addr : ℕ) → BytesAt g addr (length exit) exit → BytesAt g addr 24 (requestBytes q)
 wrote-stands q entry exit w g addr s =
     let long : 24 ≤ length entry = by-test (leb 24 (length entry)) (λ t. leb-true 24 (length entry) t) (λ t. let z = w .short (leb-false 24 (length entry) t) .0 in absurd (omega arith)) in
     let e = w .whole long .1 in
@@ -223,13 +223,13 @@ module _ (c : VirtioMemConfig) (bs : List Bool) (addr : GuestAddr) (n : ℕ) (e 
 -- ---- the theorems of Acks.antt and Exact.antt, for guest memory that holds the plug
 module _ (w : World) (r : Ready w) (addr : GuestAddr) (n : ℕ) (e : planOf (w .device .config) (w .blocks) ≡ Plug addr n)
     (g : Guest) (descriptors head : ℕ) (status : GuestAddr) where
-  pub acknowledged-held : Holds g descriptors head (plugOf addr n) status → Acknowledged w (addr .0) n (status .0) g (step w (Request g descriptors head))
+  pub acknowledged-held : HoldsRequest g descriptors head (plugOf addr n) status → PlugAcknowledged w (addr .0) n (status .0) g (step w (Request g descriptors head))
   acknowledged-held h = acknowledged w r addr n e g descriptors head status (held-parses g descriptors head (plugOf addr n) status h)
 
-  pub one-acknowledged-held : Holds g descriptors head (plugOf addr 1) status → Acknowledged w (addr .0) 1 (status .0) g (step w (Request g descriptors head))
+  pub one-acknowledged-held : HoldsRequest g descriptors head (plugOf addr 1) status → PlugAcknowledged w (addr .0) 1 (status .0) g (step w (Request g descriptors head))
   one-acknowledged-held h = one-acknowledged w r addr n e g descriptors head status (held-parses g descriptors head (plugOf addr 1) status h)
 
 pub none-acknowledged-held : (w : World) → Ready w → planOf (w .device .config) (w .blocks) ≡ Refused 17
-    → (addr : GuestAddr) (g : Guest) (descriptors head : ℕ) (status : GuestAddr) → Holds g descriptors head (plugOf addr 1) status
+    → (addr : GuestAddr) (g : Guest) (descriptors head : ℕ) (status : GuestAddr) → HoldsRequest g descriptors head (plugOf addr 1) status
     → (len : ℕ) → step w (Request g descriptors head) .answer ≡ servedWith ack len → ⊥
 none-acknowledged-held w r e addr g descriptors head status h = none-acknowledged w r e addr status g descriptors head (held-parses g descriptors head (plugOf addr 1) status h)

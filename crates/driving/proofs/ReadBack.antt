@@ -47,8 +47,8 @@ use Rattle.driver.specs.declared.Proposal.the-variants.{Plug, Refused as NoPlug
 use Rattle.driver.specs.Text.{ReadsConfig, ConfigFits}
 use Rattle.driver.specs.Plan.{roomOf, planAt, planOf}
 use Rattle.driver.proofs.Trips.{config-back}
-use Rattle.driving.specs.Sound.{Ready, Acknowledged}
-use Rattle.driving.specs.Chain.{Holds, plugOf, laidIn, in66, GoesTo, OfChain, OfUnplug, OfUnplugAll, ReadAt, ReadBack}
+use Rattle.driving.specs.Sound.{Ready, PlugAcknowledged}
+use Rattle.driving.specs.Chain.{HoldsRequest, plugOf, laidIn, in66, GoesTo, OfChain, OfUnplug, OfUnplugAll, ReadAt, ReadBack}
 use Rattle.driving.proofs.Held.{held-parses, acknowledged-held, proposal-fits, length-laid, laid-holds, is-inside, in-66}
 
 -- ---- the known types and states
@@ -234,7 +234,7 @@ moved : {g g′ : Guest} {status status′ : GuestAddr} (bytes : List ℕ) (resp
 moved bytes resp a b x = rw (a, b) x
 
 -- the response to a request that guest memory holds
-pub held-read : (w : World) (g : Guest) (descriptors head : ℕ) (q : VirtioMemReq) (status : GuestAddr) → Holds g descriptors head q status
+pub held-read : (w : World) (g : Guest) (descriptors head : ℕ) (q : VirtioMemReq) (status : GuestAddr) → HoldsRequest g descriptors head q status
     → (resp : VirtioMemResp) → step w (Request g descriptors head) .answer ≡ servedWith resp 10 → ReadAt g status (step w (Request g descriptors head) .bytes) resp
 held-read w g descriptors head q status h resp e =
     let b = read-back w (Request g descriptors head) _ e in
@@ -283,7 +283,7 @@ module _ (d : Device) (e : shapedOf d ≡ true) (bs : List Bool) where
 -- ---- a whole turn
 -- the plug that is proposed, held by guest memory with room for the response, is acknowledged, and the driver reads the ACK
 pub ack-read : (w : World) → Ready w → (addr : GuestAddr) (n : ℕ) → planOf (w .device .config) (w .blocks) ≡ Plug addr n
-    → (g : Guest) (descriptors head : ℕ) (status : GuestAddr) → Holds g descriptors head (plugOf addr n) status → reaches (g .mem) (g .base) (status .0) ≡ true
+    → (g : Guest) (descriptors head : ℕ) (status : GuestAddr) → HoldsRequest g descriptors head (plugOf addr n) status → reaches (g .mem) (g .base) (status .0) ≡ true
     → ReadAt g status (step w (Request g descriptors head) .bytes) ack
 ack-read w r addr n e g descriptors head status h room =
     let a = acknowledged-held w r addr n e g descriptors head status h in
@@ -297,7 +297,7 @@ pub turn : (w : World) → Ready w → w .device .config .«node_id» < 65536
     → let p = in66 (g .base) in
     let g′ = laidIn g p (plugOf addr n) in
     let o = step w (Request g′ (p .descriptors) (p .head)) in
-    Acknowledged w (addr .0) n (p .status .0) g′ o × ReadAt g′ (p .status) (o .bytes) ack
+    PlugAcknowledged w (addr .0) n (p .status .0) g′ o × ReadAt g′ (p .status) (o .bytes) ack
 unfolding reaches
 turn w r node buffer long got reads c is addr n e g room low =
     let p = in66 (g .base) in

@@ -29,7 +29,7 @@ use Rattle.step.specs.Step.{blockSize, region, usable, plugged, requested, star
 use Rattle.driver.specs.declared.Proposal.{Proposal}
 use Rattle.driver.specs.declared.Proposal.the-variants.{Plug, Refused}
 use Rattle.driver.specs.Plan.{borderAfter, stopOf, roomOf, planAt, planOf}
-use Rattle.driving.specs.Sound.{Stops, Ready, planned, pluggedWorld, driveAt, drives, usableBlocks, pluggedBlocks, Counted, There, begins, runsBelow, freeRuns}
+use Rattle.driving.specs.Sound.{Stops, Ready, planned, pluggedWorld, driveAt, drives, usableBlocks, pluggedBlocks, Counted, There, beginsRun, runsBelow, freeRuns}
 use Rattle.driving.proofs.Legal.{run, proposed, some-count}
 use Rattle.driving.proofs.Acks.{plan-is, acknowledged}
 use Rattle.driving.proofs.Exact.{spent-is, plan-stops}
@@ -149,10 +149,10 @@ kept w r k first n g =
     }
 
 -- ---- a run is filled: one fewer begins
-module _ (per : ℕ) (bs bs′ : List Bool) (j : ℕ) (was : begins per bs j ≡ true) (is : begins per bs′ j ≡ false) where
+module _ (per : ℕ) (bs bs′ : List Bool) (j : ℕ) (was : beginsRun per bs j ≡ true) (is : beginsRun per bs′ j ≡ false) where
   -- no other block has changed in that
   abbrev SameBelow : ℕ → Type 0
-  SameBelow n = (i : ℕ) → i < n → (i ≡ j → ⊥) → begins per bs′ i ≡ begins per bs i
+  SameBelow n = (i : ℕ) → i < n → (i ≡ j → ⊥) → beginsRun per bs′ i ≡ beginsRun per bs i
 
   as-many : (n : ℕ) → n ≤ j → SameBelow n → runsBelow per bs′ n ≡ runsBelow per bs n
   unfolding runsBelow
@@ -172,7 +172,7 @@ module _ (per : ℕ) (bs bs′ : List Bool) (j : ℕ) (was : begins per bs j ≡
       rw (e, was, is, as-many j (omega arith) (λ i p. h i (omega arith))) (omega arith))
 
 -- where one begins there is one
-some-runs : (per : ℕ) (bs : List Bool) (j n : ℕ) → begins per bs j ≡ true → j < n → 0 < runsBelow per bs n
+some-runs : (per : ℕ) (bs : List Bool) (j n : ℕ) → beginsRun per bs j ≡ true → j < n → 0 < runsBelow per bs n
 unfolding runsBelow
 some-runs per bs j zero b l = absurd (omega arith)
 some-runs per bs j (suc n) b l =
@@ -181,8 +181,8 @@ some-runs per bs j (suc n) b l =
     (λ t. let e : n ≡ j = omega (arith, ltb-false j n t) in rw (e, b) (omega arith))
 
 -- the lowest free block is the first of a run
-begins-lowest : (per : ℕ) (bs : List Bool) (end first : ℕ) → Lowest false bs 0 end first → begins per bs first ≡ true
-unfolding begins
+begins-lowest : (per : ℕ) (bs : List Bool) (end first : ℕ) → Lowest false bs 0 end first → beginsRun per bs first ≡ true
+unfolding beginsRun
 begins-lowest per bs end zero f = rw (f .found, zero-mod per)
 begins-lowest per bs end (suc i) f =
     let z : suc i - 0 ≡ suc i = omega arith in
@@ -202,8 +202,8 @@ not-border per first i p q z =
 -- n free blocks from the lowest on are plugged, up to a plugged block, a border or the end
 module _ (per : ℕ) (bs : List Bool) (end first n : ℕ) (long : end ≤ length bs) (some : 0 < n) (low : Lowest false bs 0 end first) (in-end : first + n ≤ end) (in-border : first + n ≤ suc (first / per) * per)
     (free : allAre bs first n false ≡ true) (ends : first + n < end → (blockAt bs (first + n) ≡ true) ⊎ ((first + n) % per ≡ 0)) where
-  others : (i : ℕ) → i < end → (i ≡ first → ⊥) → begins per (fill bs first n true) i ≡ begins per bs i
-  unfolding begins
+  others : (i : ℕ) → i < end → (i ≡ first → ⊥) → beginsRun per (fill bs first n true) i ≡ beginsRun per bs i
+  unfolding beginsRun
   others i l other =
       by-test (ltb i first)
       (λ t. let h = ltb-true i first t in rw (at-before bs first n true i h, at-before bs first n true (i - 1) (omega arith)))
@@ -222,7 +222,7 @@ module _ (per : ℕ) (bs : List Bool) (end first n : ℕ) (long : end ≤ length
       (⊎-elim (λ (h : blockAt bs (first + n) ≡ true). rw (e, h)) (λ (h : (first + n) % per ≡ 0). rw (e, h)) (ends (omega arith))))))
 
   filled-run : runsBelow per bs end ≡ suc (runsBelow per (fill bs first n true) end)
-  unfolding begins
+  unfolding beginsRun
   filled-run =
       one-fewer per bs (fill bs first n true) first (begins-lowest per bs end first low) (rw (at-inside bs first n true first (omega arith) (omega arith) (low .exists))) end (low .before-end) others
 
@@ -320,8 +320,8 @@ gets-there zero w r c h = last w r c h (planned w) refl
 gets-there (suc k) w r c h = once k w r c h (gets-there k) (planned w) refl
 
 -- ---- these are at most as many as it has free blocks
-not-plugged : (per : ℕ) (bs : List Bool) (i : ℕ) → blockAt bs i ≡ true → begins per bs i ≡ false
-unfolding begins
+not-plugged : (per : ℕ) (bs : List Bool) (i : ℕ) → blockAt bs i ≡ true → beginsRun per bs i ≡ false
+unfolding beginsRun
 not-plugged per bs i e = rw e
 
 at-most-one : (t : Bool) → cond t 1 0 ≤ 1
@@ -338,7 +338,7 @@ few-runs per bs (suc n) l =
     let h = few-runs per bs n (omega arith) in
     by-test (blockAt bs n)
     (λ t. let m = rw t at o in rw (m, not-plugged per bs n t) (omega arith))
-    (λ t. let m = rw t at o in rw m (omega (arith, at-most-one (begins per bs n))))
+    (λ t. let m = rw t at o in rw m (omega (arith, at-most-one (beginsRun per bs n))))
 
 pub runs-few : (w : World) → Ready w → freeRuns w + pluggedBlocks w ≤ usableBlocks w
 runs-few w r = few-runs (blocksIn (blockSize w) mapRegion) (w .blocks) (usableBlocks w) (in-blocks w r)

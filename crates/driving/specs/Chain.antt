@@ -22,7 +22,7 @@ use Rattle.step.specs.declared.Reply.{Reply}
 use Rattle.step.specs.World.{World, Guest, Call, Request, HostAnswer}
 
 -- the n bytes at a guest address lie inside guest memory, and are these
-pub record Stands (g : Guest) (addr n : ℕ) (bytes : List ℕ) : Type 0 where
+pub record BytesAt (g : Guest) (addr n : ℕ) (bytes : List ℕ) : Type 0 where
   pub lies : inside (length (g .mem)) (g .base) addr n ≡ true
   pub are : part (g .mem) (addr - g .base) n ≡ bytes
 
@@ -34,7 +34,7 @@ pub record RequestFits (q : VirtioMemReq) : Type 0 where
 
 -- guest memory holds the request q as a chain of two descriptors, the first at index `head` of the descriptors:
 -- one of 24 bytes with NEXT (1), which are those of q, and one of 10 bytes or more with WRITE (2), for the response
-pub record Holds (g : Guest) (descriptors head : ℕ) (q : VirtioMemReq) (status : GuestAddr) : Type 0 where
+pub record HoldsRequest (g : Guest) (descriptors head : ℕ) (q : VirtioMemReq) (status : GuestAddr) : Type 0 where
   -- where q stands, the second descriptor's index, and the length and next index that this one gives
   pub request-at : ℕ
   pub second-index : ℕ
@@ -47,9 +47,9 @@ pub record Holds (g : Guest) (descriptors head : ℕ) (q : VirtioMemReq) (status
   pub next-fits : second-next < 256 ^ 2
   pub status-fits : status .0 < 256 ^ 8
   pub request-fits : RequestFits q
-  pub first : Stands g (descriptorAddr descriptors head) 16 (virtqDesc request-at 24 1 second-index)
-  pub second : Stands g (descriptorAddr descriptors second-index) 16 (virtqDesc (status .0) second-len 2 second-next)
-  pub request : Stands g request-at 24 (requestBytes q)
+  pub first : BytesAt g (descriptorAddr descriptors head) 16 (virtqDesc request-at 24 1 second-index)
+  pub second : BytesAt g (descriptorAddr descriptors second-index) 16 (virtqDesc (status .0) second-len 2 second-next)
+  pub request : BytesAt g request-at 24 (requestBytes q)
 
 -- the request that asks for a plug
 abbrev pub plugOf : GuestAddr → (count : ℕ) → VirtioMemReq
@@ -71,8 +71,8 @@ abbrev pub secondAddr : Places → ℕ
 secondAddr p = descriptorAddr (p .descriptors) (p .second)
 
 -- n bytes at an address and m at another do not overlap
-abbrev pub Apart : (addr n other m : ℕ) → Type 0
-Apart addr n other m = (addr + n ≤ other) ⊎ (other + m ≤ addr)
+abbrev pub NoOverlap : (addr n other m : ℕ) → Type 0
+NoOverlap addr n other m = (addr + n ≤ other) ⊎ (other + m ≤ addr)
 
 -- they are places for a chain: inside guest memory, and apart
 pub record PlacesIn (g : Guest) (p : Places) : Type 0 where
@@ -82,8 +82,8 @@ pub record PlacesIn (g : Guest) (p : Places) : Type 0 where
   pub first-lies : inside (length (g .mem)) (g .base) (firstAddr p) 16 ≡ true
   pub second-lies : inside (length (g .mem)) (g .base) (secondAddr p) 16 ≡ true
   pub request-lies : inside (length (g .mem)) (g .base) (p .request) 24 ≡ true
-  pub first-apart : Apart (firstAddr p) 16 (p .request) 24
-  pub second-apart : Apart (secondAddr p) 16 (p .request) 24
+  pub first-apart : NoOverlap (firstAddr p) 16 (p .request) 24
+  pub second-apart : NoOverlap (secondAddr p) 16 (p .request) 24
   pub len-enough : 10 ≤ p .len
   pub len-fits : p .len < 256 ^ 4
   pub status-fits : p .status .0 < 256 ^ 8

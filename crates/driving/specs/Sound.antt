@@ -37,7 +37,7 @@ pub record Ready (w : World) : Type 0 where
   pub sound : SoundRows (several w) (usable w) (w .rows)
 
 -- `count` blocks from an address on are plugged, and ACK is the response
-pub record Acknowledged (w : World) (addr count status : ℕ) (g : Guest) (o : Outcome) : Type 0 where
+pub record PlugAcknowledged (w : World) (addr count status : ℕ) (g : Guest) (o : Outcome) : Type 0 where
   pub first : ℕ
   pub addr-is : addr ≡ start w + bytesOf (blockSize w) first
   pub outcome : o ≡ plugs w first count status g
@@ -100,13 +100,13 @@ pub record There (from to : World) : Type 0 where
   pub same-usable : usable to ≡ usable from
 
 -- block i is the first of a run of free blocks: the one before it is plugged, or it lies at a 2 GiB border of offsets, as every `per` blocks one does
-unfoldable pub begins : (per : ℕ) → List Bool → ℕ → Bool
-begins per bs i = not (blockAt bs i) && (eqb (i % per) 0 || blockAt bs (i - 1))
+unfoldable pub beginsRun : (per : ℕ) → List Bool → ℕ → Bool
+beginsRun per bs i = not (blockAt bs i) && (eqb (i % per) 0 || blockAt bs (i - 1))
 
 -- the runs that begin below block n
 unfoldable pub runsBelow : (per : ℕ) → List Bool → ℕ → ℕ
 runsBelow per bs zero = 0
-runsBelow per bs (suc n) = cond (begins per bs n) 1 0 + runsBelow per bs n
+runsBelow per bs (suc n) = cond (beginsRun per bs n) 1 0 + runsBelow per bs n
 
 -- the runs of free blocks in the usable part
 abbrev pub freeRuns : World → ℕ

@@ -29,7 +29,7 @@ use Rattle.standard.specs.Requests.{Responds, responseOf, Hears, «VIRTIO_MEM_R
 use Rattle.standard.proofs.Requests.{to-plug}
 use Rattle.in_parts.specs.InParts.{plugRequest, Askable}
 use Rattle.in_parts.proofs.Asking.{any-up-to-65535}
-use Rattle.driving_runs.specs.Runs.{ReadyAndCounted, ProposalAcknowledged, NothingToPlug, SeventeenExactly, Proposed, Follows, PlannerGetsThere, FollowingGetsThere, PlannerInRuns}
+use Rattle.driving_runs.specs.Runs.{ReadyAndCounted, ProposalAcknowledged, NothingToPlug, SeventeenExactly, Proposed, FollowsPlanner, PlannerGetsThere, FollowingGetsThere, PlannerInRuns}
 use Rattle.driving_runs.proofs.Ready.{ready-in-run, ready-and-counted}
 
 -- ---- what is proposed is acknowledged
@@ -104,16 +104,16 @@ followed w r c p =
 goes-on : (w : World) → Ready w → Counted w → (c : Call) → Proposed w c → Ready (step w c .world) × Counted (step w c .world)
 goes-on w r k c p = rw (followed w r c p) (drive-keeps w r k (p .addr) (p .count) (p .proposes))
 
-follow-drives : (plugs : List Call) (s : Story) → Ready (s .world) → Counted (s .world) → Follows (s .world) plugs → after s plugs .world ≡ drives (length plugs) (s .world)
-unfolding after next Follows drives
+follow-drives : (plugs : List Call) (s : Story) → Ready (s .world) → Counted (s .world) → FollowsPlanner (s .world) plugs → after s plugs .world ≡ drives (length plugs) (s .world)
+unfolding after next FollowsPlanner drives
 follow-drives [] s r k f = refl
 follow-drives (c ∷ cs) s r k f =
     let more = goes-on (s .world) r k c (f .0) in
     follow-drives cs (next s c) (more .0) (more .1) (f .1) ∙ ap (drives (length cs)) (followed (s .world) r c (f .0))
 
 -- no more calls follow it than it takes to 17
-no-more : (plugs : List Call) (k : ℕ) (w : World) → Ready w → Counted w → Follows w plugs → planned (drives k w) ≡ Refused 17 → length plugs ≤ k
-unfolding Follows drives
+no-more : (plugs : List Call) (k : ℕ) (w : World) → Ready w → Counted w → FollowsPlanner w plugs → planned (drives k w) ≡ Refused 17 → length plugs ≤ k
+unfolding FollowsPlanner drives
 no-more [] k w r c f e = omega arith
 no-more (call ∷ cs) zero w r c f e = let proposes = f .0 .proposes in let z : _≡_ {A = ℕ} 0 1 = cc in absurd (omega arith)
 no-more (call ∷ cs) (suc k) w r c f e =
@@ -128,12 +128,12 @@ drives-add (suc n) m w = let z : suc n + m ≡ suc (n + m) = omega arith in rw z
 -- calls that follow it, k of them or to 17
 record Plugs (k : ℕ) (s : Story) : Type 0 where
   pub plugs : List Call
-  pub follow : Follows (s .world) plugs
+  pub follow : FollowsPlanner (s .world) plugs
   pub at-most : length plugs ≤ k
   pub lead : after s plugs .world ≡ drives k (s .world)
 
 one-more : (k : ℕ) (s : Story) → Ready (s .world) → Counted (s .world) → ((s′ : Story) → Ready (s′ .world) → Counted (s′ .world) → Plugs k s′) → (x : Proposal) → planned (s .world) ≡ x → Plugs (suc k) s
-unfolding after next Follows drives
+unfolding after next FollowsPlanner drives
 one-more k s r c rest (Refused number) e =
     let q : planned (s .world) ≡ Refused 17 = e ∙ ap Refused (only-17 (s .world) r number e) in
     record { plugs = []; follow = tt; at-most = omega arith; lead = sym (stays (suc k) (s .world) q) }
@@ -150,7 +150,7 @@ one-more k s r c rest (Plug addr n) e =
     }
 
 plugs-of : (k : ℕ) (s : Story) → Ready (s .world) → Counted (s .world) → Plugs k s
-unfolding after Follows drives
+unfolding after FollowsPlanner drives
 plugs-of zero s r c = record { plugs = []; follow = tt; at-most = omega arith; lead = refl }
 plugs-of (suc k) s r c = one-more k s r c (plugs-of k) (planned (s .world)) refl
 

@@ -9,7 +9,7 @@ use Rattle.record.specs.Shape.{isIdle}
 use Rattle.step.specs.World.{World, Call}
 use Rattle.step.specs.Step.{step}
 use Rattle.driver.specs.declared.Proposal.the-variants.{Plug, Refused}
-use Rattle.driving.specs.Sound.{Ready, Acknowledged, planned, Counted, There, freeRuns}
+use Rattle.driving.specs.Sound.{Ready, PlugAcknowledged, planned, Counted, There, freeRuns}
 use Rattle.history.specs.History.{Story, after}
 use Rattle.history.specs.Rules.{InEveryRun}
 use Rattle.standard.specs.Requests.{Responds, «VIRTIO_MEM_RESP_ACK»}
@@ -27,7 +27,7 @@ ReadyAndCounted s c = TakesRequests (s .world) → Ready (s .world) × Counted (
 -- ---- R14.9: what is proposed is acknowledged, and so is a plug of the block at its start alone
 abbrev pub AcksTo : World → Call → (addr : GuestAddr) (count : ℕ) → Type 0
 AcksTo w c addr count = (a : Asks c (addr .0) count)
-    → Acknowledged w (addr .0) count (a .status .0) (a .guest) (step w c)
+    → PlugAcknowledged w (addr .0) count (a .status .0) (a .guest) (step w c)
 
 abbrev pub ProposalAcknowledged : Story → Call → Type 0
 ProposalAcknowledged s c = let w = s .world in TakesRequests w → (addr : GuestAddr) (count : ℕ) → planned w ≡ Plug addr count
@@ -54,14 +54,14 @@ pub record Proposed (w : World) (c : Call) : Type 0 where
   pub asks : Asks c (addr .0) count
 
 -- each of these calls does, after those before it
-unfoldable pub Follows : World → List Call → Type 0
-Follows w [] = Unit {0}
-Follows w (c ∷ cs) = Proposed w c × Follows (step w c .world) cs
+unfoldable pub FollowsPlanner : World → List Call → Type 0
+FollowsPlanner w [] = Unit {0}
+FollowsPlanner w (c ∷ cs) = Proposed w c × FollowsPlanner (step w c .world) cs
 
 -- there are such calls that get there, at most as many as the usable part has runs of free blocks, which are at most its free blocks (`runs-few` of the crate `driving`)
 pub record GetsThere (s : Story) : Type 0 where
   pub plugs : List Call
-  pub follow : Follows (s .world) plugs
+  pub follow : FollowsPlanner (s .world) plugs
   pub at-most : length plugs ≤ freeRuns (s .world)
   pub there : There (s .world) (after s plugs .world)
 
@@ -74,7 +74,7 @@ pub record NowhereElse (s : Story) (plugs : List Call) : Type 0 where
   pub there : planned (after s plugs .world) ≡ Refused 17 → There (s .world) (after s plugs .world)
 
 abbrev pub FollowingGetsThere : Story → Call → Type 0
-FollowingGetsThere s c = TakesRequests (s .world) → (plugs : List Call) → Follows (s .world) plugs → NowhereElse s plugs
+FollowingGetsThere s c = TakesRequests (s .world) → (plugs : List Call) → FollowsPlanner (s .world) plugs → NowhereElse s plugs
 
 -- ---- all of it, in every run from a newly made device on
 pub record PlannerInRuns : Type 0 where

@@ -31,7 +31,7 @@ use Rattle.step.specs.Step.{blockSize, region, usable, plugged, requested, seve
 use Rattle.step.specs.Step.{refused, unserved, served, plugs, asksDiscard, unplugs, stops, asksOne, cleared, endsAll, sizes, asksCreate, creates, createFails, placed, coveredBy}
 use Rattle.step.specs.Step.{step, stateResp, serve, request, hostAnswer, place, setRequestedSize}
 use Rattle.history.specs.History.{Event, PlugAck, UnplugAck, Discarded, UnplugAllAck, openOf, blockOf}
-use Rattle.history.specs.History.{ackToType, ackToRequest, ackToHost, acknowledges, discardOf, reports, ifAck, unlessRefused, eventsOf}
+use Rattle.history.specs.History.{ackToType, ackToRequest, ackToHost, acknowledges, discardOf, reports, ifAck, ifNotRefused, eventsOf}
 use Rattle.history.specs.Questions.{typeOf}
 use Rattle.history.specs.Refusals.{lentBytes}
 use Rattle.history.proofs.Shaped.{cleared-shaped}
@@ -138,7 +138,7 @@ pub record Endings (w : World) (K : Call → Outcome → List Event → Type 0) 
 module _ (w : World) (K : Call → Outcome → List Event → Type 0) (k : Endings w K) where
   -- K of an outcome of the call c, where an ACK acknowledges `acks` and the call reports `discards`
   abbrev With : Call → (acks discards : List Event) → Outcome → Type 0
-  With c acks discards o = K c o (ifAck (o .answer) acks ++ unlessRefused (o .answer) discards)
+  With c acks discards o = K c o (ifAck (o .answer) acks ++ ifNotRefused (o .answer) discards)
 
   of-place : (at size : ℕ) (slots : List ℕ) (bs : List Bool) (rows : List MapRow) → w .device .placed ≡ false → Entered (w .device) (length bs) (length rows) true
       → With (Place at size slots bs rows) [] [] (place w at size slots bs rows)

@@ -1,13 +1,13 @@
 -- Demand 3 in every run.
 use mathlib.Core.List.{List, [], _∷_}
 use Rattle.step.specs.World.{Call}
-use Rattle.history.specs.History.{Story, next, after, Told}
+use Rattle.history.specs.History.{Story, next, after, Demand3}
 use Rattle.history.specs.Reached.{Reached, by-call}
 use Rattle.history.specs.Good.{Good}
 use Rattle.history.proofs.Good.{good-kept, reached-good}
 
 -- demand 3, of every run, restores included; while a host call is pending too
-pub demand-3 : (s : Story) → Reached s → Told (s .world) (s .events)
+pub demand-3 : (s : Story) → Reached s → Demand3 (s .world) (s .events)
 demand-3 s r = reached-good s r .told
 
 -- calls go on from what is reached, and from what is good

@@ -25,7 +25,7 @@ use Rattle.step.specs.Answers.{servedWith, refusal, response}
 use Rattle.step.specs.World.{World, Guest, Call, Place, SetRequestedSize, Request, HostAnswer}
 use Rattle.step.specs.Step.{tablesFit, readyRefusal, unplacedRefusal, pendingRefusal, rangeRefusal, unless, plugAs, plug, unplugAs, oneAs, nextAs, stateType, serve, request, resizes, placing, place, setRequestedSize, hostAnswer, step, plugged, respond}
 use Rattle.history.specs.History.{Event, PlugAck, UnplugAck, Discarded, UnplugAllAck, ackToType, ackToRequest, ackToHost, acknowledges, discardOf, reports, eventsOf, openedByType, openedByRequest, goesOn, openedBy, askedBy, openAfter, Story, next, after, Fresh, begun, wasPlug, used}
-use Rattle.history.specs.Reached.{marks, counts, could, marked, counted, allCould, allPlugs, Restores, restored}
+use Rattle.history.specs.Reached.{marks, counts, could, marked, counted, allCould, allPlugs, CanRestore, restored}
 
 -- capacity_mib=256 requested_mib=16 multi=0 node=none boot=1073741824
 pub device : Device
@@ -164,7 +164,7 @@ pub record Example : Type 0 where
   pub again-told : after (begun device) again .events ≡ PlugAck 0 1 ∷ Discarded 0 ∷ PlugAck 0 4 ∷ []
   pub again-left : plugged (after (begun device) again .world) ≡ 16777216
   pub again-counted : ones (used (after (begun device) again .world)) ≡ 4
-  pub saved-restores : Restores (after (begun device) more .world) 8388608 saved
+  pub saved-restores : CanRestore (after (begun device) more .world) 8388608 saved
   pub resumed-answered :
       answers (resumed .world) on-with
       ≡ Wants (Discard (record { 0 = 0 }) 4194304 (record { 0 = 140737488355328 }))

@@ -16,7 +16,7 @@ use Rattle.record.proofs.Laws.{Parts, parts as shaped-is, whole as shaped-when}
 use Rattle.step.specs.World.{World, Call}
 use Rattle.step.specs.Step.{blockSize, usable, regionBlocks, regionRows, tablesFit}
 use Rattle.history.specs.History.{Event, NoRequest, openOf, Story, next, Fresh, begun}
-use Rattle.history.specs.Reached.{Restores, restored, Reached, from-making, by-call, by-restore}
+use Rattle.history.specs.Reached.{CanRestore, restored, Reached, from-making, by-call, by-restore}
 use Rattle.history.specs.Good.{InMemory, AllInside, TablesFit, Good}
 use Rattle.history.specs.Rules.{FromEveryGood, InEveryRun}
 use Rattle.history.proofs.Shaped.{clash, block-is}
@@ -111,7 +111,7 @@ good-kept s g c =
 block-inside : (b usable i : ℕ) → b ≡ 4194304 → i < blocksIn b usable → i * b < usable
 block-inside b usable i e l = let l′ = rw e at l in rw e (omega arith)
 
-pub good-restored : (s : Story) (requested : ℕ) (plugs : List Event) → Good s → Restores (s .world) requested plugs → Good (restored (s .world) requested plugs)
+pub good-restored : (s : Story) (requested : ℕ) (plugs : List Event) → Good s → CanRestore (s .world) requested plugs → Good (restored (s .world) requested plugs)
 unfolding openOf rowDue
 good-restored s requested plugs g l =
     let w = s .world in

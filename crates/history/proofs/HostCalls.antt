@@ -12,7 +12,7 @@ use Rattle.step.specs.declared.Answer.the-variants.{Refused}
 use Rattle.step.specs.Answers.{question, refusal}
 use Rattle.step.specs.World.{World, Call, Place, SetRequestedSize, Request, HostAnswer, ReadConfig, WriteConfig, Outcome}
 use Rattle.history.specs.History.{Event, next, after}
-use Rattle.history.specs.Rules.{FromEveryGood, FromEveryWorld, asks, takes, waits, askedIn, takenIn, EachAskedAnswered, PendingStays, AsksWhatIsDue}
+use Rattle.history.specs.Rules.{FromEveryGood, FromEveryWorld, asks, takesAnswer, waits, askedIn, takenIn, EachAskedAnswered, PendingStays, AsksWhatIsDue}
 use Rattle.history.proofs.Shaped.{clash, idle-nothing}
 use Rattle.history.proofs.Calls.{Endings, each-call}
 
@@ -24,8 +24,8 @@ idle-waits (Create first last) e = clash e refl
 idle-waits (Discard first count status) e = clash e refl
 idle-waits (DiscardOne block status) e = clash e refl
 
-refused-takes : (c : Call) (n : ℕ) → (n ≡ 10 → ⊥) → takes c (Refused n) ≡ 0
-unfolding takes refusal
+refused-takes : (c : Call) (n : ℕ) → (n ≡ 10 → ⊥) → takesAnswer c (Refused n) ≡ 0
+unfolding takesAnswer refusal
 refused-takes (Place at size slots blocks rows) n h = refl
 refused-takes (SetRequestedSize mib) n h = refl
 refused-takes (Request guest descriptors head) n h = refl
@@ -34,10 +34,10 @@ refused-takes (ReadConfig offset buffer) n h = refl
 refused-takes (WriteConfig offset buffer) n h = refl
 
 abbrev Balanced : World → Call → Outcome → List Event → Type 0
-Balanced w c o new = asks (o .answer) + waits (w .device .pending) ≡ takes c (o .answer) + waits (o .world .device .pending)
+Balanced w c o new = asks (o .answer) + waits (w .device .pending) ≡ takesAnswer c (o .answer) + waits (o .world .device .pending)
 
 balanced : (w : World) → Endings w (Balanced w)
-unfolding question takes refusal waits
+unfolding question takesAnswer refusal waits
 balanced w =
     let p = w .device .pending in
     record {
@@ -77,7 +77,7 @@ abbrev Stays : World → Call → Outcome → List Event → Type 0
 Stays w c o new = PendingStays w c o
 
 stays : (w : World) → Endings w (Stays w)
-unfolding question takes refusal
+unfolding question takesAnswer refusal
 stays w =
     let p = w .device .pending in
     record {

@@ -1,5 +1,5 @@
 -- The invariant of every run, pending states included, and that each leaf of the step keeps it.
--- It says: what demand 3 says (`Told`); before placing there is no event, no discard is asked for and nothing is plugged; what an unplug asks for is all plugged, and what an unplug-all asks for is the lowest plugged block.
+-- It says: what demand 3 says (`Demand3`); before placing there is no event, no discard is asked for and nothing is plugged; what an unplug asks for is all plugged, and what an unplug-all asks for is the lowest plugged block.
 use Prim.Native.Nat.{ℕ, suc, _+_, _-_, _*_, _≤_, _<_}
 use mathlib.Core.Path.{_≡_, refl, _∙_, sym}
 use mathlib.Core.Bool.{Bool, true, false, cond, _&&_}
@@ -22,7 +22,7 @@ use Rattle.step.specs.World.{World, Guest}
 use Rattle.step.specs.Step.{blockSize, plugged, requested, start, regionBlocks}
 use Rattle.step.specs.Step.{plugs, unplugs, cleared, endsAll}
 use Rattle.history.proofs.Shaped.{clash}
-use Rattle.history.specs.History.{Event, PlugAck, UnplugAck, Discarded, UnplugAllAck, within, on, lastOn, wasPlug, Told}
+use Rattle.history.specs.History.{Event, PlugAck, UnplugAck, Discarded, UnplugAllAck, within, touches, lastOn, wasPlug, Demand3}
 
 -- ---- a fill, at one block
 fill-at : (bs : List Bool) (f c : ℕ) (v : Bool) (i : ℕ) → i < length bs → blockAt (fill bs f c v) i ≡ cond (within f c i) v (blockAt bs i)
@@ -40,7 +40,7 @@ was-cond true e l = refl
 was-cond false e l = refl
 
 module _ (bs : List Bool) (es : List Event) (i : ℕ) (h : i < length bs) (old : blockAt bs i ≡ wasPlug (lastOn es i)) where
-  more : (e : Event) (f c : ℕ) (v : Bool) → on e i ≡ within f c i → wasPlug (some e) ≡ v → blockAt (fill bs f c v) i ≡ wasPlug (lastOn (e ∷ es) i)
+  more : (e : Event) (f c : ℕ) (v : Bool) → touches e i ≡ within f c i → wasPlug (some e) ≡ v → blockAt (fill bs f c v) i ≡ wasPlug (lastOn (e ∷ es) i)
   unfolding lastOn
   more e f c v p q = simp (fill-at bs f c v i h, p, was-cond, q, old)
 
@@ -92,7 +92,7 @@ pub record Unplaced (w : World) (es : List Event) : Type 0 where
   pub no-size : plugged w ≡ 0
 
 pub record Inv (w : World) (es : List Event) : Type 0 where
-  pub told : Told w es
+  pub told : Demand3 w es
   pub early : w .device .placed ≡ false → Unplaced w es
   pub asked : Asked (w .device .pending) (w .blocks) (regionBlocks w)
 
@@ -124,7 +124,7 @@ module _ (w : World) (es : List Event) (h : Inv w es) (there : w .device .placed
   module _ (long : regionBlocks w ≤ length (w .blocks)) where
     pub inv-plugs : (f c : ℕ) → isIdle (w .device .pending) ≡ true → f + c ≤ regionBlocks w → allAre (w .blocks) f c false ≡ true
         → Inv (plugs w f c status g .world) (PlugAck f c ∷ es)
-    unfolding on wasPlug
+    unfolding touches wasPlug
     inv-plugs f c quiet ends state =
         record {
           told = record {
@@ -136,7 +136,7 @@ module _ (w : World) (es : List Event) (h : Inv w es) (there : w .device .placed
         }
 
     pub inv-unplugs : (f c : ℕ) → allAre (w .blocks) f c true ≡ true → f + c ≤ regionBlocks w → Inv (unplugs w f c status g .world) (UnplugAck f c ∷ es)
-    unfolding on wasPlug Asked
+    unfolding touches wasPlug Asked
     inv-unplugs f c full ends =
         let fewer = used-unplugged (regionBlocks w) (w .blocks) long f c ends full in
         record {
@@ -149,7 +149,7 @@ module _ (w : World) (es : List Event) (h : Inv w es) (there : w .device .placed
         }
 
     pub inv-cleared : (j : ℕ) → nextSet (w .blocks) 0 (regionBlocks w) ≡ At j → Inv (cleared w j) (Discarded j ∷ es)
-    unfolding on wasPlug Asked
+    unfolding touches wasPlug Asked
     inv-cleared j e =
         record {
           told = record {
@@ -161,7 +161,7 @@ module _ (w : World) (es : List Event) (h : Inv w es) (there : w .device .placed
         }
 
   pub inv-ends : nextSet (w .blocks) 0 (regionBlocks w) ≡ NoneSet → Inv (endsAll w status g .world) (UnplugAllAck ∷ es)
-  unfolding on lastOn Asked
+  unfolding touches lastOn Asked
   inv-ends e =
       record {
         told = record { bits = h .told .bits; count = rw (used-none (regionBlocks w) (w .blocks) e) (omega arith) };

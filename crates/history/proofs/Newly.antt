@@ -9,7 +9,7 @@ use Rattle.units.specs.declared.Node.{Node}
 use Rattle.making.specs.declared.Made.the-variants.{Device as MadeDevice}
 use Rattle.making.specs.Made.{made}
 use Rattle.making.proofs.Newly.{made-new}
-use Rattle.history.specs.History.{Fresh, Told, after, begun}
+use Rattle.history.specs.History.{Fresh, Demand3, after, begun}
 use Rattle.history.specs.Reached.{from-making}
 use Rattle.history.proofs.Demand3.{demand-3, reached-after}
 
@@ -26,5 +26,5 @@ module _ (capacity requested : ℕ) (several : Bool) (node : Node) (boot : ℕ) 
       }
 
   -- demand 3, from the making of a device on
-  pub demand-3-from-making : (cs : List Call) → Told (after (begun d) cs .world) (after (begun d) cs .events)
+  pub demand-3-from-making : (cs : List Call) → Demand3 (after (begun d) cs .world) (after (begun d) cs .events)
   demand-3-from-making cs = demand-3 (after (begun d) cs) (reached-after (begun d) (from-making made-fresh) cs)

@@ -14,8 +14,8 @@ use Rattle.bitmap.specs.Blocks.{blockAt, ones, allAre}
 use Rattle.bitmap.proofs.Laws.{all-clear-at, fill-length, ones-none, ones-length}
 use Rattle.step.specs.World.{World}
 use Rattle.step.specs.Step.{blockSize, region, usable, plugged, start, regionBlocks}
-use Rattle.history.specs.History.{Event, PlugAck, UnplugAck, Discarded, UnplugAllAck, within, on, lastOn, wasPlug, used}
-use Rattle.history.specs.Reached.{marks, counts, could, marked, counted, allCould, allPlugs, Restores, afterRestore}
+use Rattle.history.specs.History.{Event, PlugAck, UnplugAck, Discarded, UnplugAllAck, within, touches, lastOn, wasPlug, used}
+use Rattle.history.specs.Reached.{marks, counts, could, marked, counted, allCould, allPlugs, CanRestore, afterRestore}
 use Rattle.record.proofs.Laws.{Parts}
 use Rattle.history.proofs.Shaped.{clash, block-is, size-ok, size-within, reshaped, idle-ok}
 use Rattle.history.proofs.Invariant.{Inv, discarding, quiet-asks, inv-plugs}
@@ -41,7 +41,7 @@ module _ (first count n : ℕ) (bs : List Bool) (e : could (PlugAck first count)
 
 -- a block whose last event is a plug lies in the region of n blocks
 last-inside : (es : List Event) (bs : List Bool) (n i : ℕ) → allPlugs es ≡ true → allCould es bs n ≡ true → wasPlug (lastOn es i) ≡ true → i < n
-unfolding allPlugs allCould lastOn on within wasPlug
+unfolding allPlugs allCould lastOn touches within wasPlug
 last-inside [] bs n i p q last = clash last refl
 last-inside (PlugAck first count ∷ es) bs n i p q last =
     let ends = plug-ends first count n (marked es bs) (and-right (allCould es bs n) _ q) in
@@ -53,7 +53,7 @@ last-inside (UnplugAllAck ∷ es) bs n i p q last = clash p refl
 
 module _ (w : World) (requested : ℕ) (s : Parts (w .device)) where
   -- all plugs but the newest can be laid too
-  fewer : (e : Event) (es : List Event) → Restores w requested (e ∷ es) → Restores w requested es
+  fewer : (e : Event) (es : List Event) → CanRestore w requested (e ∷ es) → CanRestore w requested es
   unfolding allPlugs allCould
   fewer e es r =
       record {
@@ -70,7 +70,7 @@ module _ (w : World) (requested : ℕ) (s : Parts (w .device)) where
   usable-blocks : blocksIn (blockSize w) (usable w) ≤ regionBlocks w
   usable-blocks = let within = size-within (blockSize w) (usable w) (region w) (s .usable) in rw (block-is (w .device) s) (omega arith)
 
-  pub inv-restored : (plugs : List Event) → Restores w requested plugs → Inv (afterRestore w requested plugs) plugs
+  pub inv-restored : (plugs : List Event) → CanRestore w requested plugs → Inv (afterRestore w requested plugs) plugs
   unfolding marked marks counted counts allPlugs allCould lastOn wasPlug discarding
   inv-restored [] r =
       record {
@@ -91,11 +91,11 @@ module _ (w : World) (requested : ℕ) (s : Parts (w .device)) where
   inv-restored (UnplugAllAck ∷ es) r = clash (r .only-plugs) refl
 
   -- what it plugs lies in the usable size
-  pub restored-inside : (plugs : List Event) → Restores w requested plugs → (i : ℕ) → i < regionBlocks w → blockAt (marked plugs (w .blocks)) i ≡ true → i < blocksIn (blockSize w) (usable w)
+  pub restored-inside : (plugs : List Event) → CanRestore w requested plugs → (i : ℕ) → i < regionBlocks w → blockAt (marked plugs (w .blocks)) i ≡ true → i < blocksIn (blockSize w) (usable w)
   restored-inside plugs r i l p = last-inside plugs (w .blocks) _ i (r .only-plugs) (r .all-could) (sym (inv-restored plugs r .told .bits i l) ∙ p)
 
   -- the plugged size is of whole blocks of the region, so the shape stays
-  pub shaped-restored : (plugs : List Event) → Restores w requested plugs → Parts (afterRestore w requested plugs .device)
+  pub shaped-restored : (plugs : List Event) → CanRestore w requested plugs → Parts (afterRestore w requested plugs .device)
   shaped-restored plugs r =
       let w′ = afterRestore w requested plugs in
       let few : ones (used w′) ≤ regionBlocks w = omega (arith, ones-length (used w′), length-take (regionBlocks w) (w′ .blocks)) in

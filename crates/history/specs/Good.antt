@@ -16,7 +16,7 @@ use Rattle.resize.specs.declared.Growth.the-variants.{Asks}
 use Rattle.resize.specs.Resize.{growthOf}
 use Rattle.step.specs.World.{World}
 use Rattle.step.specs.Step.{blockSize, region, several, usable, plugged, newUsable, regionBlocks, tablesFit}
-use Rattle.history.specs.History.{UnplugAck, Discarded, NoRequest, openOf, Story, Told}
+use Rattle.history.specs.History.{UnplugAck, Discarded, NoRequest, openOf, Story, Demand3}
 use Rattle.history.specs.Reached.{could}
 
 -- what is asked for is due: the blocks of an unplug are all plugged, the block of an unplug-all is the lowest that is plugged, and the first row of a creation has no mapping; so what the host has done is not asked for again
@@ -61,7 +61,7 @@ TablesFit w = tablesFit (w .device) (length (w .blocks)) (length (w .rows)) ≡ 
 pub record Good (s : Story) : Type 0 where
   pub shaped : shapedOf (s .world .device) ≡ true
   -- demand 3
-  pub told : Told (s .world) (s .events)
+  pub told : Demand3 (s .world) (s .events)
   -- what an observer of calls and answers holds open is what is pending
   pub opened : openOf (s .world .device .pending) ≡ s .«open»
   pub is-due : due (s .world .device .pending) (s .world .blocks) (s .world .rows) (regionBlocks (s .world)) ≡ true

@@ -103,12 +103,12 @@ abbrev pub present : {A : Type 0} → Option A → Bool
 present none = false
 present (some x) = true
 
-abbrev pub unlessRefused : Answer → List Event → List Event
-unlessRefused a es = cond (present (refusal a)) [] es
+abbrev pub ifNotRefused : Answer → List Event → List Event
+ifNotRefused a es = cond (present (refusal a)) [] es
 
 -- the events of one call, newest first: from the call, what was open before it, and its answer
 unfoldable pub eventsOf : World → Open → Call → Answer → List Event
-eventsOf w o c a = ifAck a (acknowledges w o c) ++ unlessRefused a (reports o c)
+eventsOf w o c a = ifAck a (acknowledges w o c) ++ ifNotRefused a (reports o c)
 
 -- ---- what is open after a call
 -- what a discard is asked for by a request
@@ -182,15 +182,15 @@ begun d = record { world = record { device = d; blocks = []; rows = [] }; «open
 unfoldable pub within : (first count i : ℕ) → Bool
 within first count i = leb first i && ltb i (first + count)
 
-unfoldable pub on : Event → ℕ → Bool
-on (PlugAck first count) i = within first count i
-on (UnplugAck first count) i = within first count i
-on (Discarded block) i = within block 1 i
-on UnplugAllAck i = false
+unfoldable pub touches : Event → ℕ → Bool
+touches (PlugAck first count) i = within first count i
+touches (UnplugAck first count) i = within first count i
+touches (Discarded block) i = within block 1 i
+touches UnplugAllAck i = false
 
 unfoldable pub lastOn : List Event → ℕ → Option Event
 lastOn [] i = none
-lastOn (e ∷ es) i = cond (on e i) (some e) (lastOn es i)
+lastOn (e ∷ es) i = cond (touches e i) (some e) (lastOn es i)
 
 unfoldable pub wasPlug : Option Event → Bool
 wasPlug none = false
@@ -205,7 +205,7 @@ abbrev pub used : World → List Bool
 used w = take (regionBlocks w) (w .blocks)
 
 -- ---- what demand 3 says of the world that a run led to
-pub record Told (w : World) (es : List Event) : Type 0 where
+pub record Demand3 (w : World) (es : List Event) : Type 0 where
   -- each block of the region is plugged exactly if the last event on it was an acknowledged plug
   pub bits : (i : ℕ) → i < regionBlocks w → blockAt (w .blocks) i ≡ wasPlug (lastOn es i)
   -- the plugged size is "4 MiB times the plugged blocks, in every state, pending ones included" (02, request 5)

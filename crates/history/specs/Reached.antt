@@ -56,7 +56,7 @@ allPlugs [] = true
 allPlugs (e ∷ es) = wasPlug (some e) && allPlugs es
 
 -- it is "laid on a placed device (no bit set, plugged 0)" that waits for nothing and has its bitmap; the requested size is of the record's shape, and the plugs, one for each run, could happen one after the other inside the usable size
-pub record Restores (w : World) (requested : ℕ) (plugs : List Event) : Type 0 where
+pub record CanRestore (w : World) (requested : ℕ) (plugs : List Event) : Type 0 where
   pub is-placed : w .device .placed ≡ true
   pub waits-for-nothing : w .device .pending ≡ Nothing
   pub is-long : regionBlocks w ≤ length (w .blocks)
@@ -84,7 +84,7 @@ restored w requested plugs = record { world = afterRestore w requested plugs; «
 pub data Reached : Story → Type 0 where
   from-making : {d : Device} → Fresh d → Reached (begun d)
   by-call : {s : Story} → Reached s → (c : Call) → Reached (next s c)
-  by-restore : {s : Story} {requested : ℕ} {plugs : List Event} → Reached s → Restores (s .world) requested plugs → Reached (restored (s .world) requested plugs)
+  by-restore : {s : Story} {requested : ℕ} {plugs : List Event} → Reached s → CanRestore (s .world) requested plugs → Reached (restored (s .world) requested plugs)
 
 -- the device as it was made
 unfoldable pub madeAs : {s : Story} → Reached s → Device

@@ -116,13 +116,13 @@ isTaken (some number) = eqb number 10
 abbrev pub taken : Answer → ℕ
 taken a = cond (isTaken (refusal a)) 1 0
 
-unfoldable pub takes : Call → Answer → ℕ
-takes (Place at size slots blocks rows) a = 0
-takes (SetRequestedSize mib) a = 0
-takes (Request guest descriptors head) a = 0
-takes (HostAnswer guest ok host) a = taken a
-takes (ReadConfig offset buffer) a = 0
-takes (WriteConfig offset buffer) a = 0
+unfoldable pub takesAnswer : Call → Answer → ℕ
+takesAnswer (Place at size slots blocks rows) a = 0
+takesAnswer (SetRequestedSize mib) a = 0
+takesAnswer (Request guest descriptors head) a = 0
+takesAnswer (HostAnswer guest ok host) a = taken a
+takesAnswer (ReadConfig offset buffer) a = 0
+takesAnswer (WriteConfig offset buffer) a = 0
 
 unfoldable pub waits : Pending → ℕ
 waits Nothing = 0
@@ -137,7 +137,7 @@ askedIn w (c ∷ cs) = asks (step w c .answer) + askedIn (step w c .world) cs
 
 unfoldable pub takenIn : World → List Call → ℕ
 takenIn w [] = 0
-takenIn w (c ∷ cs) = takes c (step w c .answer) + takenIn (step w c .world) cs
+takenIn w (c ∷ cs) = takesAnswer c (step w c .answer) + takenIn (step w c .world) cs
 
 -- each question has one answer before the next is asked; where nothing is pending none is left unanswered. Of any calls from anywhere, a newly made or a restored device included, where nothing is pending at first
 abbrev pub EachAskedAnswered : Type 0
@@ -146,7 +146,7 @@ EachAskedAnswered = (s : Story) (cs : List Call)
 
 -- a pending call stays as it is but where a question is asked or an answer is taken
 abbrev pub PendingStays : World → Call → Outcome → Type 0
-PendingStays w c o = asks (o .answer) ≡ 0 → takes c (o .answer) ≡ 0 → o .world .device .pending ≡ w .device .pending
+PendingStays w c o = asks (o .answer) ≡ 0 → takesAnswer c (o .answer) ≡ 0 → o .world .device .pending ≡ w .device .pending
 
 abbrev pub AsksWhatIsDue : Story → Call → Type 0
 AsksWhatIsDue s c = due (s .world .device .pending) (s .world .blocks) (s .world .rows) (regionBlocks (s .world)) ≡ true

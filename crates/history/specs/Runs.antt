@@ -1,11 +1,11 @@
 -- The rules of every run, from a newly made device on and over restores: demand 3, and each rule of a good story.
-use Rattle.history.specs.History.{Story, Told}
+use Rattle.history.specs.History.{Story, Demand3}
 use Rattle.history.specs.Reached.{Reached}
 use Rattle.history.specs.Rules.{InEveryRun, KeepsShape, Never12, DiscardIsCounted, WholeOrNotAtAll, AsksWhatIsDue}
 use Rattle.history.specs.Questions.{OnlyOpenUnplugsDiscard}
 
 pub record RulesInRuns : Type 0 where
-  pub demand-3 : (s : Story) → Reached s → Told (s .world) (s .events)
+  pub demand-3 : (s : Story) → Reached s → Demand3 (s .world) (s .events)
   pub keeps-shape : InEveryRun KeepsShape
   pub never-12 : InEveryRun Never12
   pub discard-is-counted : InEveryRun DiscardIsCounted

@@ -24,7 +24,7 @@ use Rattle.step.specs.Answers.{response}
 use Rattle.step.specs.World.{World, Guest, Call, Request}
 use Rattle.step.specs.Step.{tablesFit, readyRefusal, unless, plugAs, plug, serve, request, step}
 use Rattle.standard.specs.Requests.{Acknowledged, «VIRTIO_MEM_RESP_ACK», «VIRTIO_MEM_RESP_NACK»}
-use Rattle.in_parts.specs.InParts.{plugRequest, Asks, AllAcknowledged, endOf, SameAs, InTwo, Part, borderBetween, Raised}
+use Rattle.in_parts.specs.InParts.{plugRequest, Asks, AllAcknowledged, endAfter, SameAs, InTwo, Piece, borderBetween, Raised}
 use Rattle.in_parts.proofs.Asking.{asking}
 
 -- the device of the whole example (R12.12), placed, with nothing plugged and so much requested
@@ -56,7 +56,7 @@ pub plugs : (block count : ℕ) → Call
 plugs block count = Request (asking (4294967296 + block * 4194304) count) 0 0
 
 -- two parts of one block each: a border is looked for by their sizes and the offset alone
-pub halves : List Part
+pub halves : List Piece
 halves = record { blocks = 1; call = plugs 0 1 } ∷ record { blocks = 1; call = plugs 1 1 } ∷ []
 
 asks : (g : Guest) (addr count : ℕ) → parsed (g .mem) (g .base) 0 0 ≡ Got (plugRequest addr count) (record { 0 = 56 }) → Asks (Request g 0 0) addr count
@@ -74,8 +74,8 @@ pub record Example : Type 0 where
   pub other-alone : Acknowledged (step (device 4194304) (plugs 1 1))
   pub not-both : AllAcknowledged (device 4194304) (plugs 0 1 ∷ plugs 1 1 ∷ []) → ⊥
   pub nor-so : AllAcknowledged (device 4194304) (plugs 1 1 ∷ plugs 0 1 ∷ []) → ⊥
-  pub this-first : take 2 (endOf (device 4194304) (plugs 0 1 ∷ plugs 1 1 ∷ []) .blocks) ≡ true ∷ false ∷ []
-  pub other-first : take 2 (endOf (device 4194304) (plugs 1 1 ∷ plugs 0 1 ∷ []) .blocks) ≡ false ∷ true ∷ []
+  pub this-first : take 2 (endAfter (device 4194304) (plugs 0 1 ∷ plugs 1 1 ∷ []) .blocks) ≡ true ∷ false ∷ []
+  pub other-first : take 2 (endAfter (device 4194304) (plugs 1 1 ∷ plugs 0 1 ∷ []) .blocks) ≡ false ∷ true ∷ []
   -- blocks 511 and 512 of several regions, then 510 and 511; and of one region
   pub border : borderBetween true 4194304 2143289344 halves ≡ true
   pub no-border : borderBetween true 4194304 2139095040 halves ≡ false
@@ -83,7 +83,7 @@ pub record Example : Type 0 where
   pub raised : Raised 20971520 (device 16777216) (plugs 0 4)
 
 pub example : Example
-unfolding device plugs halves asking AllAcknowledged endOf borderBetween mapRegions every fill value littleEndian part put virtioMemReq requestAt responseBytes virtqDesc descriptorAt descriptorAddr inside linkAt linkAfter withSecond withFirst parsed reaches delivered mappingOf alignmentOk regionOk sizeOk spanOf startOk severalOk pendingOk shapedOf insideOf rangeOf hostSum hostIn hostOf legalAt changeIn tablesFit readyRefusal unless plugAs plug serve request step response
+unfolding device plugs halves asking AllAcknowledged endAfter borderBetween mapRegions every fill value littleEndian part put virtioMemReq requestAt responseBytes virtqDesc descriptorAt descriptorAddr inside linkAt linkAfter withSecond withFirst parsed reaches delivered mappingOf alignmentOk regionOk sizeOk spanOf startOk severalOk pendingOk shapedOf insideOf rangeOf hostSum hostIn hostOf legalAt changeIn tablesFit readyRefusal unless plugAs plug serve request step response
 example =
     record {
       cut = record { asks-whole = asks _ _ _ refl; asks-first = asks _ _ _ refl; asks-second = asks _ _ _ refl };

@@ -47,14 +47,14 @@ unfoldable pub AllAcknowledged : World → List Call → Type 0
 AllAcknowledged w [] = Unit {0}
 AllAcknowledged w (c ∷ cs) = Acknowledged (step w c) × AllAcknowledged (step w c .world) cs
 
-unfoldable pub endOf : World → List Call → World
-endOf w [] = w
-endOf w (c ∷ cs) = endOf (step w c .world) cs
+unfoldable pub endAfter : World → List Call → World
+endAfter w [] = w
+endAfter w (c ∷ cs) = endAfter (step w c .world) cs
 
 -- the calls are acknowledged, and end where the one call ends: whatever is called next has the same outcome
 pub record SameAs (w : World) (cs : List Call) (whole : Call) : Type 0 where
   pub all-acknowledged : AllAcknowledged w cs
-  pub same-end : endOf w cs ≡ step w whole .world
+  pub same-end : endAfter w cs ≡ step w whole .world
 
 -- ---- in two
 -- with several regions, this offset is a 2 GiB border
@@ -74,7 +74,7 @@ OneThenTwo = (w : World) (addr n k : ℕ) (whole first second : Call) → InTwo 
 
 -- R16.2, of the whole where its parts are acknowledged: without a border between so is it, and it ends as they do; with one it is ERROR
 pub record Joined (w : World) (border : Bool) (cs : List Call) (whole : Call) : Type 0 where
-  pub same : border ≡ false → Acknowledged (step w whole) × (step w whole .world ≡ endOf w cs)
+  pub same : border ≡ false → Acknowledged (step w whole) × (step w whole .world ≡ endAfter w cs)
   pub stopped : border ≡ true → Rejected (step w whole)
 
 abbrev pub TwoThenOne : Type 0
@@ -83,41 +83,41 @@ TwoThenOne = (w : World) (addr n k : ℕ) (whole first second : Call) → InTwo 
 
 -- ---- R16.4, in many: the same of any way to cut a range
 -- a part: how many blocks, and the call that asks for them
-pub record Part : Type 0 where
+pub record Piece : Type 0 where
   pub blocks : ℕ
   pub call : Call
 
-unfoldable pub callsOf : List Part → List Call
-callsOf [] = []
-callsOf (p ∷ ps) = p .call ∷ callsOf ps
+unfoldable pub pieceCalls : List Piece → List Call
+pieceCalls [] = []
+pieceCalls (p ∷ ps) = p .call ∷ pieceCalls ps
 
-unfoldable pub total : List Part → ℕ
-total [] = 0
-total (p ∷ ps) = p .blocks + total ps
+unfoldable pub totalBlocks : List Piece → ℕ
+totalBlocks [] = 0
+totalBlocks (p ∷ ps) = p .blocks + totalBlocks ps
 
 -- each part has a block
-unfoldable pub EachSome : List Part → Type 0
+unfoldable pub EachSome : List Piece → Type 0
 EachSome [] = Unit {0}
 EachSome (p ∷ ps) = (0 < p .blocks) × EachSome ps
 
 -- the first part is asked for at addr, and each other where the one before it ends
-unfoldable pub InTurn : (b addr : ℕ) → List Part → Type 0
+unfoldable pub InTurn : (b addr : ℕ) → List Piece → Type 0
 InTurn b addr [] = Unit {0}
 InTurn b addr (p ∷ ps) = Asks (p .call) addr (p .blocks) × InTurn b (addr + bytesOf b (p .blocks)) ps
 
 -- with several regions, a 2 GiB border lies between two of the parts, of which the first is at this offset
-unfoldable pub borderBetween : (several : Bool) (b offset : ℕ) → List Part → Bool
+unfoldable pub borderBetween : (several : Bool) (b offset : ℕ) → List Piece → Bool
 borderBetween several b offset [] = false
 borderBetween several b offset (p ∷ []) = false
 borderBetween several b offset (p ∷ q ∷ ps) = borderBetween several b (offset + bytesOf b (p .blocks)) (q ∷ ps) || onBorder several (offset + bytesOf b (p .blocks))
 
 abbrev pub OneThenMany : Type 0
-OneThenMany = (w : World) (addr : ℕ) (whole : Call) (parts : List Part) → Asks whole addr (total parts) → InTurn (blockSize w) addr parts → EachSome parts
-    → Acknowledged (step w whole) → SameAs w (callsOf parts) whole
+OneThenMany = (w : World) (addr : ℕ) (whole : Call) (parts : List Piece) → Asks whole addr (totalBlocks parts) → InTurn (blockSize w) addr parts → EachSome parts
+    → Acknowledged (step w whole) → SameAs w (pieceCalls parts) whole
 
 abbrev pub ManyThenOne : Type 0
-ManyThenOne = (w : World) (addr : ℕ) (whole : Call) (p : Part) (ps : List Part) → let parts = p ∷ ps in Asks whole addr (total parts) → InTurn (blockSize w) addr parts
-    → AllAcknowledged w (callsOf parts) → Joined w (borderBetween (several w) (blockSize w) (addr - start w) parts) (callsOf parts) whole
+ManyThenOne = (w : World) (addr : ℕ) (whole : Call) (p : Piece) (ps : List Piece) → let parts = p ∷ ps in Asks whole addr (totalBlocks parts) → InTurn (blockSize w) addr parts
+    → AllAcknowledged w (pieceCalls parts) → Joined w (borderBetween (several w) (blockSize w) (addr - start w) parts) (pieceCalls parts) whole
 
 -- ---- R16.4, in any order: plugs that are all acknowledged in one order are so in every other, and the end is the same. They need not be parts of one range
 pub record IsPlug (c : Call) : Type 0 where
@@ -131,12 +131,12 @@ EachPlugs (c ∷ cs) = IsPlug c × EachPlugs cs
 
 abbrev pub AnyOrder : Type 0
 AnyOrder = (w : World) (cs ds : List Call) → EachPlugs cs → List·Permᴰ cs ds
-    → AllAcknowledged w cs → AllAcknowledged w ds × (endOf w ds ≡ endOf w cs)
+    → AllAcknowledged w cs → AllAcknowledged w ds × (endAfter w ds ≡ endAfter w cs)
 
 -- so a range may be cut in any way, and its parts asked for in any order
 abbrev pub OneThenAnyOrder : Type 0
-OneThenAnyOrder = (w : World) (addr : ℕ) (whole : Call) (parts : List Part) (ds : List Call) → Asks whole addr (total parts) → InTurn (blockSize w) addr parts → EachSome parts
-    → List·Permᴰ (callsOf parts) ds → Acknowledged (step w whole) → SameAs w ds whole
+OneThenAnyOrder = (w : World) (addr : ℕ) (whole : Call) (parts : List Piece) (ds : List Call) → Asks whole addr (totalBlocks parts) → InTurn (blockSize w) addr parts → EachSome parts
+    → List·Permᴰ (pieceCalls parts) ds → Acknowledged (step w whole) → SameAs w ds whole
 
 -- ---- R16.5: a higher requested size, with all else equal
 abbrev pub requestedAt : ℕ → World → World

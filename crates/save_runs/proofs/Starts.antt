@@ -13,9 +13,9 @@ use Rattle.record.specs.Shape.{configShapedOf, sizeOk, ofConfig}
 use Rattle.record.specs.Changes.{configWith, configTo}
 use Rattle.record.proofs.Laws.{Parts, parts, shaped-is}
 use Rattle.step.specs.World.{World, Call, worldOf}
-use Rattle.history.specs.History.{Event, Story, next, after, Told}
+use Rattle.history.specs.History.{Event, Story, next, after, Demand3}
 use Rattle.history.specs.Good.{Good}
-use Rattle.history.specs.Reached.{marked, counted, Restores, afterRestore, restored, Reached, by-restore}
+use Rattle.history.specs.Reached.{marked, counted, CanRestore, afterRestore, restored, Reached, by-restore}
 use Rattle.history.proofs.Shaped.{idle-nothing}
 use Rattle.history.proofs.Invariant.{Inv}
 use Rattle.history.proofs.Restored.{inv-restored}
@@ -39,7 +39,7 @@ ends-by from end more [] h a = tt
 ends-by from end more (r ∷ rs) h a = (a .0, a .1, omega (arith, a .2), ends-by (suc (r .first + r .count)) end more rs h (a .3))
 
 -- calls keep the invariant, from wherever it holds
-told-after : (s : Story) → openOf (s .world .device .pending) ≡ s .«open» → Inv (s .world) (s .events) → (cs : List Call) → Told (after s cs .world) (after s cs .events)
+told-after : (s : Story) → openOf (s .world .device .pending) ≡ s .«open» → Inv (s .world) (s .events) → (cs : List Call) → Demand3 (after s cs .world) (after s cs .events)
 unfolding after next
 told-after s o h [] = h .told
 told-after s o h (c ∷ cs) =
@@ -47,11 +47,11 @@ told-after s o h (c ∷ cs) =
     (rw o at (each-call (s .world) (Kept (s .events)) (kept (s .world) (s .events) h) c)) cs
 
 -- a run that led to a world goes on from a restore of it
-continues : (s : Story) → Reached s → (w : World) (requested : ℕ) (plugs : List Event) → s .world ≡ w → Restores w requested plugs → Reached (restored w requested plugs)
-continues s reached w requested plugs e l = let here : Restores (s .world) requested plugs = rw e l in rw e at (by-restore reached here)
+continues : (s : Story) → Reached s → (w : World) (requested : ℕ) (plugs : List Event) → s .world ≡ w → CanRestore w requested plugs → Reached (restored w requested plugs)
+continues s reached w requested plugs e l = let here : CanRestore (s .world) requested plugs = rw e l in rw e at (by-restore reached here)
 
-stays : (s : Story) → Good s → (w : World) (requested : ℕ) (plugs : List Event) → s .world ≡ w → Restores w requested plugs → Good (restored w requested plugs)
-stays s good w requested plugs e l = let here : Restores (s .world) requested plugs = rw e l in rw e at (good-restored s requested plugs good here)
+stays : (s : Story) → Good s → (w : World) (requested : ℕ) (plugs : List Event) → s .world ≡ w → CanRestore w requested plugs → Good (restored w requested plugs)
+stays s good w requested plugs e l = let here : CanRestore (s .world) requested plugs = rw e l in rw e at (good-restored s requested plugs good here)
 
 size-of : (f : Fields) → shapeOk f ≡ true → sizeOk (f .block) (f .requested) (f .region) ≡ true
 unfolding configShapedOf
@@ -89,7 +89,7 @@ module _ (d d′ : Device) (text bitmap bitmap′ table : List ℕ) (r : Restori
       let few : 0 + blocksIn (d .config .«block_size») (d .config .«usable_region_size») ≤ blocksIn (d .config .«block_size») (d .config .«region_size») = rw b (omega arith) in
       part-clear (blocks bitmap) _ 0 _ few (none-set d (blocks bitmap) (r .fields) (r .taken .fits))
 
-  is-restore : Restores (worldOf d bitmap table) (r .fields .requested) (plugsOf (runsOf (r .bs)))
+  is-restore : CanRestore (worldOf d bitmap table) (r .fields .requested) (plugsOf (runsOf (r .bs)))
   is-restore =
       let fits = r .taken .fits in
       let room = has-room d text bitmap (r .fields) (r .bs) (r .admitted) (r .taken) in

@@ -5,8 +5,8 @@ use mathlib.Core.Path.{_≡_}
 use mathlib.Core.List.{List, [], _∷_}
 use Rattle.record.specs.declared.Device.{Device}
 use Rattle.step.specs.World.{World, Call, worldOf}
-use Rattle.history.specs.History.{Event, PlugAck, NoRequest, Story, after, Told}
-use Rattle.history.specs.Reached.{Restores, afterRestore, Reached}
+use Rattle.history.specs.History.{Event, PlugAck, NoRequest, Story, after, Demand3}
+use Rattle.history.specs.Reached.{CanRestore, afterRestore, Reached}
 use Rattle.history.specs.Good.{Good}
 use Rattle.runs.specs.Runs.{Run, runsOf}
 use Rattle.saving.specs.Restoring.{Restoring}
@@ -23,13 +23,13 @@ starts w es = record { world = w; «open» = NoRequest; events = es }
 -- the world w was restored to w′
 pub record StartsWith (w : World) (requested : ℕ) (plugs : List Event) (w′ : World) : Type 0 where
   -- it is a restore as the crate `history` has it
-  pub restores : Restores w requested plugs
+  pub restores : CanRestore w requested plugs
   pub leads : w′ ≡ afterRestore w requested plugs
   -- so a run that has led to w goes on, and what was good stays good, with all that is proved of either
   pub goes-on : (s : Story) → Reached s → s .world ≡ w → Reached (starts w′ plugs)
   pub stays-good : (s : Story) → Good s → s .world ≡ w → Good (starts w′ plugs)
   -- and demand 3 holds from there on after any calls, none included, whatever led to w
-  pub told : (cs : List Call) → let s = after (starts w′ plugs) cs in Told (s .world) (s .events)
+  pub told : (cs : List Call) → let s = after (starts w′ plugs) cs in Demand3 (s .world) (s .events)
 
 -- of every restore that was not refused, with any map table
 abbrev pub RestoreStarts : Type 0

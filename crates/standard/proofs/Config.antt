@@ -27,7 +27,7 @@ use Rattle.history.specs.Rules.{FromEveryGood, FromEveryWorld}
 use Rattle.history.proofs.Shaped.{clash}
 use Rattle.history.proofs.Cases.{write-cases}
 use Rattle.history.proofs.Calls.{Endings, each-call}
-use Rattle.standard.specs.Config.{configOf, Features, FeaturesFromMaking, ReadsLayout, Constant, ConstantFields, ConstantInRestore, FieldsLaidOut, settledByCall, settledBy, settledAfter, RequestedIsUsable, PluggedSizeIsOfBlocks, WritesNothing}
+use Rattle.standard.specs.Config.{configIn, Features, FeaturesFromMaking, ReadsLayout, Constant, ConstantFields, ConstantInRestore, FieldsLaidOut, settledByCall, settledBy, settledAfter, RequestedIsUsable, PluggedSizeIsOfBlocks, WritesNothing}
 
 -- ---- what each call does to the config, in every world
 record Kept (w : World) (c : Call) (o : Outcome) : Type 0 where
@@ -45,8 +45,8 @@ worth b region requested alignment e p q =
     by-test (eqb requested 0) (λ t. let z = eqb-true requested 0 t in rw t (omega arith)) (λ t. rw (t, e) (omega arith))
 
 module _ (w : World) where
-  constants : (w′ : World) → configOf w′ .«block_size» ≡ blockSize w → configOf w′ .«node_id» ≡ configOf w .«node_id» → region w′ ≡ region w
-      → (w .device .placed ≡ true → configOf w′ .addr ≡ configOf w .addr) → w′ .device .«avail_features» ≡ w .device .«avail_features» → Constant w w′
+  constants : (w′ : World) → configIn w′ .«block_size» ≡ blockSize w → configIn w′ .«node_id» ≡ configIn w .«node_id» → region w′ ≡ region w
+      → (w .device .placed ≡ true → configIn w′ .addr ≡ configIn w .addr) → w′ .device .«avail_features» ≡ w .device .«avail_features» → Constant w w′
   constants w′ b n r a f = record { same-block-size = b; same-node = n; same-region = r; same-addr = a; same-features = f }
 
   -- neither size moves, and the size is settled after it only if it was before
@@ -156,7 +156,7 @@ features-from-making capacity requested several node boot s (by-restore {s = bef
 -- ---- M3, M4, M6, M7
 pub reads-layout : ReadsLayout
 unfolding step readConfig
-reads-layout w offset buffer s = rw (s, laid-out (configOf w))
+reads-layout w offset buffer s = rw (s, laid-out (configIn w))
 
 pub writes-nothing : WritesNothing
 unfolding step

@@ -42,7 +42,7 @@ use Rattle.step.proofs.InTable.{cleared-shaped, cleared-fits}
 use Rattle.step.proofs.Laws.{one-inside, one-before, one-behind}
 use Rattle.history.proofs.Shaped.{clash, awaiting}
 use Rattle.history.proofs.Cases.{by-cond}
-use Rattle.standard.specs.Requests.{OfEvery, OfEveryUnknown, Unknown, Hears, Awaits, Valid, Covers, Responds, responseOf, among, AsksFor, sizeOf, offsetOf, IsPlugged, IsUnplugged, OneMapping, WholeOrNothing, CanPlug, Plug, CanUnplug, UnplugAnswered, Unplug, UnplugAll, UnplugsFrom, Lowest, NoneFrom, AsksLowest, OneUnplugged, OneAnswered, OfEveryOne, CanDiscard, addressOf, State, Unchanged, «VIRTIO_MEM_REQ_PLUG», «VIRTIO_MEM_REQ_UNPLUG», «VIRTIO_MEM_REQ_UNPLUG_ALL», «VIRTIO_MEM_REQ_STATE»}
+use Rattle.standard.specs.Requests.{OfEvery, OfEveryUnknown, Unknown, Hears, Awaits, Valid, Covers, Responds, responseOf, among, AsksFor, sizeOf, offsetOf, IsPlugged, IsUnplugged, OneMapping, WholeOrNothing, CanPlug, Plug, CanUnplug, UnplugAnswered, Unplug, UnplugAll, UnplugsFrom, Lowest, NoneFrom, AsksLowest, OneUnplugged, OneAnswered, OfEveryOne, CanDiscard, addressOf, StateRequest, Unchanged, «VIRTIO_MEM_REQ_PLUG», «VIRTIO_MEM_REQ_UNPLUG», «VIRTIO_MEM_REQ_UNPLUG_ALL», «VIRTIO_MEM_REQ_STATE»}
 
 -- ---- the blocks that a request covers
 -- block i begins in the bytes from addr on: it is one of the `count` blocks from `first` on
@@ -380,7 +380,7 @@ module _ (w : World) (req : VirtioMemReq) (sound : Sound w) where
       let sp = spans-of (offsetOf w req) (in-range v) in
       rw (le-ltb (req .addr .0) (start w) (v .from-start), range-take (regionBlocks w) (w .blocks) (blocksIn (blockSize w) (offsetOf w req)) (req .«nb_blocks») (sp .ends))
 
-  state-at : req .«req_type» ≡ «VIRTIO_MEM_REQ_STATE» → (status : ℕ) (g : Guest) → State w req (served (stateResp w (req .addr .0) (req .«nb_blocks»)) status w g)
+  state-at : req .«req_type» ≡ «VIRTIO_MEM_REQ_STATE» → (status : ℕ) (g : Guest) → StateRequest w req (served (stateResp w (req .addr .0) (req .«nb_blocks»)) status w g)
   unfolding response stateIn
   state-at t status g =
       let enough = long w sound in
@@ -592,7 +592,7 @@ pub unplug-standard : OfEvery «VIRTIO_MEM_REQ_UNPLUG» Unplug
 unplug-standard w g descriptors head req status h t =
     rw (to-unplug w g descriptors head req status h t) (unplug-at w req (hearing w g descriptors head req status h) t (status .0) g)
 
-pub state-standard : OfEvery «VIRTIO_MEM_REQ_STATE» State
+pub state-standard : OfEvery «VIRTIO_MEM_REQ_STATE» StateRequest
 state-standard w g descriptors head req status h t =
     rw (to-state w g descriptors head req status h t) (state-at w req (hearing w g descriptors head req status h) t (status .0) g)
 

@@ -35,12 +35,12 @@ use Rattle.history.specs.History.{present}
 use Rattle.history.specs.Rules.{FromEveryWorld}
 use Rattle.history.proofs.Shaped.{clash}
 use Rattle.history.proofs.Cases.{on-ready, on-unplaced, read-cases, write-cases}
-use Rattle.standard.specs.Requests.{Responds, typeField, responseOf, among, isHostAnswer, WaitingStays, lentBy, statusOfChain, statusOfPending, statusFor, Written, Delivered, ResponseIsDelivered, WritableAt, StatusIsWritable, StatusIsKept, SilenceWritesNothing, OneAnswered, NackOnlyPastRequested, PlugPastRequested, NeverBusy, «VIRTIO_MEM_REQ_PLUG», «VIRTIO_MEM_REQ_UNPLUG», «VIRTIO_MEM_REQ_UNPLUG_ALL», «VIRTIO_MEM_REQ_STATE», «VIRTIO_MEM_RESP_NACK», «VIRTIO_MEM_RESP_BUSY»}
+use Rattle.standard.specs.Requests.{Responds, typeField, responseOf, among, isHostAnswer, WaitingStays, lentBy, statusOfChain, statusOfPending, statusFor, ResponseWritten, Delivered, ResponseIsDelivered, WritableAt, StatusIsWritable, StatusIsKept, SilenceWritesNothing, OneAnswered, NackOnlyPastRequested, PlugPastRequested, NeverBusy, «VIRTIO_MEM_REQ_PLUG», «VIRTIO_MEM_REQ_UNPLUG», «VIRTIO_MEM_REQ_UNPLUG_ALL», «VIRTIO_MEM_REQ_STATE», «VIRTIO_MEM_RESP_NACK», «VIRTIO_MEM_RESP_BUSY»}
 use Rattle.standard.proofs.Requests.{plug-standard, unplug-standard, unplug-all-standard, state-standard, unknown-unserved}
 use Rattle.standard.proofs.EveryCall.{speaks, isConfigCall, Says, Responded, Silent, leaf-unplug, Ways, each-way}
 
 -- ---- M8: the response in the guest's bytes
-laid : (g : Guest) (status : ℕ) (resp : VirtioMemResp) → reaches (g .mem) (g .base) status ≡ true → Written g status resp (delivered (g .mem) (g .base) status resp)
+laid : (g : Guest) (status : ℕ) (resp : VirtioMemResp) → reaches (g .mem) (g .base) status ≡ true → ResponseWritten g status resp (delivered (g .mem) (g .base) status resp)
 unfolding reaches
 laid g status resp t =
     let i = inside-facts (length (g .mem)) (g .base) status 10 t in

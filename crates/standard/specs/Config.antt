@@ -24,8 +24,8 @@ use Rattle.step.specs.Step.{step, blockSize, region, usable, plugged, requested
 use Rattle.history.specs.History.{Event, used, Story, after}
 use Rattle.history.specs.Reached.{afterRestore, Reached, madeAs}
 
-abbrev pub configOf : World → VirtioMemConfig
-configOf w = w .device .config
+abbrev pub configIn : World → VirtioMemConfig
+configIn w = w .device .config
 
 -- ---- M2, the feature bits
 abbrev pub «VIRTIO_MEM_F_ACPI_PXM» : ℕ
@@ -56,14 +56,14 @@ layoutOf c =
 
 abbrev pub ReadsLayout : Type 0
 ReadsLayout = (w : World) (offset : ℕ) (buffer : List ℕ) → shapedOf (w .device) ≡ true
-    → step w (ReadConfig offset buffer) .bytes ≡ put buffer 0 (drop offset (layoutOf (configOf w)))
+    → step w (ReadConfig offset buffer) .bytes ≡ put buffer 0 (drop offset (layoutOf (configIn w)))
 
 -- ---- M4: block_size, node_id, addr and region_size never change, and (M2) no feature does; addr is given when the device is placed, before any driver sees it
 pub record Constant (w w′ : World) : Type 0 where
-  pub same-block-size : configOf w′ .«block_size» ≡ configOf w .«block_size»
-  pub same-node : configOf w′ .«node_id» ≡ configOf w .«node_id»
-  pub same-region : configOf w′ .«region_size» ≡ configOf w .«region_size»
-  pub same-addr : w .device .placed ≡ true → configOf w′ .addr ≡ configOf w .addr
+  pub same-block-size : configIn w′ .«block_size» ≡ configIn w .«block_size»
+  pub same-node : configIn w′ .«node_id» ≡ configIn w .«node_id»
+  pub same-region : configIn w′ .«region_size» ≡ configIn w .«region_size»
+  pub same-addr : w .device .placed ≡ true → configIn w′ .addr ≡ configIn w .addr
   pub same-features : w′ .device .«avail_features» ≡ w .device .«avail_features»
 
 abbrev pub ConstantFields : World → Call → Outcome → Type 0

@@ -34,7 +34,7 @@ use Rattle.step.specs.declared.Reply.{Reply}
 use Rattle.step.specs.Answers.{response}
 use Rattle.step.specs.World.{World, Guest, noGuest, Call, Place, SetRequestedSize, Request, HostAnswer, ReadConfig, WriteConfig, Outcome}
 use Rattle.step.specs.Step.{step, blockSize, usable, plugged, requested, start, several, regionBlocks, tablesFit, cleared}
-use Rattle.standard.specs.Config.{configOf}
+use Rattle.standard.specs.Config.{configIn}
 
 -- ---- M9, R7.4: the types of requests and responses, and the states
 abbrev pub «VIRTIO_MEM_REQ_PLUG» : ℕ
@@ -96,8 +96,8 @@ Declined o = Responds o «VIRTIO_MEM_RESP_NACK»
 abbrev pub Rejected : Outcome → Type 0
 Rejected o = Responds o «VIRTIO_MEM_RESP_ERROR»
 
-abbrev pub Tells : Outcome → (state : ℕ) → Type 0
-Tells o state = stateField (response (o .answer)) ≡ some state
+abbrev pub TellsState : Outcome → (state : ℕ) → Type 0
+TellsState o state = stateField (response (o .answer)) ≡ some state
 
 -- one of these
 unfoldable pub among : List ℕ → ℕ → Bool
@@ -133,7 +133,7 @@ SameBlock w w′ i = blockAt (w′ .blocks) i ≡ blockAt (w .blocks) i
 -- no block and no config field has changed
 pub record Unchanged (w w′ : World) : Type 0 where
   pub same-blocks : w′ .blocks ≡ w .blocks
-  pub same-config : configOf w′ ≡ configOf w
+  pub same-config : configIn w′ ≡ configIn w
 
 -- the bytes that a request is about, from its addr on
 abbrev pub sizeOf : World → VirtioMemReq → ℕ
@@ -238,7 +238,7 @@ statusFor w (ReadConfig offset buffer) = none
 statusFor w (WriteConfig offset buffer) = none
 
 -- the ten bytes at the status address are the standard's layout of the response, its padding zero, and no other byte has changed
-pub record Written (g : Guest) (status : ℕ) (resp : VirtioMemResp) (bytes : List ℕ) : Type 0 where
+pub record ResponseWritten (g : Guest) (status : ℕ) (resp : VirtioMemResp) (bytes : List ℕ) : Type 0 where
   pub from-base : g .base ≤ status
   pub to-end : status + 10 ≤ g .base + length (g .mem)
   pub laid-out : part bytes (status - g .base) 10 ≡ virtioMemResp (resp .«resp_type») 0 0 0 (resp .state)
@@ -248,7 +248,7 @@ pub record Written (g : Guest) (status : ℕ) (resp : VirtioMemResp) (bytes : Li
 
 -- a used length of 10 says that the response is written, and 0 that nothing is; it is 10 wherever there is room
 pub record Delivered (g : Guest) (status : ℕ) (reply : Reply) (bytes : List ℕ) : Type 0 where
-  pub whole : reply .used ≡ 10 → Written g status (reply .response) bytes
+  pub whole : reply .used ≡ 10 → ResponseWritten g status (reply .response) bytes
   pub nothing : reply .used ≡ 0 → bytes ≡ g .mem
   pub no-other : among (10 ∷ 0 ∷ []) (reply .used) ≡ true
   pub with-room : g .base ≤ status → status + 10 ≤ g .base + length (g .mem) → status + 10 ≤ 2 ^ 64 → reply .used ≡ 10
@@ -411,14 +411,14 @@ abbrev pub OfEveryOne : Type 0
 OfEveryOne = (w : World) (j : ℕ) (status : GuestAddr) → Awaits w (DiscardOne j status) → (g : Guest) (ok : Bool) (host : ℕ) → OneAnswered w j ok (step w (HostAnswer g ok host))
 
 -- ---- M16: STATE
-pub record State (w : World) (req : VirtioMemReq) (o : Outcome) : Type 0 where
+pub record StateRequest (w : World) (req : VirtioMemReq) (o : Outcome) : Type 0 where
   -- rejected with ERROR if it is not valid, and acknowledged otherwise
   pub bad-range : (Valid w req → ⊥) → Rejected o
   pub acknowledged : Valid w req → Acknowledged o
   -- with PLUGGED, UNPLUGGED or MIXED
-  pub all-plugged : Valid w req → ((i : ℕ) → Covers w req i → IsPlugged w i) → Tells o «VIRTIO_MEM_STATE_PLUGGED»
-  pub all-unplugged : Valid w req → ((i : ℕ) → Covers w req i → IsUnplugged w i) → Tells o «VIRTIO_MEM_STATE_UNPLUGGED»
-  pub mixed : Valid w req → (i j : ℕ) → Covers w req i → IsPlugged w i → Covers w req j → IsUnplugged w j → Tells o «VIRTIO_MEM_STATE_MIXED»
+  pub all-plugged : Valid w req → ((i : ℕ) → Covers w req i → IsPlugged w i) → TellsState o «VIRTIO_MEM_STATE_PLUGGED»
+  pub all-unplugged : Valid w req → ((i : ℕ) → Covers w req i → IsUnplugged w i) → TellsState o «VIRTIO_MEM_STATE_UNPLUGGED»
+  pub mixed : Valid w req → (i j : ℕ) → Covers w req i → IsPlugged w i → Covers w req j → IsUnplugged w j → TellsState o «VIRTIO_MEM_STATE_MIXED»
   -- M10: it changes nothing in either case
   pub whole : WholeOrNothing w req o
   pub responses : RespondsAmong o («VIRTIO_MEM_RESP_ACK» ∷ «VIRTIO_MEM_RESP_ERROR» ∷ [])
