@@ -23,6 +23,7 @@ use Rattle.step.specs.World.{World, Guest, Request}
 use Rattle.step.specs.Step.{blockSize, usable, plugged, requested, start, several, regionBlocks, regionRows, tablesFit, readyRefusal, unless, plugAs, plug, serve, request, step}
 use Rattle.driver.specs.declared.Proposal.the-variants.{Plug, Refused}
 use Rattle.driver.specs.Plan.{roomOf, countOf, planAt, planOf}
+use Rattle.step.proofs.Entry.{ready-when}
 use Rattle.driving.specs.Sound.{Ready, PlugAcknowledged}
 use Rattle.driving.proofs.Legal.{proposed, some-count}
 
@@ -84,8 +85,10 @@ module _ (c : VirtioMemConfig) (bs : List Bool) (addr : GuestAddr) (n : ℕ) whe
 
 -- ---- a ready device is not refused
 pub ready-zero : (w : World) → Ready w → regionBlocks w ≤ length (w .blocks) → readyRefusal (w .device) (length (w .blocks)) (length (w .rows)) ≡ 0
-unfolding readyRefusal tablesFit
-ready-zero w r h = simp (r .shaped, r .idle, r .placed, le-leb (regionBlocks w) (length (w .blocks)) h, le-leb (regionRows w) (length (w .rows)) (r .rows-fit))
+unfolding tablesFit
+ready-zero w r h =
+    ready-when _ _ _
+    (record { shaped = r .shaped; idle = r .idle; is-placed = r .placed; fits = rw (le-leb (regionBlocks w) (length (w .blocks)) h) (le-leb (regionRows w) (length (w .rows)) (r .rows-fit)) })
 
 -- ---- as many blocks as proposed, or fewer, from the start of the proposal on
 module _ (w : World) (r : Ready w) (addr : GuestAddr) (n : ℕ) (e : planOf (w .device .config) (w .blocks) ≡ Plug addr n)
