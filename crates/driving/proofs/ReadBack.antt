@@ -49,6 +49,7 @@ use Rattle.driver.specs.Plan.{roomOf, planAt, planOf}
 use Rattle.driver.proofs.Trips.{config-back}
 use Rattle.driving.specs.Sound.{Ready, PlugAcknowledged}
 use Rattle.driving.specs.Chain.{HoldsRequest, plugOf, laidIn, in66, GoesTo, OfChain, OfUnplug, OfUnplugAll, ReadAt, ReadBack}
+use Rattle.driving.proofs.Settles.{found-17}
 use Rattle.driving.proofs.Held.{held-parses, acknowledged-held, proposal-fits, length-laid, laid-holds, is-inside, in-66}
 
 -- ---- the known types and states
@@ -261,24 +262,14 @@ pub config-read-back : (w : World) → shapedOf (w .device) ≡ true → w .devi
 unfolding step readConfig
 config-read-back w e n buffer long r reads = config-back buffer (w .device .config) long (config-fits (w .device) e n) r (simp e at reads)
 
--- the planner takes it: 12 is never its answer, and with all blocks of the region 17 alone is
+-- the planner takes it: 12 is never its answer
 module _ (d : Device) (e : shapedOf d ≡ true) (bs : List Bool) where
-  at-17 : (x : Found) (b start usable plugged requested n : ℕ) → planAt x b start usable plugged requested bs ≡ NoPlug n → n ≡ 17
-  unfolding planAt
-  at-17 NoneSet b start usable plugged requested n q = cc
-  at-17 (At first) b start usable plugged requested n q =
-      by-test (eqb (roomOf b plugged requested) 0) (λ t. let z = simp t at q in cc) (λ t. let y = simp t at q in let z : _≡_ {A = ℕ} 0 1 = cc in absurd (omega arith))
-
   pub never-12 : planOf (d .config) bs ≡ NoPlug 12 → ⊥
   unfolding planOf
   never-12 q =
       by-test (ltb (length bs) (blocksIn (d .config .«block_size») (d .config .«region_size»)))
       (λ t. let y : NoPlug 11 ≡ NoPlug 12 = simp (config-shaped-of d e, t) at q in let z : _≡_ {A = ℕ} 11 12 = cc in omega arith)
-      (λ t. let z = at-17 _ _ _ _ _ _ 12 (simp (config-shaped-of d e, t) at q) in omega arith)
-
-  pub refused-is-17 : blocksIn (d .config .«block_size») (d .config .«region_size») ≤ length bs → (n : ℕ) → planOf (d .config) bs ≡ NoPlug n → n ≡ 17
-  unfolding planOf
-  refused-is-17 long n q = at-17 _ _ _ _ _ _ n (simp (config-shaped-of d e, le-ltb _ _ long) at q)
+      (λ t. let z = found-17 _ _ _ _ _ _ bs 12 (simp (config-shaped-of d e, t) at q) in omega arith)
 
 -- ---- a whole turn
 -- the plug that is proposed, held by guest memory with room for the response, is acknowledged, and the driver reads the ACK

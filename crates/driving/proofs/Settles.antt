@@ -17,6 +17,8 @@ use Rattle.bitmap.specs.Blocks.{range, blockAt, allAre, ones, fill, nextClear}
 use Rattle.bitmap.specs.declared.Found.{Found}
 use Rattle.bitmap.specs.declared.Found.the-variants.{At, Nothing}
 use Rattle.bitmap.proofs.Laws.{range-step, Lowest, next-at, next-nothing, all-at, all-clear-at, at-inside, at-before, at-after, ones-split, ones-length, ones-all, ones-plugged, take-fill, range-take, fill-length}
+use Rattle.record.specs.Shape.{shapedOf}
+use Rattle.record.specs.declared.Device.{Device}
 use Rattle.record.specs.Shape.{pendingOk, isIdle}
 use Rattle.record.specs.declared.Pending.{Pending}
 use Rattle.record.specs.declared.Pending.the-variants.{Nothing as Idle, Create, Discard, DiscardOne}
@@ -239,18 +241,20 @@ closer w r first n g =
     (g .stops)
 
 -- ---- a ready device is refused with 17 only
-found-17 : (x : Found) (b start usable plugged requested : ℕ) (bs : List Bool) (number : ℕ) → planAt x b start usable plugged requested bs ≡ Refused number → number ≡ 17
+pub found-17 : (x : Found) (b start usable plugged requested : ℕ) (bs : List Bool) (number : ℕ) → planAt x b start usable plugged requested bs ≡ Refused number → number ≡ 17
 unfolding planAt
 found-17 Nothing b start usable plugged requested bs number q = cc
 found-17 (At i) b start usable plugged requested bs number q =
     by-test (eqb (roomOf b plugged requested) 0) (λ t. let q′ = simp t at q in cc)
     (λ t. let q′ = simp t at q in let z : _≡_ {A = ℕ} 0 1 = cc in absurd (omega arith))
 
-pub only-17 : (w : World) → Ready w → (number : ℕ) → planned w ≡ Refused number → number ≡ 17
+pub refused-is-17 : (d : Device) → shapedOf d ≡ true → (bs : List Bool) → blocksIn (d .config .«block_size») (d .config .«region_size») ≤ length bs
+    → (number : ℕ) → planOf (d .config) bs ≡ Refused number → number ≡ 17
 unfolding planOf
-only-17 w r number e =
-    found-17 (nextClear (w .blocks) 0 (usableBlocks w)) (blockSize w) (start w) (usable w) (plugged w) (requested w) (w .blocks) number
-    (simp (config-shaped-of (w .device) (r .shaped), le-ltb (length (w .blocks)) (regionBlocks w) (r .blocks-fit)) at e)
+refused-is-17 d e bs long number q = found-17 _ _ _ _ _ _ bs number (simp (config-shaped-of d e, le-ltb _ _ long) at q)
+
+pub only-17 : (w : World) → Ready w → (number : ℕ) → planned w ≡ Refused number → number ≡ 17
+only-17 w r number e = refused-is-17 (w .device) (r .shaped) (w .blocks) (r .blocks-fit) number e
 
 -- ---- it gets there
 -- the block at an address
