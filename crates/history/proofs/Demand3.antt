@@ -1,3 +1,4 @@
+-- SPDX-License-Identifier: Apache-2.0 AND BSD-3-Clause
 -- Demand 3 in every run.
 use mathlib.Core.List.{List, [], _∷_}
 use Rattle.step.specs.World.{Call}

@@ -1,3 +1,4 @@
+-- SPDX-License-Identifier: Apache-2.0 AND BSD-3-Clause
 -- The whole example of 01 as a run, guest bytes and all, a second run with every kind of event, request 5's builder, which plugs again after a failed unplug-all, and a run that goes on from a restore. All begin with a newly made device, so what is said of every run is said of something. Computed, by `refl`.
 use Prim.Native.Nat.{ℕ}
 use mathlib.Core.Path.{_≡_, refl}

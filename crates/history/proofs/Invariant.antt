@@ -1,3 +1,4 @@
+-- SPDX-License-Identifier: Apache-2.0 AND BSD-3-Clause
 -- The invariant of every run, pending states included, and that each leaf of the step keeps it.
 -- It says: what demand 3 says (`Demand3`); before placing there is no event, no discard is asked for and nothing is plugged; what an unplug asks for is all plugged, and what an unplug-all asks for is the lowest plugged block.
 use Prim.Native.Nat.{ℕ, suc, _+_, _-_, _*_, _≤_, _<_}

@@ -1,3 +1,4 @@
+-- SPDX-License-Identifier: Apache-2.0 AND BSD-3-Clause
 -- The record keeps its shape: each ending does.
 use Prim.Native.Nat.{ℕ, _+_, _-_, _*_, _/_, max, min, _≤_, _<_}
 use mathlib.Core.Path.{_≡_, refl, _∙_}

@@ -1,3 +1,5 @@
+-- SPDX-License-Identifier: Apache-2.0 AND BSD-3-Clause
+-- The proofs of `history`.
 pub mod Shaped
 pub mod Cases
 pub mod Invariant

@@ -1,3 +1,4 @@
+-- SPDX-License-Identifier: Apache-2.0 AND BSD-3-Clause
 -- Every device that is made is a newly made device in the sense of the runs, so demand 3 holds from making on.
 use Prim.Native.Nat.{ℕ}
 use mathlib.Core.Path.{_≡_}

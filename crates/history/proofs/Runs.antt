@@ -1,3 +1,4 @@
+-- SPDX-License-Identifier: Apache-2.0 AND BSD-3-Clause
 -- The rules of a good story, in every run.
 use Rattle.history.specs.Rules.{KeepsShape, Never12, DiscardIsCounted, WholeOrNotAtAll, AsksWhatIsDue}
 use Rattle.history.specs.Questions.{OnlyOpenUnplugsDiscard}

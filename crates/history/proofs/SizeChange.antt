@@ -1,3 +1,4 @@
+-- SPDX-License-Identifier: Apache-2.0 AND BSD-3-Clause
 -- A size change touches no block and no row; where the usable size is all that the requested size is worth, lowering asks the host for nothing.
 use Prim.Native.Nat.{ℕ, _+_, _*_, min, _≤_, _<_}
 use mathlib.Core.Path.{_≡_, refl}

@@ -1,3 +1,4 @@
+-- SPDX-License-Identifier: Apache-2.0 AND BSD-3-Clause
 -- The sizes: 12 never appears in a run, an unplug-all takes off what was counted, the usable size never shrinks, only a size change moves the requested size, and a plug never takes the plugged size past it.
 use Prim.Native.Nat.{ℕ, _+_, _*_, _≤_}
 use mathlib.Core.Path.{_≡_, refl, ap}

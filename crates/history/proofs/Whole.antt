@@ -1,3 +1,4 @@
+-- SPDX-License-Identifier: Apache-2.0 AND BSD-3-Clause
 -- Every plug and unplug happens whole or not at all: the blocks and the plugged size change by the events of the call alone, and each event finds its whole range in the other state.
 use Prim.Native.Nat.{ℕ, _+_, _-_, _≤_}
 use mathlib.Core.Path.{_≡_, refl, _∙_, sym}

@@ -1,3 +1,4 @@
+-- SPDX-License-Identifier: Apache-2.0 AND BSD-3-Clause
 -- A good story: what every run keeps, said of one point. A newly made device is one (`fresh-good`), so is a restored one (`good-restored`), and every call leaves one (`good-kept`); so whatever starts at a good story goes on as a run does.
 use Prim.Native.Nat.{ℕ, _+_, _*_, _≤_, _<_}
 use mathlib.Core.Path.{_≡_}

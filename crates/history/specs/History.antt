@@ -1,3 +1,4 @@
+-- SPDX-License-Identifier: Apache-2.0 AND BSD-3-Clause
 -- Demand 3's words: a newly made device, calls from it on, the events that their answers tell, the last event on a block, and how many blocks are plugged.
 use Prim.Native.Nat.{ℕ, _+_, _-_, _<_}
 use mathlib.Core.Path.{_≡_}
@@ -25,7 +26,7 @@ use Rattle.step.specs.Answers.{refusal, response}
 use Rattle.step.specs.World.{World, Call, Place, SetRequestedSize, Request, HostAnswer, ReadConfig, WriteConfig}
 use Rattle.step.specs.Step.{step, blockSize, start, plugged, regionBlocks}
 
--- ---- events
+-- ---- events: what an observer of calls and answers learns of the blocks. An ACK tells what its request asked for, at once or when the host has answered; the host's yes to an unplug-all tells that a block is discarded
 pub data Event : Type 0 where
   PlugAck : (first count : ℕ) → Event
   UnplugAck : (first count : ℕ) → Event

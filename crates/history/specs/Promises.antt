@@ -1,3 +1,4 @@
+-- SPDX-License-Identifier: Apache-2.0 AND BSD-3-Clause
 -- What any call may do to the sizes of any device, from every world: no run and no sound bitmap is asked for.
 use Prim.Native.Nat.{max, _≤_}
 use mathlib.Core.Path.{_≡_}

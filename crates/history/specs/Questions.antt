@@ -1,3 +1,4 @@
+-- SPDX-License-Identifier: Apache-2.0 AND BSD-3-Clause
 -- What the host is asked: exactly what is then pending, and a discard only for an unplug or an unplug-all of the guest's. Of every call c from every world w, and of its outcome o.
 use Prim.Native.Nat.{ℕ, _+_, _*_}
 use mathlib.Core.Path.{_≡_}

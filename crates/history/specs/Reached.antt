@@ -1,3 +1,4 @@
+-- SPDX-License-Identifier: Apache-2.0 AND BSD-3-Clause
 -- What a run reaches: a newly made device, any calls, and a restore wherever it is allowed. A restore is told by plugs, so this also says what an event does to the blocks and the plugged size, and what must be so before it.
 use Prim.Native.Nat.{ℕ, _+_, _-_, _≤_}
 use mathlib.Core.Path.{_≡_}

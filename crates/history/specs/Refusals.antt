@@ -1,3 +1,4 @@
+-- SPDX-License-Identifier: Apache-2.0 AND BSD-3-Clause
 -- What a refusal leaves: "All but 0 and 10 change nothing", and what 10 changes. Of every call c from every world w, and of its outcome o; nothing is asked of the record, the tables or what led to them.
 use Prim.Native.Nat.{ℕ, _*_}
 use mathlib.Core.Path.{_≡_}

@@ -1,3 +1,4 @@
+-- SPDX-License-Identifier: Apache-2.0 AND BSD-3-Clause
 -- The rule of the requested size, sentence by sentence: each is what holds of every call c, in every good story s and so at every point of every run or, where no run is needed, from every world w with the outcome o.
 use Prim.Native.Nat.{ℕ, _+_, _*_, _≤_, _<_}
 use mathlib.Core.Path.{_≡_}

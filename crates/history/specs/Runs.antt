@@ -1,3 +1,4 @@
+-- SPDX-License-Identifier: Apache-2.0 AND BSD-3-Clause
 -- The rules of every run, from a newly made device on and over restores: demand 3, and each rule of a good story.
 use Rattle.history.specs.History.{Story, Demand3}
 use Rattle.history.specs.Reached.{Reached}

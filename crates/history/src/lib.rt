@@ -1,1 +1,2 @@
-// What holds in every run, of calls and of restores: theorems about the definitions of the crate `step`. There is no code here that a device runs.
+// SPDX-License-Identifier: Apache-2.0 AND BSD-3-Clause
+// Theorems only: what holds in every run of the device, of calls and of restores.

@@ -1,4 +1,5 @@
 -- SPDX-License-Identifier: Apache-2.0 AND BSD-3-Clause
+-- The proofs of `standard`.
 pub mod Config
 pub mod Memory
 pub mod Requests

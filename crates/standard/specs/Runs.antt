@@ -1,3 +1,4 @@
+-- SPDX-License-Identifier: Apache-2.0 AND BSD-3-Clause
 -- What Virtio 1.2 asks of every good story, and so of every run, which starts at a newly made device and goes on by calls and restores: M11, M14, M15 and M18, where a run says more than a world alone. The names M11, Q9, .. are clauses of sections 5.15 and 2.7, retold and numbered in docs/STANDARD.md. M5 and M6 are in Config.antt.
 use Prim.Native.Nat.{ℕ, _+_, _*_, _%_, _≤_, _<_}
 use mathlib.Core.Path.{_≡_}
