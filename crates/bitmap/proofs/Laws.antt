@@ -19,7 +19,7 @@ use native.Mathlib.Omega.{arith}
 use lib.ListN.{length, take, drop, replicate, length-append, length-take, length-drop, drop-of-length-le, List·getD-eq-default}
 use lib.Seq.{getD-take, getD-drop, take-take, drop-cons, take-nil, drop-nil, take-add, take-append-add, drop-append-add, drop-drop}
 use Rattle.bitmap.specs.declared.Found.the-variants.{At, Nothing}
-use Rattle.bitmap.specs.Blocks.{lowBits, blocks, blockAt, range, every, allAre, ones, fill, firstOf, nextOf, nextSet}
+use Rattle.bitmap.specs.Blocks.{lowBits, blocks, blockAt, range, every, allAre, ones, fill, firstFrom, nextInState, nextSet}
 
 lt-or-ge : (a b : ℕ) → (a < b) ⊎ (b ≤ a)
 lt-or-ge a zero = inr zero-le
@@ -387,15 +387,15 @@ first-later v b s i bs q r =
     let w : i - s ≡ suc (i - suc s) = omega (arith, r .from-on) in
     record { from-on = omega (arith, r .from-on); exists = omega (arith, r .exists); found = rw w (r .found); none-below = rw (w, q) (r .none-below) }
 
-first-at : (v : Bool) (s i : ℕ) (bs : List Bool) → firstOf v s bs ≡ At i → First v s i bs
-unfolding firstOf
+first-at : (v : Bool) (s i : ℕ) (bs : List Bool) → firstFrom v s bs ≡ At i → First v s i bs
+unfolding firstFrom
 first-at v s i [] e = absurd (let z : _≡_ {A = ℕ} 0 1 = cc in omega arith)
 first-at true s i (true ∷ bs) e = let w : s ≡ i = cc in first-here true true s i bs refl w
 first-at false s i (false ∷ bs) e = let w : s ≡ i = cc in first-here false false s i bs refl w
 first-at true s i (false ∷ bs) e = first-later true false s i bs refl (first-at true (suc s) i bs e)
 first-at false s i (true ∷ bs) e = first-later false true s i bs refl (first-at false (suc s) i bs e)
 
-pub next-at : (v : Bool) (bs : List Bool) (f e i : ℕ) → nextOf v bs f e ≡ At i → Lowest v bs f e i
+pub next-at : (v : Bool) (bs : List Bool) (f e i : ℕ) → nextInState v bs f e ≡ At i → Lowest v bs f e i
 next-at v bs f e i p =
     let r = first-at v f i (range bs f (e - f)) p in
     let l = range-length bs f (e - f) in
@@ -407,15 +407,15 @@ next-at v bs f e i p =
       none-below = rw (take-take (i - f) (e - f) (drop f bs) (omega (arith, r .exists))) at (r .none-below);
     }
 
-first-nothing : (v : Bool) (s : ℕ) (bs : List Bool) → firstOf v s bs ≡ Nothing → every (not v) bs ≡ true
-unfolding firstOf every
+first-nothing : (v : Bool) (s : ℕ) (bs : List Bool) → firstFrom v s bs ≡ Nothing → every (not v) bs ≡ true
+unfolding firstFrom every
 first-nothing v s [] e = refl
 first-nothing true s (true ∷ bs) e = absurd (let z : _≡_ {A = ℕ} 0 1 = cc in omega arith)
 first-nothing false s (false ∷ bs) e = absurd (let z : _≡_ {A = ℕ} 0 1 = cc in omega arith)
 first-nothing true s (false ∷ bs) e = first-nothing true (suc s) bs e
 first-nothing false s (true ∷ bs) e = first-nothing false (suc s) bs e
 
-pub next-nothing : (v : Bool) (bs : List Bool) (f e : ℕ) → nextOf v bs f e ≡ Nothing → allAre bs f (e - f) (not v) ≡ true
+pub next-nothing : (v : Bool) (bs : List Bool) (f e : ℕ) → nextInState v bs f e ≡ Nothing → allAre bs f (e - f) (not v) ≡ true
 next-nothing v bs f e p = first-nothing v f (range bs f (e - f)) p
 
 pub next-nothing-ones : (bs : List Bool) (f e : ℕ) → nextSet bs f e ≡ Nothing → ones (range bs f (e - f)) ≡ 0
@@ -423,7 +423,7 @@ next-nothing-ones bs f e p = ones-none (range bs f (e - f)) (next-nothing true b
 
 -- a search goes on past clear blocks
 next-step-in : (bs : List Bool) (f e : ℕ) → blockAt bs f ≡ false → f < e → nextSet bs (suc f) e ≡ nextSet bs f e
-unfolding firstOf
+unfolding firstFrom
 next-step-in bs f e p h =
     let w : e - f ≡ suc (e - suc f) = omega arith in
     ⊎-elim (λ l. rw (w, range-step bs f (e - suc f) l, p))
@@ -433,7 +433,7 @@ next-step-in bs f e p h =
     (lt-or-ge f (length bs))
 
 next-step : (bs : List Bool) (f e : ℕ) → blockAt bs f ≡ false → nextSet bs (suc f) e ≡ nextSet bs f e
-unfolding firstOf
+unfolding firstFrom
 next-step bs f e p =
     ⊎-elim (next-step-in bs f e p) (λ h. let y : e - suc f ≡ 0 = omega arith in let z : e - f ≡ 0 = omega arith in rw (y, z)) (lt-or-ge f e)
 
@@ -454,4 +454,4 @@ next-cleared bs f e i p =
     (λ g. at-inside bs i 1 false x g (omega arith) (omega arith))
     (lt-or-ge x i) in
     sym (next-skip (suc (i - f)) (fill bs i 1 false) f e h)
-    ∙ rw w (ap (firstOf true (suc i)) (fill-after bs i 1 false (suc i) (e - suc i) (omega arith)))
+    ∙ rw w (ap (firstFrom true (suc i)) (fill-after bs i 1 false (suc i) (e - suc i) (omega arith)))

@@ -8,7 +8,7 @@ use native.Mathlib.Omega.{arith}
 use lib.ListN.{length, getD, set, length-set, List·getD-eq-default}
 use lib.Seq.{take-set-le, drop-set-lt, set-getD}
 use Rattle.bitmap.specs.declared.Found.the-variants.{At}
-use Rattle.bitmap.specs.Blocks.{lowBits, blocks, blockAt, range, allAre, fill, firstOf, Filled}
+use Rattle.bitmap.specs.Blocks.{lowBits, blocks, blockAt, range, allAre, fill, firstFrom, Filled}
 use Rattle.bitmap.specs.Whole.{whole}
 use Rattle.bitmap.proofs.Laws.{low-length, blocks-length, at-inside, range-step, range-end, all-split, fill-none, fill-end, fill-split}
 use Rattle.bitmap.proofs.Bits.{whole-fill}
@@ -55,12 +55,12 @@ module _ (xs : List ℕ) (v : Bool) where
   all-then f n c h = let e : c ≡ n + (c - n) = omega arith in ap (λ (t : ℕ). allAre (blocks xs) f t v) e ∙ all-split (blocks xs) f n (c - n) v
 
 -- ---- a search: at the block that it looks for, at another, and past a byte that has none
-pub first-hit : (v b : Bool) (at : ℕ) (bs : List Bool) → Bool·beq b v ≡ true → firstOf v at (b ∷ bs) ≡ At at
-unfolding firstOf
+pub first-hit : (v b : Bool) (at : ℕ) (bs : List Bool) → Bool·beq b v ≡ true → firstFrom v at (b ∷ bs) ≡ At at
+unfolding firstFrom
 first-hit v b at bs e = rw e
 
-pub first-miss : (v b : Bool) (at : ℕ) (bs : List Bool) → Bool·beq b v ≡ false → firstOf v at (b ∷ bs) ≡ firstOf v (suc at) bs
-unfolding firstOf
+pub first-miss : (v b : Bool) (at : ℕ) (bs : List Bool) → Bool·beq b v ≡ false → firstFrom v at (b ∷ bs) ≡ firstFrom v (suc at) bs
+unfolding firstFrom
 first-miss v b at bs e = rw e
 
 beq-not : (v : Bool) → Bool·beq (not v) v ≡ false
@@ -73,7 +73,7 @@ whole-bit v i h = rw (whole-fill 0 v) (at-inside (lowBits 8 0) 0 8 v i (omega ar
 
 -- i blocks of a byte that has none are passed, and then all eight
 module _ (v : Bool) (xs : List ℕ) (j left at : ℕ) (l : j < length xs) (e : getD xs j 0 ≡ whole (not v)) (h : 8 ≤ left) where
-  passed-to : (i : ℕ) → i ≤ 8 → firstOf v at (range (blocks xs) (place j 0) left) ≡ firstOf v (at + i) (range (blocks xs) (place j i) (left - i))
+  passed-to : (i : ℕ) → i ≤ 8 → firstFrom v at (range (blocks xs) (place j 0) left) ≡ firstFrom v (at + i) (range (blocks xs) (place j i) (left - i))
   passed-to zero u = let a : at + 0 ≡ at = omega arith in let z : left - 0 ≡ left = omega arith in rw (a, z)
   passed-to (suc i) u =
       let k : i < 8 = omega arith in
@@ -82,11 +82,11 @@ module _ (v : Bool) (xs : List ℕ) (j left at : ℕ) (l : j < length xs) (e : g
       let a : suc (at + i) ≡ at + suc i = omega arith in
       let z : left - i - 1 ≡ left - suc i = omega arith in
       passed-to i (omega arith)
-      ∙ ap (firstOf v (at + i)) (range-turn xs j i (left - i) (not v) l k (λ w. omega arith) q)
+      ∙ ap (firstFrom v (at + i)) (range-turn xs j i (left - i) (not v) l k (λ w. omega arith) q)
       ∙ first-miss v (not v) (at + i) (range (blocks xs) (next j i) (left - i - 1)) (beq-not v)
       ∙ rw (n, z, ← a)
 
-  pub byte-passed : firstOf v at (range (blocks xs) (place j 0) left) ≡ firstOf v (at + 8) (range (blocks xs) (place (j + 1) 0) (left - 8))
+  pub byte-passed : firstFrom v at (range (blocks xs) (place j 0) left) ≡ firstFrom v (at + 8) (range (blocks xs) (place (j + 1) 0) (left - 8))
   byte-passed = let n : place j 8 ≡ place (j + 1) 0 = omega arith in rw n at (passed-to 8 (omega arith))
 
 -- ---- writing a range by its parts: none, past the end, one after another, in one byte

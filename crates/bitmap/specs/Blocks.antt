@@ -51,19 +51,19 @@ fill (b ∷ bs) zero zero v = b ∷ bs
 fill (b ∷ bs) zero (suc count) v = v ∷ fill bs zero count v
 
 -- the place of the first block in the state v, where the first of the list is block i
-unfoldable pub firstOf : Bool → ℕ → List Bool → Found
-firstOf v i [] = Nothing
-firstOf v i (b ∷ bs) = cond (Bool·beq b v) (At i) (firstOf v (suc i) bs)
+unfoldable pub firstFrom : Bool → ℕ → List Bool → Found
+firstFrom v i [] = Nothing
+firstFrom v i (b ∷ bs) = cond (Bool·beq b v) (At i) (firstFrom v (suc i) bs)
 
 -- the lowest block in the state v that exists from `from` up to, not including, `end`
-abbrev pub nextOf : Bool → List Bool → ℕ → ℕ → Found
-nextOf v bs from end = firstOf v from (range bs from (end - from))
+abbrev pub nextInState : Bool → List Bool → ℕ → ℕ → Found
+nextInState v bs from end = firstFrom v from (range bs from (end - from))
 
 abbrev pub nextSet : List Bool → ℕ → ℕ → Found
-nextSet bs from end = nextOf true bs from end
+nextSet bs from end = nextInState true bs from end
 
 abbrev pub nextClear : List Bool → ℕ → ℕ → Found
-nextClear bs from end = nextOf false bs from end
+nextClear bs from end = nextInState false bs from end
 
 -- R2.11: the lent bytes at entry and at exit differ in no byte that lies wholly outside the blocks from `first` to `end`
 pub record Outside (entry exit : List ℕ) (first end : ℕ) : Type 0 where

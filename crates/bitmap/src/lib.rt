@@ -7,7 +7,7 @@ use units::smaller;
 ghost use mathlib.Core.Path.{_≡_};
 ghost use Prim.Native.Nat.{_+_, _-_, _*_, _/_, _%_, _^_, _≤_, _<_};
 ghost use lib.ListN.{length};
-ghost use Rattle.bitmap.specs.Blocks.{lowBits, blocks, blockAt, every, allAre, fill, nextSet, nextClear, nextOf, ones, range, Filled};
+ghost use Rattle.bitmap.specs.Blocks.{lowBits, blocks, blockAt, every, allAre, fill, nextSet, nextClear, nextInState, ones, range, Filled};
 ghost use Rattle.bitmap.specs.Whole.{whole, wholes};
 
 // The block that a search ended at.
@@ -194,7 +194,7 @@ pub fn set_range(bitmap: &mut [u8], first: usize, count: usize, plugged: bool)
 
 // The lowest block in this state that exists from `from` up to, not including, `end`. A byte without one is passed at once.
 fn next_of(bitmap: &[u8], from: usize, end: usize, v: bool) -> Found
-    ensures { λ r. ⌜ r ≡ nextOf v (blocks (now (bitmap .entry))) from end ⌝ }
+    ensures { λ r. ⌜ r ≡ nextInState v (blocks (now (bitmap .entry))) from end ⌝ }
 {
     let passed = whole_byte(!v);
     let mut j = from / 8;

@@ -15,7 +15,7 @@ use Rattle.bitmap.specs.declared.Found.{Found}
 use Rattle.bitmap.specs.declared.Found.the-variants.{At, Nothing as NoneSet}
 use Rattle.bitmap.proofs.Laws.{next-at, next-nothing, all-clear-at}
 use Rattle.rows.specs.declared.MapRow.{MapRow}
-use Rattle.rows.specs.Rows.{rowAt, laid}
+use Rattle.rows.specs.Rows.{rowAt, rowsLaid}
 use Rattle.rows.proofs.Laws.{laid-inside}
 use Rattle.record.specs.declared.Pending.{Pending}
 use Rattle.record.specs.declared.Pending.the-variants.{Nothing, Create, Discard, DiscardOne}
@@ -50,7 +50,7 @@ grows-due : (w : World) (i last size : ℕ) → Grows w i last size → eqb (row
 grows-due w i last size g =
     eq-eqb (rowAt (w .rows) i .mapped) 0 (asking (region w) (several w) (usable w) (newUsable w) (w .rows) i last size g .search .unmapped)
 
-laid-due : (rows : List MapRow) (slots : List ℕ) → 0 < length rows → 0 < length slots → eqb (rowAt (laid rows slots) 0 .mapped) 0 ≡ true
+laid-due : (rows : List MapRow) (slots : List ℕ) → 0 < length rows → 0 < length slots → eqb (rowAt (rowsLaid rows slots) 0 .mapped) 0 ≡ true
 laid-due rows slots p q = rw (laid-inside rows slots 0 p q)
 
 one-row : (region : ℕ) (several : Bool) → several ≡ false → mapRegions region several ≡ 1

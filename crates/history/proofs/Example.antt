@@ -7,13 +7,13 @@ use mathlib.Core.List.{List, [], _∷_, _++_}
 use native.Mathlib.Omega.{arith}
 use lib.ListN.{replicate}
 use Rattle.units.specs.Numbers.{mapRegions}
-use Rattle.bitmap.specs.Blocks.{every, fill, firstOf, ones}
+use Rattle.bitmap.specs.Blocks.{every, fill, firstFrom, ones}
 use Rattle.little_endian.specs.Bytes.{value, littleEndian, part, put}
 use Rattle.wire.specs.Layout.{requestAt, responseBytes}
 use Rattle.descriptors.specs.Standard.{virtqDesc, descriptorAt, descriptorAddr}
 use Rattle.descriptors.specs.Descriptors.{inside, linkAt, linkAfter}
 use Rattle.chain.specs.Chain.{withSecond, withFirst, parsed, reaches, delivered}
-use Rattle.rows.specs.Rows.{mappingOf, fillRows, laid}
+use Rattle.rows.specs.Rows.{mappingOf, fillRows, rowsLaid}
 use Rattle.record.specs.declared.Device.{Device}
 use Rattle.record.specs.declared.Pending.the-variants.{Nothing}
 use Rattle.record.specs.declared.HostCall.the-variants.{Create, Discard}
@@ -176,7 +176,7 @@ pub record Example : Type 0 where
   pub resumed-counted : ones (used (after resumed on-with .world)) ≡ 2
 
 pub example : Example
-unfolding device chainTo chain place-it calls more again saved resumed on-with answers mapRegions every fill firstOf ones value littleEndian part put requestAt responseBytes virtqDesc descriptorAt descriptorAddr inside linkAt linkAfter withSecond withFirst parsed reaches delivered mappingOf fillRows laid alignmentOk regionOk sizeOk spanOf startOk severalOk pendingOk shapedOf newSize growthOf insideOf rangeOf hostSum hostIn hostOf legalAt changeIn stateIn stateOf tablesFit readyRefusal unplacedRefusal pendingRefusal rangeRefusal unless plugAs plug unplugAs oneAs nextAs stateType serve request resizes placing place setRequestedSize hostAnswer step ackToType ackToRequest ackToHost acknowledges discardOf reports response refusal eventsOf openedByType openedByRequest goesOn openedBy askedBy openAfter next after wasPlug marks counts could marked counted allCould allPlugs
+unfolding device chainTo chain place-it calls more again saved resumed on-with answers mapRegions every fill firstFrom ones value littleEndian part put requestAt responseBytes virtqDesc descriptorAt descriptorAddr inside linkAt linkAfter withSecond withFirst parsed reaches delivered mappingOf fillRows rowsLaid alignmentOk regionOk sizeOk spanOf startOk severalOk pendingOk shapedOf newSize growthOf insideOf rangeOf hostSum hostIn hostOf legalAt changeIn stateIn stateOf tablesFit readyRefusal unplacedRefusal pendingRefusal rangeRefusal unless plugAs plug unplugAs oneAs nextAs stateType serve request resizes placing place setRequestedSize hostAnswer step ackToType ackToRequest ackToHost acknowledges discardOf reports response refusal eventsOf openedByType openedByRequest goesOn openedBy askedBy openAfter next after wasPlug marks counts could marked counted allCould allPlugs
 example =
     record {
       answered = refl;

@@ -15,7 +15,7 @@ use Rattle.chain.specs.declared.Parsed.{Parsed}
 use Rattle.chain.specs.declared.Parsed.the-variants.{Request as Got, Bad}
 use Rattle.chain.specs.Chain.{parsed}
 use Rattle.rows.specs.declared.MapRow.{MapRow}
-use Rattle.rows.specs.Rows.{rowAt, mappedAt, filled, laid}
+use Rattle.rows.specs.Rows.{rowAt, mappedAt, rowsFilled, rowsLaid}
 use Rattle.rows.proofs.Laws.{fill-inside, fill-before, fill-after, laid-length, laid-inside}
 use Rattle.record.specs.declared.Pending.{Pending}
 use Rattle.record.specs.declared.Pending.the-variants.{Nothing, Create, Discard, DiscardOne}
@@ -76,7 +76,7 @@ idle-memory : {region : ℕ} {several : Bool} {usable new : ℕ} (new′ : ℕ) 
 idle-memory new′ {p} quiet m = record { early = m .early; fits = m .fits; below = m .below; single = m .single; asked = λ i last e. absurd (idle-no-creation p quiet i last e) }
 
 laid-memory : {region : ℕ} {several : Bool} {usable new : ℕ} {placed : Bool} {p : Pending} {rows : List MapRow} (rows′ : List MapRow) (slots : List ℕ) → placed ≡ false → isIdle p ≡ true
-    → length slots ≡ mapRegions region several → mapRegions region several ≤ length rows′ → Memory region several usable new placed p rows → Memory region several usable new placed p (laid rows′ slots)
+    → length slots ≡ mapRegions region several → mapRegions region several ≤ length rows′ → Memory region several usable new placed p rows → Memory region several usable new placed p (rowsLaid rows′ slots)
 laid-memory {region} {several} {usable} {p = p} rows′ slots unplaced quiet n enough m =
     let none : usable ≡ 0 = m .early unplaced in
     record {
@@ -100,11 +100,11 @@ created-memory w i last host bytes m inside waits enough sum =
       asked = λ j end e. let z : _≡_ {A = ℕ} 0 1 = cc in absurd (omega arith);
     }
   where
-    filled-row : (r : ℕ) → i ≤ r → r ≤ last → rowAt (filled (w .rows) i last host) r ≡ mappedAt (host + (r - i) * mapRegion) (rowAt (w .rows) r)
+    filled-row : (r : ℕ) → i ≤ r → r ≤ last → rowAt (rowsFilled (w .rows) i last host) r ≡ mappedAt (host + (r - i) * mapRegion) (rowAt (w .rows) r)
     filled-row r p q = fill-inside (w .rows) i (last + 1 - i) host r p (omega arith) (omega (arith, inside .inside))
 
     -- a single region has row 0 alone
-    row-0 : several w ≡ false → rowAt (filled (w .rows) i last host) 0 .mapped ≡ 0 → ⊥
+    row-0 : several w ≡ false → rowAt (rowsFilled (w .rows) i last host) 0 .mapped ≡ 0 → ⊥
     row-0 e z =
         let one : last < 1 = rw e at (inside .inside) in
         let ordered = inside .ordered in
@@ -122,7 +122,7 @@ created-memory w i last host bytes m inside waits enough sum =
         let s = rw e at sum in
         rw e (omega arith)
 
-    fitting : (v : Bool) → several w ≡ v → (r : ℕ) → r < regionRows w → (rowAt (filled (w .rows) i last host) r .mapped ≡ 0 → ⊥) → rowAt (filled (w .rows) i last host) r .host .0 + rowSize (region w) (several w) ≤ top
+    fitting : (v : Bool) → several w ≡ v → (r : ℕ) → r < regionRows w → (rowAt (rowsFilled (w .rows) i last host) r .mapped ≡ 0 → ⊥) → rowAt (rowsFilled (w .rows) i last host) r .host .0 + rowSize (region w) (several w) ≤ top
     fitting v e r l mapped =
         by-test (leb i r)
         (λ t. by-test (leb r last)
@@ -185,7 +185,7 @@ module _ (w : World) (m : InMemory w) where
       (λ n _.
       let w₁ = placed w at slots bs rows in
       let laid-out : InMemory w₁ = laid-memory rows slots p (e .is-idle) n (e .has-rows) m in
-      let rows-fit : regionRows w ≤ length (laid rows slots) = rw (laid-length rows slots) (e .has-rows) in
+      let rows-fit : regionRows w ≤ length (rowsLaid rows slots) = rw (laid-length rows slots) (e .has-rows) in
       by-cond Stays (several w) _ _
       (λ s. resized-ways Stays w₁ (λ x. sized-memory w₁ laid-out (e .is-idle) rows-fit (λ f. clash s f) x) (λ i last size x. asks-memory w₁ i last size laid-out (λ _. x)))
       (λ s. asks-memory w₁ 0 0 (region w) laid-out (λ f. clash f s))))

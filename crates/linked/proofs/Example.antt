@@ -7,13 +7,13 @@ use mathlib.Core.List.{List, [], _∷_, _++_}
 use native.Mathlib.Omega.{arith}
 use lib.ListN.{replicate}
 use Rattle.units.specs.Numbers.{mapRegions, alignmentOf, nextMultiple}
-use Rattle.bitmap.specs.Blocks.{lowBits, blocks, every, fill, firstOf}
+use Rattle.bitmap.specs.Blocks.{lowBits, blocks, every, fill, firstFrom}
 use Rattle.little_endian.specs.Bytes.{value, littleEndian, part, put}
-use Rattle.wire.specs.Layout.{requestAt, responseBytes, configFields, configValues, laid as laidConfig, configBytes}
+use Rattle.wire.specs.Layout.{requestAt, responseBytes, configFields, configValues, fieldsLaid as laidConfig, configBytes}
 use Rattle.descriptors.specs.Standard.{virtqDesc, descriptorAt, descriptorAddr}
 use Rattle.descriptors.specs.Descriptors.{inside, linkAt, linkAfter}
 use Rattle.chain.specs.Chain.{withSecond, withFirst, parsed, reaches, delivered}
-use Rattle.rows.specs.Rows.{rowsOf, wordsOf as rowWords, mappingOf, fillRows, laid}
+use Rattle.rows.specs.Rows.{rowsOf, rowWords, mappingOf, fillRows, rowsLaid}
 use Rattle.record.specs.Shape.{alignmentOk, regionOk, sizeOk, spanOf, startOk, severalOk, pendingOk, shapedOf}
 use Rattle.resize.specs.Resize.{newSize, growthOf}
 use Rattle.change.specs.Change.{insideOf, rangeOf, hostSum, hostIn, hostOf, legalAt, changeIn, stateIn, stateOf}
@@ -110,7 +110,7 @@ uses =
     ∷ []
 
 pub runs : Run (first (record-words 0 0 0 0 0)) uses
-unfolding record-words zeros asked uses Run callBy inUse onTables newTables holding Called lowBits blocks every fill firstOf value littleEndian part put requestAt responseBytes configFields configValues laidConfig configBytes virtqDesc descriptorAt descriptorAddr inside linkAt linkAfter withSecond withFirst parsed reaches delivered rowsOf rowWords mappingOf fillRows laid mapRegions alignmentOk regionOk sizeOk spanOf startOk severalOk pendingOk shapedOf newSize growthOf insideOf rangeOf hostSum hostIn hostOf legalAt changeIn stateIn stateOf tablesFit readyRefusal unplacedRefusal pendingRefusal unless plugAs plug unplugAs oneAs nextAs stateType serve request resizes placing place setRequestedSize hostAnswer readConfig step wordsOf pendingOf pendingFits isRecord recordOf decodedOf
+unfolding record-words zeros asked uses Run callBy inUse onTables newTables holding Called lowBits blocks every fill firstFrom value littleEndian part put requestAt responseBytes configFields configValues laidConfig configBytes virtqDesc descriptorAt descriptorAddr inside linkAt linkAfter withSecond withFirst parsed reaches delivered rowsOf rowWords mappingOf fillRows rowsLaid mapRegions alignmentOk regionOk sizeOk spanOf startOk severalOk pendingOk shapedOf newSize growthOf insideOf rangeOf hostSum hostIn hostOf legalAt changeIn stateIn stateOf tablesFit readyRefusal unplacedRefusal pendingRefusal unless plugAs plug unplugAs oneAs nextAs stateType serve request resizes placing place setRequestedSize hostAnswer readConfig step wordsOf pendingOf pendingFits isRecord recordOf decodedOf
 runs = (record { lends = record { same-words = refl; same-bitmap = λ _ p. clash p refl; same-table = λ _ p. clash p refl }; promised = record { numbered = refl; recorded = refl; decodes = refl; told = refl; marked = refl; mapped = refl; left = refl } }, (record { lends = record { same-words = refl; same-bitmap = λ p _. clash p refl; same-table = λ p _. clash p refl }; promised = record { numbered = refl; recorded = refl; decodes = refl; told = refl; marked = refl; mapped = refl; left = refl } }, (record { lends = record { same-words = refl; same-bitmap = λ _ _. refl; same-table = λ _ _. refl }; promised = record { numbered = refl; recorded = refl; decodes = refl; told = refl; marked = refl; mapped = refl; left = refl } }, (record { lends = record { same-words = refl; same-bitmap = λ _ p. clash p refl; same-table = λ _ p. clash p refl }; promised = record { numbered = refl; recorded = refl; decodes = refl; told = refl; marked = refl; mapped = refl; left = refl } }, (record { lends = record { same-words = refl; same-bitmap = λ p _. clash p refl; same-table = λ p _. clash p refl }; promised = record { numbered = refl; recorded = refl; decodes = refl; told = refl; marked = refl; mapped = refl; left = refl } }, (record { lends = record { same-words = refl; same-bitmap = λ _ _. refl; same-table = λ _ _. refl }; promised = record { numbered = refl; recorded = refl; decodes = refl; told = refl; marked = refl; mapped = refl; left = refl } }, (record { lends = record { same-words = refl; same-bitmap = λ _ _. refl; same-table = λ _ _. refl }; promised = record { numbered = refl; recorded = refl; decodes = refl; told = refl; marked = refl; mapped = refl; left = refl } }, (record { lends = record { same-words = refl; same-bitmap = λ p _. clash p refl; same-table = λ p _. clash p refl }; promised = record { numbered = refl; recorded = refl; decodes = refl; told = refl; marked = refl; mapped = refl; left = refl } }, tt))))))))
 
 -- all that a program sees of it: the events that it hears, newest first, and the bitmap and the plugged size that it holds

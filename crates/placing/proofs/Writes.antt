@@ -9,7 +9,7 @@ use lib.Dec.{eqb}
 use Rattle.units.specs.Numbers.{blocksIn, mapRegions}
 use Rattle.units.proofs.Tests.{by-test}
 use Rattle.bitmap.specs.Blocks.{blocks, Filled}
-use Rattle.rows.specs.Rows.{rowsOf, written, laid}
+use Rattle.rows.specs.Rows.{rowsOf, written, rowsLaid}
 use Rattle.rows.proofs.Laws.{laid-length}
 use Rattle.rows.proofs.Words.{read-back}
 use Rattle.record.specs.declared.Device.{Device}
@@ -32,9 +32,9 @@ start-good d start size n e =
     (λ t. let z : 3 ≡ 0 = rw t at e in absurd (omega arith)))
 
 module _ (d : Device) (before : Lent) (start : ℕ) (slots : List ℕ) where
-  pub placed-gives : (after : Lent) (s : Answered) → Filled (before .bitmap) (after .bitmap) 0 (blocksIn (d .config .«block_size») (d .config .«region_size»)) false → after .table ≡ written (before .table) (laid (rowsOf (before .table)) slots) → after .bytes ≡ [] → s ≡ answeredBy (placing (worldOf (startTo start d) [] (after .table))) → Gives (placing (placed (on d before) start slots (blocks (before .bitmap)) (rowsOf (before .table)))) before after s
+  pub placed-gives : (after : Lent) (s : Answered) → Filled (before .bitmap) (after .bitmap) 0 (blocksIn (d .config .«block_size») (d .config .«region_size»)) false → after .table ≡ written (before .table) (rowsLaid (rowsOf (before .table)) slots) → after .bytes ≡ [] → s ≡ answeredBy (placing (worldOf (startTo start d) [] (after .table))) → Gives (placing (placed (on d before) start slots (blocks (before .bitmap)) (rowsOf (before .table)))) before after s
   placed-gives after s f m b a =
-      let rows = laid (rowsOf (before .table)) slots in
+      let rows = rowsLaid (rowsOf (before .table)) slots in
       let w = placed (on d before) start slots (blocks (before .bitmap)) (rowsOf (before .table)) in
       let w0 : World = record { device = startTo start d; blocks = blocks []; rows = rows } in
       let back : rowsOf (after .table) ≡ rows = rw m (read-back (before .table) rows (laid-length (rowsOf (before .table)) slots)) in

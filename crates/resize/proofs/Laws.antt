@@ -15,7 +15,7 @@ use Rattle.rows.specs.declared.MapRow.{MapRow}
 use Rattle.rows.specs.Rows.{firstUnmapped, rowAt}
 use Rattle.rows.proofs.Laws.{IsFirst, first-found, first-none}
 use Rattle.resize.specs.declared.Growth.the-variants.{Asks, Settled}
-use Rattle.resize.specs.Resize.{newSize, rowOf, creationSize, growthAt, growthOf}
+use Rattle.resize.specs.Resize.{newSize, endRow, creationSize, growthAt, growthOf}
 
 -- ---- the new size is at most the region, and whole blocks
 pub new-within : (b region requested alignment : ℕ) → newSize b region requested alignment ≤ region
@@ -41,8 +41,8 @@ new-exact b region requested alignment h e =
 pub record Asking (region : ℕ) (several : Bool) (usable new : ℕ) (rows : List MapRow) (i last size : ℕ) : Type 0 where
   pub regions : several ≡ true
   pub grows : usable < new
-  pub ends : last ≡ rowOf region true new
-  pub search : IsFirst rows (rowOf region true usable) last i
+  pub ends : last ≡ endRow region true new
+  pub search : IsFirst rows (endRow region true usable) last i
   pub bytes : size ≡ creationSize region true i last
 
 pub asking : (region : ℕ) (several : Bool) (usable new : ℕ) (rows : List MapRow) (i last size : ℕ) → growthOf region several usable new rows ≡ Asks i last size → Asking region several usable new rows i last size
@@ -50,29 +50,29 @@ unfolding growthOf growthAt
 asking region false usable new rows i last size e = let z : _≡_ {A = ℕ} 0 1 = cc in absurd (omega arith)
 asking region true usable new rows i last size e =
     by-test (ltb usable new)
-    (λ t. by-found (firstUnmapped rows (rowOf region true usable) (rowOf region true new)) refl (ltb-true usable new t) (rw t at e))
+    (λ t. by-found (firstUnmapped rows (endRow region true usable) (endRow region true new)) refl (ltb-true usable new t) (rw t at e))
     (λ t. let f : Settled ≡ Asks i last size = rw t at e in let z : _≡_ {A = ℕ} 0 1 = cc in absurd (omega arith))
   where
-    by-found : (f : FirstUnmapped) → firstUnmapped rows (rowOf region true usable) (rowOf region true new) ≡ f → usable < new → growthAt f region true (rowOf region true new) ≡ Asks i last size → Asking region true usable new rows i last size
+    by-found : (f : FirstUnmapped) → firstUnmapped rows (endRow region true usable) (endRow region true new) ≡ f → usable < new → growthAt f region true (endRow region true new) ≡ Asks i last size → Asking region true usable new rows i last size
     by-found NoneLeft p h q = let z : _≡_ {A = ℕ} 0 1 = cc in absurd (omega arith)
     by-found (Row j) p h q =
         let same : j ≡ i = cc in
-        let ends : last ≡ rowOf region true new = cc in
+        let ends : last ≡ endRow region true new = cc in
         record {
           regions = refl;
           grows = h;
           ends = ends;
-          search = rw (ends) (first-found rows (rowOf region true usable) (rowOf region true new) i (rw same at p));
+          search = rw (ends) (first-found rows (endRow region true usable) (endRow region true new) i (rw same at p));
           bytes = cc;
         }
 
 -- ---- where nothing is asked although the usable size grows, every row of the growth that exists is mapped
 pub settled : (region usable new : ℕ) (rows : List MapRow) → growthOf region true usable new rows ≡ Settled → usable < new
-    → (k : ℕ) → rowOf region true usable ≤ k → k ≤ rowOf region true new → k < length rows → rowAt rows k .mapped ≡ 0 → ⊥
+    → (k : ℕ) → endRow region true usable ≤ k → k ≤ endRow region true new → k < length rows → rowAt rows k .mapped ≡ 0 → ⊥
 unfolding growthOf growthAt
-settled region usable new rows e h = by-found (firstUnmapped rows (rowOf region true usable) (rowOf region true new)) refl (rw (lt-ltb usable new h) at e)
+settled region usable new rows e h = by-found (firstUnmapped rows (endRow region true usable) (endRow region true new)) refl (rw (lt-ltb usable new h) at e)
   where
-    by-found : (f : FirstUnmapped) → firstUnmapped rows (rowOf region true usable) (rowOf region true new) ≡ f → growthAt f region true (rowOf region true new) ≡ Settled
-        → (k : ℕ) → rowOf region true usable ≤ k → k ≤ rowOf region true new → k < length rows → rowAt rows k .mapped ≡ 0 → ⊥
-    by-found NoneLeft p q = first-none rows (rowOf region true usable) (rowOf region true new) p
+    by-found : (f : FirstUnmapped) → firstUnmapped rows (endRow region true usable) (endRow region true new) ≡ f → growthAt f region true (endRow region true new) ≡ Settled
+        → (k : ℕ) → endRow region true usable ≤ k → k ≤ endRow region true new → k < length rows → rowAt rows k .mapped ≡ 0 → ⊥
+    by-found NoneLeft p q = first-none rows (endRow region true usable) (endRow region true new) p
     by-found (Row j) p q = let z : _≡_ {A = ℕ} 0 1 = cc in absurd (omega arith)

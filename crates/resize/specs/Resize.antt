@@ -20,8 +20,8 @@ abbrev pub grown : (usable new : ℕ) → ℕ
 grown usable new = max usable new
 
 -- "first = old usable / 2 GiB, last = new / 2 GiB, each held to the last row"
-abbrev pub rowOf : (region : ℕ) (several : Bool) (size : ℕ) → ℕ
-rowOf region several size = min (size / mapRegion) (mapRegions region several - 1)
+abbrev pub endRow : (region : ℕ) (several : Bool) (size : ℕ) → ℕ
+endRow region several size = min (size / mapRegion) (mapRegions region several - 1)
 
 -- "size (last - i) x 2 GiB plus 2 GiB, or plus region - last x 2 GiB if last is the final row"
 unfoldable pub creationSize : (region : ℕ) (several : Bool) (i last : ℕ) → ℕ
@@ -37,5 +37,5 @@ growthAt NoneLeft region several last = Settled
 unfoldable pub growthOf : (region : ℕ) (several : Bool) (usable new : ℕ) → List MapRow → Growth
 growthOf region several usable new rows =
     cond (several && ltb usable new)
-    (growthAt (firstUnmapped rows (rowOf region several usable) (rowOf region several new)) region several (rowOf region several new))
+    (growthAt (firstUnmapped rows (endRow region several usable) (endRow region several new)) region several (endRow region several new))
     Settled

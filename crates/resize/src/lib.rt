@@ -10,7 +10,7 @@ ghost use mathlib.Core.Bool.{true};
 ghost use Prim.Native.Nat.{_+_, _-_, _*_, _≤_, min};
 ghost use Rattle.rows.specs.Rows.{rowsOf};
 ghost use Rattle.units.specs.Numbers.{mapRegions};
-ghost use Rattle.resize.specs.Resize.{newSize, grown, rowOf, creationSize, growthOf};
+ghost use Rattle.resize.specs.Resize.{newSize, grown, endRow, creationSize, growthOf};
 
 // What the growth of the usable size asks for: rows from the first number to the second in one creation of the third's bytes.
 pub enum Growth {
@@ -51,7 +51,7 @@ pub fn grown_size(usable: u64, new: u64) -> u64
 
 // The row in which a size ends, held to the last row of several regions.
 fn row_of(region: u64, size: u64) -> u64
-    ensures { λ r. ⌜ r ≡ rowOf region true size ⌝ }
+    ensures { λ r. ⌜ r ≡ endRow region true size ⌝ }
 {
     let count = map_regions(region, true);
     if count == 0 {

@@ -8,12 +8,12 @@ use lib.Dec.{eqb}
 use lib.ListN.{length, getD, take, drop, length-take, length-drop}
 use lib.Seq.{take-nil, drop-nil, getD-take, getD-drop}
 use borrow.Author.Tests.{eq-eqb, ne-eqb, eqb-true, eqb-false}
-use Rattle.units.specs.Numbers.{top, held, mapRegion}
+use Rattle.units.specs.Numbers.{top, saturated, mapRegion}
 use Rattle.units.proofs.Tests.{by-test}
 use Rattle.rows.specs.declared.FirstUnmapped.the-variants.{Row, NoneLeft}
 use Rattle.rows.specs.declared.Mapping.the-variants.{At, Unmapped}
 use Rattle.rows.specs.declared.MapRow.{MapRow}
-use Rattle.rows.specs.Rows.{rowAt, mappingOf, unmappedFrom, firstUnmapped, mappedAt, fillRows, filled, laid}
+use Rattle.rows.specs.Rows.{rowAt, mappingOf, unmappedFrom, firstUnmapped, mappedAt, fillRows, rowsFilled, rowsLaid}
 
 -- ---- where a row is mapped: its two cases
 module _ (rs : List MapRow) (i : ℕ) where
@@ -141,11 +141,11 @@ fill-after (r ∷ rs) zero (suc n) h zero k = absurd (omega arith)
 fill-after (r ∷ rs) zero (suc n) h (suc j) k = fill-after rs zero n (h + mapRegion) j (omega arith)
 
 -- where a filled row is mapped, if no sum passes 2^64 - 1
-pub fill-mapping : (rs : List MapRow) (i last h j : ℕ) → i ≤ j → j ≤ last → j < length rs → h + (j - i) * mapRegion ≤ top → mappingOf (filled rs i last h) j ≡ At (record { 0 = h + (j - i) * mapRegion })
+pub fill-mapping : (rs : List MapRow) (i last h j : ℕ) → i ≤ j → j ≤ last → j < length rs → h + (j - i) * mapRegion ≤ top → mappingOf (rowsFilled rs i last h) j ≡ At (record { 0 = h + (j - i) * mapRegion })
 fill-mapping rs i last h j p q l t =
     let e = fill-inside rs i (last + 1 - i) h j p (omega arith) l in
-    let m : held (h + (j - i) * mapRegion) ≡ h + (j - i) * mapRegion = omega arith in
-    mapping-at (filled rs i last h) j (λ z. omega (arith, ap (λ r. r .mapped) e)) ∙ rw (e, m)
+    let m : saturated (h + (j - i) * mapRegion) ≡ h + (j - i) * mapRegion = omega arith in
+    mapping-at (rowsFilled rs i last h) j (λ z. omega (arith, ap (λ r. r .mapped) e)) ∙ rw (e, m)
 
 -- nothing is left unmapped where rows were filled
 pub fill-maps-all : (rs : List MapRow) (i n h k : ℕ) → unmappedFrom k (take n (drop i (fillRows rs i n h))) ≡ NoneLeft
@@ -156,21 +156,21 @@ fill-maps-all (r ∷ rs) zero zero h k = refl
 fill-maps-all (r ∷ rs) zero (suc n) h k = fill-maps-all rs zero n (h + mapRegion) (suc k)
 
 -- ---- laying
-pub laid-length : (rs : List MapRow) (ss : List ℕ) → length (laid rs ss) ≡ length rs
-unfolding laid
+pub laid-length : (rs : List MapRow) (ss : List ℕ) → length (rowsLaid rs ss) ≡ length rs
+unfolding rowsLaid
 laid-length [] ss = refl
 laid-length (r ∷ rs) [] = refl
 laid-length (r ∷ rs) (s ∷ ss) = ap suc (laid-length rs ss)
 
-pub laid-inside : (rs : List MapRow) (ss : List ℕ) (j : ℕ) → j < length rs → j < length ss → rowAt (laid rs ss) j ≡ record { slot = getD ss j 0; mapped = 0; host = record { 0 = 0 } }
-unfolding laid
+pub laid-inside : (rs : List MapRow) (ss : List ℕ) (j : ℕ) → j < length rs → j < length ss → rowAt (rowsLaid rs ss) j ≡ record { slot = getD ss j 0; mapped = 0; host = record { 0 = 0 } }
+unfolding rowsLaid
 laid-inside [] ss j l k = absurd (omega arith)
 laid-inside (r ∷ rs) [] j l k = absurd (omega arith)
 laid-inside (r ∷ rs) (s ∷ ss) zero l k = refl
 laid-inside (r ∷ rs) (s ∷ ss) (suc j) l k = laid-inside rs ss j (omega arith) (omega arith)
 
-pub laid-past : (rs : List MapRow) (ss : List ℕ) (j : ℕ) → length ss ≤ j → rowAt (laid rs ss) j ≡ rowAt rs j
-unfolding laid
+pub laid-past : (rs : List MapRow) (ss : List ℕ) (j : ℕ) → length ss ≤ j → rowAt (rowsLaid rs ss) j ≡ rowAt rs j
+unfolding rowsLaid
 laid-past [] ss j k = refl
 laid-past (r ∷ rs) [] j k = refl
 laid-past (r ∷ rs) (s ∷ ss) zero k = absurd (omega arith)

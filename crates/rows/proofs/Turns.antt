@@ -6,11 +6,11 @@ use native.Mathlib.Numerals.{add-one}
 use native.Mathlib.Omega.{arith}
 use lib.ListN.{length, getD, set, take, drop, length-set}
 use lib.Seq.{drop-cons, drop-nil, take-nil}
-use Rattle.units.specs.Numbers.{held, mapRegion}
+use Rattle.units.specs.Numbers.{saturated, mapRegion}
 use borrow.Author.Tests.{eq-eqb, ne-eqb}
 use Rattle.rows.specs.declared.FirstUnmapped.the-variants.{Row}
 use Rattle.rows.specs.declared.MapRow.{MapRow}
-use Rattle.rows.specs.Rows.{rowsOf, written, rowAt, unmappedFrom, mappedAt, fillRows, laid}
+use Rattle.rows.specs.Rows.{rowsOf, written, rowAt, unmappedFrom, mappedAt, fillRows, rowsLaid}
 use Rattle.rows.proofs.Words.{read-back, written-again}
 use Rattle.rows.proofs.Laws.{fill-length, laid-length}
 
@@ -51,11 +51,11 @@ pub next-at : (h first i : ℕ) → first ≤ i → h + (i + 1 - first) * mapReg
 next-at h first i l = omega arith
 
 -- a sum with a part that is held is held where it would be
-pub held-twice : (h offset n at : ℕ) → offset ≡ held n → at ≡ held (h + offset) → at ≡ held (h + n)
-held-twice h offset n at p q = omega arith
+pub saturated-twice : (h offset n at : ℕ) → offset ≡ saturated n → at ≡ saturated (h + offset) → at ≡ saturated (h + n)
+saturated-twice h offset n at p q = omega arith
 
 -- the code has mapped row i at h
-pub fill-put : (ws ws′ : List ℕ) (i n h s at : ℕ) → i < length (rowsOf ws) → s ≡ rowAt (rowsOf ws) i .slot → at ≡ held h → ws′ ≡ written ws (set (rowsOf ws) i (record { slot = s; mapped = 1; host = record { 0 = at } })) → written ws′ (fillRows (rowsOf ws′) (i + 1) n (h + mapRegion)) ≡ written ws (fillRows (rowsOf ws) i (suc n) h)
+pub fill-put : (ws ws′ : List ℕ) (i n h s at : ℕ) → i < length (rowsOf ws) → s ≡ rowAt (rowsOf ws) i .slot → at ≡ saturated h → ws′ ≡ written ws (set (rowsOf ws) i (record { slot = s; mapped = 1; host = record { 0 = at } })) → written ws′ (fillRows (rowsOf ws′) (i + 1) n (h + mapRegion)) ≡ written ws (fillRows (rowsOf ws) i (suc n) h)
 fill-put ws ws′ i n h s at l p q e =
     put-on ws ws′ i (record { slot = s; mapped = 1; host = record { 0 = at } }) (λ rs. fillRows rs (i + 1) n (h + mapRegion)) (fillRows (rowsOf ws) i (suc n) h) e
     (rw (add-one, p, q) (fill-turn (rowsOf ws) i n h l))
@@ -65,22 +65,22 @@ fill-put ws ws′ i n h s at l p q e =
 -- the slots laid from row j on
 unfoldable pub laidFrom : ℕ → List MapRow → List ℕ → List MapRow
 laidFrom j [] ss = []
-laidFrom zero (r ∷ rs) ss = laid (r ∷ rs) ss
+laidFrom zero (r ∷ rs) ss = rowsLaid (r ∷ rs) ss
 laidFrom (suc j) (r ∷ rs) ss = r ∷ laidFrom j rs ss
 
-pub laid-start : (rs : List MapRow) (ss : List ℕ) → laidFrom zero rs ss ≡ laid rs ss
-unfolding laidFrom laid
+pub laid-start : (rs : List MapRow) (ss : List ℕ) → laidFrom zero rs ss ≡ rowsLaid rs ss
+unfolding laidFrom rowsLaid
 laid-start [] ss = refl
 laid-start (r ∷ rs) ss = refl
 
 pub laid-none : (j : ℕ) (rs : List MapRow) → laidFrom j rs [] ≡ rs
-unfolding laidFrom laid
+unfolding laidFrom rowsLaid
 laid-none j [] = refl
 laid-none zero (r ∷ rs) = refl
 laid-none (suc j) (r ∷ rs) = rw (laid-none j rs)
 
 laid-turn : (j : ℕ) (rs : List MapRow) (s : ℕ) (ss : List ℕ) → laidFrom (suc j) (set rs j (record { slot = s; mapped = 0; host = record { 0 = 0 } })) ss ≡ laidFrom j rs (s ∷ ss)
-unfolding laidFrom laid
+unfolding laidFrom rowsLaid
 laid-turn j [] s ss = refl
 laid-turn zero (r ∷ rs) s ss = rw (laid-start rs ss)
 laid-turn (suc j) (r ∷ rs) s ss = rw (laid-turn j rs s ss)

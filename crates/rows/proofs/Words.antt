@@ -7,7 +7,7 @@ use native.Mathlib.Omega.{arith}
 use lib.ListN.{length, getD, drop, set, length-append, length-drop, length-set}
 use lib.Seq.{drop-at, drop-length}
 use Rattle.rows.specs.declared.MapRow.{MapRow}
-use Rattle.rows.specs.Rows.{rowsOf, wordsOf, written, rowAt}
+use Rattle.rows.specs.Rows.{rowsOf, rowWords, written, rowAt}
 
 -- how many rows a table holds
 pub count : (ws : List ℕ) → length (rowsOf ws) ≡ length ws / 3
@@ -29,13 +29,13 @@ words-of-row (a ∷ b ∷ []) i h = absurd (omega arith)
 words-of-row (a ∷ b ∷ d ∷ ws) zero h = refl
 words-of-row (a ∷ b ∷ d ∷ ws) (suc i) h = simp (three i, suc-add) (words-of-row ws i (omega arith))
 
-length-words : (rs : List MapRow) → length (wordsOf rs) ≡ 3 * length rs
-unfolding wordsOf
+length-words : (rs : List MapRow) → length (rowWords rs) ≡ 3 * length rs
+unfolding rowWords
 length-words [] = refl
 length-words (r ∷ rs) = omega (arith, length-words rs)
 
-rows-words : (rs : List MapRow) (ws : List ℕ) → rowsOf (wordsOf rs ++ ws) ≡ rs ++ rowsOf ws
-unfolding rowsOf wordsOf
+rows-words : (rs : List MapRow) (ws : List ℕ) → rowsOf (rowWords rs ++ ws) ≡ rs ++ rowsOf ws
+unfolding rowsOf rowWords
 rows-words [] ws = refl
 rows-words (r ∷ rs) ws = rw (rows-words rs ws)
 
@@ -49,7 +49,7 @@ rows-drop (suc n) (a ∷ b ∷ d ∷ ws) = rw (three n) (rows-drop n ws)
 
 -- a table is its rows and the words past them
 pub whole : (ws : List ℕ) → written ws (rowsOf ws) ≡ ws
-unfolding rowsOf wordsOf
+unfolding rowsOf rowWords
 whole [] = refl
 whole (a ∷ []) = refl
 whole (a ∷ b ∷ []) = refl
@@ -61,11 +61,11 @@ read-back ws rs h = rw (rows-words rs (drop (3 * length rs) ws), rows-drop (leng
 
 -- what is written last stands
 pub written-again : (ws : List ℕ) (rs ss : List MapRow) → length ss ≡ length rs → written (written ws rs) ss ≡ written ws ss
-written-again ws rs ss h = rw (h, drop-at (wordsOf rs) (drop (3 * length rs) ws) (3 * length rs) (length-words rs))
+written-again ws rs ss h = rw (h, drop-at (rowWords rs) (drop (3 * length rs) ws) (3 * length rs) (length-words rs))
 
 -- three stores write a row
 pub stores : (ws : List ℕ) (i a b d : ℕ) → i < length (rowsOf ws) → set (set (set ws (3 * i) a) (3 * i + 1) b) (3 * i + 2) d ≡ written ws (set (rowsOf ws) i (record { slot = a; mapped = b; host = record { 0 = d } }))
-unfolding rowsOf wordsOf
+unfolding rowsOf rowWords
 stores [] i a b d h = absurd (omega arith)
 stores (x ∷ []) i a b d h = absurd (omega arith)
 stores (x ∷ y ∷ []) i a b d h = absurd (omega arith)

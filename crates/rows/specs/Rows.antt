@@ -5,7 +5,7 @@ use mathlib.Core.Bool.{Bool, not, cond}
 use mathlib.Core.List.{List, [], _∷_, _++_}
 use lib.Dec.{eqb}
 use lib.ListN.{length, getD, take, drop}
-use Rattle.units.specs.Numbers.{held, mapRegion}
+use Rattle.units.specs.Numbers.{saturated, mapRegion}
 use Rattle.rows.specs.declared.FirstUnmapped.{FirstUnmapped}
 use Rattle.rows.specs.declared.FirstUnmapped.the-variants.{Row, NoneLeft}
 use Rattle.rows.specs.declared.MapRow.{MapRow}
@@ -20,13 +20,13 @@ rowsOf (a ∷ b ∷ []) = []
 rowsOf (slot ∷ mapped ∷ host ∷ words) = record { slot = slot; mapped = mapped; host = record { 0 = host } } ∷ rowsOf words
 
 -- the words of these rows
-unfoldable pub wordsOf : List MapRow → List ℕ
-wordsOf [] = []
-wordsOf (row ∷ rows) = row .slot ∷ row .mapped ∷ row .host .0 ∷ wordsOf rows
+unfoldable pub rowWords : List MapRow → List ℕ
+rowWords [] = []
+rowWords (row ∷ rows) = row .slot ∷ row .mapped ∷ row .host .0 ∷ rowWords rows
 
 -- the table with these rows, and its own words past them
 abbrev pub written : (words : List ℕ) → List MapRow → List ℕ
-written words rows = wordsOf rows ++ drop (3 * length rows) words
+written words rows = rowWords rows ++ drop (3 * length rows) words
 
 -- row i; past the table slot 0, not mapped
 abbrev pub rowAt : List MapRow → ℕ → MapRow
@@ -50,7 +50,7 @@ firstUnmapped rows first last = unmappedFrom first (take (last + 1 - first) (dro
 
 -- the row mapped at a host address, which saturates at 2^64 - 1
 abbrev pub mappedAt : ℕ → MapRow → MapRow
-mappedAt host row = record { slot = row .slot; mapped = 1; host = record { 0 = held host } }
+mappedAt host row = record { slot = row .slot; mapped = 1; host = record { 0 = saturated host } }
 
 -- `count` rows from row i on mapped, the first at host and each 2 GiB past the one before; among the rows that exist
 unfoldable pub fillRows : List MapRow → (i count host : ℕ) → List MapRow
@@ -60,11 +60,11 @@ fillRows (row ∷ rows) zero zero host = row ∷ rows
 fillRows (row ∷ rows) zero (suc count) host = mappedAt host row ∷ fillRows rows zero count (host + mapRegion)
 
 -- "Row j then gets the answered host address + (j - i) x 2 GiB", for i to last
-abbrev pub filled : List MapRow → (i last host : ℕ) → List MapRow
-filled rows i last host = fillRows rows i (last + 1 - i) host
+abbrev pub rowsFilled : List MapRow → (i last host : ℕ) → List MapRow
+rowsFilled rows i last host = fillRows rows i (last + 1 - i) host
 
 -- "writes each row: slot, not mapped", among the rows that exist; those past the slots stay
-unfoldable pub laid : List MapRow → (slots : List ℕ) → List MapRow
-laid [] slots = []
-laid (row ∷ rows) [] = row ∷ rows
-laid (row ∷ rows) (slot ∷ slots) = record { slot = slot; mapped = 0; host = record { 0 = 0 } } ∷ laid rows slots
+unfoldable pub rowsLaid : List MapRow → (slots : List ℕ) → List MapRow
+rowsLaid [] slots = []
+rowsLaid (row ∷ rows) [] = row ∷ rows
+rowsLaid (row ∷ rows) (slot ∷ slots) = record { slot = slot; mapped = 0; host = record { 0 = 0 } } ∷ rowsLaid rows slots

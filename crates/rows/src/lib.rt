@@ -5,7 +5,7 @@ use units::RegionOffset;
 ghost use mathlib.Core.Path.{_≡_};
 ghost use Prim.Native.Nat.{_+_, min};
 ghost use lib.ListN.{length, set};
-ghost use Rattle.rows.specs.Rows.{rowsOf, written, rowAt, mappingOf, firstUnmapped, filled, laid};
+ghost use Rattle.rows.specs.Rows.{rowsOf, written, rowAt, mappingOf, firstUnmapped, rowsFilled, rowsLaid};
 
 // A row's three words. Mapped is 0 for no and anything else for yes.
 pub struct MapRow {
@@ -116,7 +116,7 @@ pub fn first_unmapped(table: &[u64], first: u64, last: u64) -> FirstUnmapped
 
 // Maps the rows from `first` to `last`, one after the other from `host` on. The device has tested that no sum passes 2^64 - 1 (refusal 9).
 pub fn fill(table: &mut [u64], first: u64, last: u64, host: HostAddr)
-    ensures { λ _. ⌜ now (table .exit) ≡ written (now (table .entry)) (filled (rowsOf (now (table .entry))) first last (host .0)) ⌝ }
+    ensures { λ _. ⌜ now (table .exit) ≡ written (now (table .entry)) (rowsFilled (rowsOf (now (table .entry))) first last (host .0)) ⌝ }
 {
     let end = end_of(table, last);
     let mut row = first;
@@ -138,7 +138,7 @@ pub fn fill(table: &mut [u64], first: u64, last: u64, host: HostAddr)
 
 // Gives row j slot j of the list, not mapped.
 pub fn lay(table: &mut [u64], slots: &[u32])
-    ensures { λ _. ⌜ now (table .exit) ≡ written (now (table .entry)) (laid (rowsOf (now (table .entry))) (now (slots .entry))) ⌝ }
+    ensures { λ _. ⌜ now (table .exit) ≡ written (now (table .entry)) (rowsLaid (rowsOf (now (table .entry))) (now (slots .entry))) ⌝ }
 {
     let mut j = 0;
     while j < slots.len() {

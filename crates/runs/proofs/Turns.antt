@@ -9,14 +9,14 @@ use borrow.Author.Tests.{ltb-true, ltb-false, leb-true, leb-false}
 use lib.Dec.{ltb, leb}
 use lib.ListN.{length, drop, take, replicate, length-take, length-drop, length-append, drop-of-length-le}
 use lib.Seq.{length-sets, take-all, drop-cons, drop-drop, getD-take}
-use Rattle.units.specs.Numbers.{held}
+use Rattle.units.specs.Numbers.{saturated}
 use Rattle.units.proofs.Tests.{by-test}
 use Rattle.text.specs.Decimal.{largest}
 use Rattle.text.specs.Putting.{Put}
 use Rattle.text.proofs.Puts.{then}
 use Rattle.forms.specs.Forms.{holes}
 use Rattle.forms.proofs.Laws.{filled-length}
-use Rattle.bitmap.specs.Blocks.{blockAt, every, range, allAre, nextOf}
+use Rattle.bitmap.specs.Blocks.{blockAt, every, range, allAre, nextInState}
 use Rattle.bitmap.specs.declared.Found.{Found}
 use Rattle.bitmap.specs.declared.Found.the-variants as found
 use Rattle.bitmap.proofs.Laws.{range-take, range-length, next-at, next-nothing}
@@ -50,7 +50,7 @@ past-end [] i h = refl
 past-end (c ∷ cs) zero h = absurd (omega arith)
 past-end (c ∷ cs) (suc i) h = past-end cs i (omega arith)
 
-pub stop-after : (bs : List Bool) (end first : ℕ) (r : Found) → r ≡ nextOf false bs first end → (stop : ℕ) → r ≡ found.At stop → first ≤ stop
+pub stop-after : (bs : List Bool) (end first : ℕ) (r : Found) → r ≡ nextInState false bs first end → (stop : ℕ) → r ≡ found.At stop → first ≤ stop
 stop-after bs end first r e stop q = next-at false bs first end stop (sym e ∙ q) .from-on
 
 pub room-after : (bs : List Bool) (end first : ℕ) → first < length (take end bs) → (n : ℕ) → n ≡ min end (length bs) → first ≤ n
@@ -60,7 +60,7 @@ module _ (bs : List Bool) (end first : ℕ) (there : first < length (take end bs
   short : length (take end bs) ≡ min end (length bs)
   short = first-length bs end
 
-  pub row-stops : (r : Found) → r ≡ nextOf false bs first end → (stop : ℕ) → r ≡ found.At stop → InARow (take end bs) first (stop - first)
+  pub row-stops : (r : Found) → r ≡ nextInState false bs first end → (stop : ℕ) → r ≡ found.At stop → InARow (take end bs) first (stop - first)
   row-stops r e stop q =
       let low = next-at false bs first end stop (sym e ∙ q) in
       let a = low .from-on in
@@ -75,7 +75,7 @@ module _ (bs : List Bool) (end first : ℕ) (there : first < length (take end bs
         ends = rw z (block-of bs end stop b ∙ low .found);
       }
 
-  pub row-ends : (r : Found) → r ≡ nextOf false bs first end → r ≡ found.Nothing → (n : ℕ) → n ≡ min end (length bs) → InARow (take end bs) first (n - first)
+  pub row-ends : (r : Found) → r ≡ nextInState false bs first end → r ≡ found.Nothing → (n : ℕ) → n ≡ min end (length bs) → InARow (take end bs) first (n - first)
   row-ends r e q n k =
       let s = short in
       let z : first + (n - first) ≡ length (take end bs) = omega arith in
@@ -98,7 +98,7 @@ run-closes cs i n e =
     (λ t. let d = drop-cons cs i false (ltb-true i (length cs) t) in rw (d, e))
     (λ t. let d = drop-of-length-le cs {i = i} (ltb-false i (length cs) t) in rw d)
 
-module _ (bs : List Bool) (end from : ℕ) (r : Found) (e : r ≡ nextOf true bs from end) where
+module _ (bs : List Bool) (end from : ℕ) (r : Found) (e : r ≡ nextInState true bs from end) where
   pub next-found : (first n : ℕ) → r ≡ found.At first → (first < length (take end bs)) × (InARow (take end bs) first n → IsNext (take end bs) from (run.At first n))
   next-found first n q =
       let cs = take end bs in
@@ -229,24 +229,24 @@ line-is first count r l h k p =
 -- ---- `runs_length`: the sum is the length of what is behind the walk
 pub record Measured (bs : List Bool) (sum i : ℕ) : Type 0 where
   pub done : List ℕ
-  pub is-sum : sum ≡ held (length done)
+  pub is-sum : sum ≡ saturated (length done)
   pub walk : Walk bs done i
 
 pub measured-start : (bs : List Bool) → Measured bs 0 0
 measured-start bs = record { done = []; is-sum = omega arith; walk = walk-start bs }
 
 module _ (bs : List Bool) {sum i : ℕ} (end : ℕ) (o : Measured (take end bs) sum i) where
-  sum-is : o .done ≡ runsText (runsOf (take end bs)) → sum ≡ held (length (runsText (runsOf (take end bs))))
-  sum-is e = o .is-sum ∙ ap (λ (t : List ℕ). held (length t)) e
+  sum-is : o .done ≡ runsText (runsOf (take end bs)) → sum ≡ saturated (length (runsText (runsOf (take end bs))))
+  sum-is e = o .is-sum ∙ ap (λ (t : List ℕ). saturated (length t)) e
 
-  pub measured-end : end ≤ i → sum ≡ held (length (runsText (runsOf (take end bs))))
+  pub measured-end : end ≤ i → sum ≡ saturated (length (runsText (runsOf (take end bs))))
   measured-end h = let l = first-length bs end in sum-is (walk-end (o .walk) (omega arith))
 
   module _ (r : NextRun) (h : IsNext (take end bs) i r) where
-    pub measured-none : r ≡ run.Nothing → sum ≡ held (length (runsText (runsOf (take end bs))))
+    pub measured-none : r ≡ run.Nothing → sum ≡ saturated (length (runsText (runsOf (take end bs))))
     measured-none e = sum-is (walk-none (o .walk) (none-is (take end bs) i r h e))
 
-    pub measured-run : (f n line sum′ : ℕ) → r ≡ run.At f n → line ≡ length (lineOf f n) → sum′ ≡ held (sum + line) → Measured (take end bs) sum′ (f + n)
+    pub measured-run : (f n line sum′ : ℕ) → r ≡ run.At f n → line ≡ length (lineOf f n) → sum′ ≡ saturated (sum + line) → Measured (take end bs) sum′ (f + n)
     measured-run f n line sum′ e p q =
         let s = o .is-sum in
         let l = length-append (o .done) (lineOf f n) in

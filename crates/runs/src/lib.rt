@@ -9,7 +9,7 @@ use units::sum_within;
 ghost use mathlib.Core.Path.{_≡_};
 ghost use Prim.Native.Nat.{_*_, _<_, min};
 ghost use lib.ListN.{take, drop, length};
-ghost use Rattle.units.specs.Numbers.{held};
+ghost use Rattle.units.specs.Numbers.{saturated};
 ghost use Rattle.text.specs.Putting.{Put};
 ghost use Rattle.bitmap.specs.Blocks.{blocks};
 ghost use Rattle.runs.specs.Runs.{runsOf};
@@ -83,7 +83,7 @@ fn line_length(first: u64, count: u64) -> u64
 
 // How long the text is of the runs of set blocks among the first `end`.
 pub fn runs_length(bitmap: &[u8], end: usize) -> u64
-    ensures { λ r. ⌜ r ≡ held (length (runsText (runsOf (take end (blocks (now (bitmap .entry))))))) ⌝ }
+    ensures { λ r. ⌜ r ≡ saturated (length (runsText (runsOf (take end (blocks (now (bitmap .entry))))))) ⌝ }
 {
     let mut sum = 0;
     let mut i = 0;

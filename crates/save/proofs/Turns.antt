@@ -10,7 +10,7 @@ use lib.Dec.{eqb, ltb, leb}
 use lib.ListN.{length, drop, take, replicate, length-take, length-append}
 use lib.Seq.{sets}
 use Rattle.units.proofs.Tests.{by-test, refused, passed}
-use Rattle.units.specs.Numbers.{held, top}
+use Rattle.units.specs.Numbers.{saturated, top}
 use Rattle.text.specs.Putting.{Put}
 use Rattle.text.proofs.Puts.{then}
 use Rattle.forms.specs.Forms.{holes, filled}
@@ -130,7 +130,7 @@ module _ (f : Fields) (m : List ℕ) (all : ℕ) (a : all ≡ allOf f) (t : Bool
           let k = ltb-false (length m) ((allOf f + 7) / 8) long in
           record { all = omega arith; valid = passed (validIn f m) v w y }
 
-      module _ (head runs : ℕ) (h : head ≡ length (headText 2 f)) (k : runs ≡ held (length (runsText (runsOf (take all (blocks m)))))) where
+      module _ (head runs : ℕ) (h : head ≡ length (headText 2 f)) (k : runs ≡ saturated (length (runsText (runsOf (take all (blocks m)))))) where
         runs-few : length (runsText (runsOf (blocksFor f m))) ≤ 12058624
         runs-few =
             let st = state-in in

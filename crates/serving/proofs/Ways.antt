@@ -9,9 +9,9 @@ use lib.Dec.{leb, ltb}
 use borrow.Author.Tests.{lt-ltb, le-ltb, leb-true, leb-false, ne-eqb}
 use types.Run.{OneOf, miss}
 use denote.Enum.Declared.{tagOf}
-use Rattle.units.proofs.Laws.{held-fits, bytes-fit}
+use Rattle.units.proofs.Laws.{saturated-fits, bytes-fit}
 use Rattle.units.proofs.Tests.{passed, refused}
-use Rattle.units.specs.Numbers.{held, bytesOf, blocksIn}
+use Rattle.units.specs.Numbers.{saturated, bytesOf, blocksIn}
 use Rattle.units.specs.declared.RegionOffset.{RegionOffset}
 use Rattle.units.specs.declared.HostAddr.{HostAddr}
 use Rattle.bitmap.specs.declared.Found.{Found}
@@ -47,9 +47,9 @@ asked d pending offset size host =
     record { device = pendingTo pending d; answer = Wants (DiscardCall offset size host) }
 
 -- the size of a request's blocks fits 64 bits
-pub size-fits : (d : Device) → shapedOf d ≡ true → (size count : ℕ) → size ≡ held (bytesOf (d .config .«block_size») count) → count < 65536 → size ≡ bytesOf (d .config .«block_size») count
+pub size-fits : (d : Device) → shapedOf d ≡ true → (size count : ℕ) → size ≡ saturated (bytesOf (d .config .«block_size») count) → count < 65536 → size ≡ bytesOf (d .config .«block_size») count
 size-fits d shape size count e few =
-    e ∙ held-fits (bytes-fit (d .config .«block_size») count (let b = shaped-is d shape .block-size in omega arith) few)
+    e ∙ saturated-fits (bytes-fit (d .config .«block_size») count (let b = shaped-is d shape .block-size in omega arith) few)
 
 -- where `let .. else` found another case than Legal, only its number is known
 abbrev pub others : List ℕ
@@ -125,13 +125,13 @@ module _ (d : Device) (bitmap table : List ℕ) (shape : shapedOf d ≡ true) (s
           rw (same-change, legal, fits) (answers _ _ (rw size-is at e) refl refl)
 
   -- one block of an unplug-all
-  module _ (block : ℕ) (inside : block < blocksIn (d .config .«block_size») (d .config .«region_size»)) (offset : RegionOffset) (offset-is : offset .0 ≡ held (bytesOf (d .config .«block_size») block)) (addr : GuestAddr) (addr-is : addr .0 ≡ held (d .config .addr .0 + offset .0))
+  module _ (block : ℕ) (inside : block < blocksIn (d .config .«block_size») (d .config .«region_size»)) (offset : RegionOffset) (offset-is : offset .0 ≡ saturated (bytesOf (d .config .«block_size») block)) (addr : GuestAddr) (addr-is : addr .0 ≡ saturated (d .config .addr .0 + offset .0))
       (ch : Change) (ch-is : ch ≡ changeOf (d .config .«block_size») (d .config .addr .0) (d .config .«usable_region_size») (d .several) (addr .0) 1 false (blocks bitmap) (rowsOf table)) where
     same-block : changing (worldOf d bitmap table) (d .config .addr .0 + bytesOf (d .config .«block_size») block) 1 false ≡ ch
     same-block =
         let h = shaped-is d shape in
         let i : block < blocksIn 4194304 (d .config .«region_size») = rw (h .block-size) at inside in
-        let o : offset .0 ≡ held (bytesOf 4194304 block) = rw (h .block-size) at offset-is in
+        let o : offset .0 ≡ saturated (bytesOf 4194304 block) = rw (h .block-size) at offset-is in
         let a : addr .0 ≡ d .config .addr .0 + bytesOf 4194304 block = omega arith in
         let a′ : addr .0 ≡ d .config .addr .0 + bytesOf (d .config .«block_size») block = rw (h .block-size) a in
         rw (← a′, ← ch-is)

@@ -17,7 +17,7 @@ use Rattle.chain.specs.declared.Parsed.{Parsed}
 use Rattle.chain.specs.declared.Parsed.the-variants.{Request as Got, Bad}
 use Rattle.chain.specs.Chain.{parsed, reaches, delivered}
 use Rattle.rows.specs.declared.MapRow.{MapRow}
-use Rattle.rows.specs.Rows.{rowAt, filled, laid}
+use Rattle.rows.specs.Rows.{rowAt, rowsFilled, rowsLaid}
 use Rattle.record.specs.declared.Device.{Device}
 use Rattle.record.specs.declared.Pending.{Pending}
 use Rattle.record.specs.declared.Pending.the-variants.{Nothing, Create, Discard, DiscardOne}
@@ -197,7 +197,7 @@ creates w i last host bytes =
       world = record {
         device = pendingTo Nothing (sizedOf (w .device));
         blocks = w .blocks;
-        rows = filled (w .rows) i last host;
+        rows = rowsFilled (w .rows) i last host;
       };
       answer = Sized;
       bytes = bytes;
@@ -214,7 +214,7 @@ placed w at slots bs rows =
     record {
       device = startTo at (w .device);
       blocks = fill bs 0 (regionBlocks w) false;
-      rows = laid rows slots;
+      rows = rowsLaid rows slots;
     }
 
 -- ---- the refusals, in their order: the first number that is given, or 0

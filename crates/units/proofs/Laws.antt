@@ -8,7 +8,7 @@ use lib.Dec.{leb}
 use borrow.Author.Tests.{leb-true, leb-false}
 use lib.Arith.{digits-div}
 use lib.Count.{trailingZeros, under}
-use Rattle.units.specs.Numbers.{top, held, bytesOf, twos, nextMultiple}
+use Rattle.units.specs.Numbers.{top, saturated, bytesOf, twos, nextMultiple}
 
 -- ---- what a test said of a sum or a product n: within the limit, or past it
 pub within : {n limit : ℕ} (r : Bool) → r ≡ leb n limit → r ≡ true → n ≤ limit
@@ -18,8 +18,8 @@ pub past : {n limit : ℕ} (r : Bool) → r ≡ leb n limit → r ≡ false → 
 past {n} {limit} r e t = leb-false n limit (sym e ∙ t)
 
 -- what fits is held as it is
-pub held-fits : {n : ℕ} → n ≤ top → held n ≡ n
-held-fits h = omega arith
+pub saturated-fits : {n : ℕ} → n ≤ top → saturated n ≡ n
+saturated-fits h = omega arith
 
 -- the blocks of a request, of at most 128 MiB each, have a size that fits
 pub bytes-fit : (b n : ℕ) → b ≤ 134217728 → n < 65536 → bytesOf b n ≤ top

@@ -10,8 +10,8 @@ abbrev pub top : ℕ
 top = 18446744073709551615
 
 -- n where it fits 64 bits, and otherwise the largest number that does
-abbrev pub held : ℕ → ℕ
-held n = min n top
+abbrev pub saturated : ℕ → ℕ
+saturated n = min n top
 
 -- "Size = blocks x 4 MiB"
 abbrev pub bytesOf : (b blocks : ℕ) → ℕ

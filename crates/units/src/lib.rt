@@ -3,7 +3,7 @@
 ghost use mathlib.Core.Path.{_≡_};
 ghost use Prim.Native.Nat.{_+_, _-_, _*_, _/_, _%_, min};
 ghost use lib.Dec.{leb, eqb};
-ghost use Rattle.units.specs.Numbers.{held, bytesOf, blocksIn, mapRegion, mapRegions, between, alignmentOf, nextMultiple};
+ghost use Rattle.units.specs.Numbers.{saturated, bytesOf, blocksIn, mapRegion, mapRegions, between, alignmentOf, nextMultiple};
 
 // An address as the guest sees it.
 pub struct GuestAddr(pub u64);
@@ -44,7 +44,7 @@ impl MemTool {
 
     // The bytes of a request's blocks, saturating at 2^64 - 1.
     pub fn bytes_of(nb_blocks: u16, block_size: u64) -> u64
-        ensures { λ r. ⌜ r ≡ held (bytesOf «block_size» «nb_blocks») ⌝ }
+        ensures { λ r. ⌜ r ≡ saturated (bytesOf «block_size» «nb_blocks») ⌝ }
     {
         saturating_mul(nb_blocks as u64, block_size)
     }
@@ -72,28 +72,28 @@ impl GuestAddr {
 impl RegionOffset {
     // Where a block starts, saturating at 2^64 - 1.
     pub fn of_block(block: u64, block_size: u64) -> RegionOffset
-        ensures { λ r. ⌜ r .0 ≡ held (bytesOf «block_size» block) ⌝ }
+        ensures { λ r. ⌜ r .0 ≡ saturated (bytesOf «block_size» block) ⌝ }
     {
         RegionOffset(saturating_mul(block, block_size))
     }
 
     // Where a map region starts, saturating at 2^64 - 1.
     pub fn of_map_region(row: u64) -> RegionOffset
-        ensures { λ r. ⌜ r .0 ≡ held (row * mapRegion) ⌝ }
+        ensures { λ r. ⌜ r .0 ≡ saturated (row * mapRegion) ⌝ }
     {
         RegionOffset(saturating_mul(row, MemTool::MAP_REGION_SIZE))
     }
 
     // The guest's address of an offset, saturating at 2^64 - 1.
     pub fn guest_from(self, start: GuestAddr) -> GuestAddr
-        ensures { λ r. ⌜ r .0 ≡ held (start .0 + self .0) ⌝ }
+        ensures { λ r. ⌜ r .0 ≡ saturated (start .0 + self .0) ⌝ }
     {
         GuestAddr(saturating_add(start.0, self.0))
     }
 
     // The host's address of an offset from what is mapped at `host`, saturating at 2^64 - 1.
     pub fn host_from(self, host: HostAddr) -> HostAddr
-        ensures { λ r. ⌜ r .0 ≡ held (host .0 + self .0) ⌝ }
+        ensures { λ r. ⌜ r .0 ≡ saturated (host .0 + self .0) ⌝ }
     {
         HostAddr(saturating_add(host.0, self.0))
     }
@@ -165,7 +165,7 @@ pub fn product_within(a: u64, b: u64, limit: u64) -> bool
 
 // a + b, saturating at 2^64 - 1.
 pub fn saturating_add(a: u64, b: u64) -> u64
-    ensures { λ r. ⌜ r ≡ held (a + b) ⌝ }
+    ensures { λ r. ⌜ r ≡ saturated (a + b) ⌝ }
 {
     if sum_within(a, b, MAX) {
         return a + b;
@@ -175,7 +175,7 @@ pub fn saturating_add(a: u64, b: u64) -> u64
 
 // a * b, saturating at 2^64 - 1.
 fn saturating_mul(a: u64, b: u64) -> u64
-    ensures { λ r. ⌜ r ≡ held (a * b) ⌝ }
+    ensures { λ r. ⌜ r ≡ saturated (a * b) ⌝ }
 {
     if product_within(a, b, MAX) {
         return a * b;
@@ -205,7 +205,7 @@ pub fn alignment_of(boot: u64) -> u64
 
 // A number rounded up to a multiple of another, saturating at 2^64 - 1.
 pub fn next_multiple_of(n: u64, to: u64) -> u64
-    ensures { λ r. ⌜ r ≡ held (nextMultiple n to) ⌝ }
+    ensures { λ r. ⌜ r ≡ saturated (nextMultiple n to) ⌝ }
 {
     if to == 0 {
         return 0;

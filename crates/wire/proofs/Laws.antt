@@ -10,7 +10,7 @@ use Rattle.little_endian.proofs.Laws.{value-fits, part-part, part-put-inside}
 use Rattle.wire.specs.declared.VirtioMemResp.{VirtioMemResp}
 use Rattle.wire.specs.declared.VirtioMemConfig.{VirtioMemConfig}
 use Rattle.wire.specs.declared.Field.{Field}
-use Rattle.wire.specs.Layout.{requestAt, responseBytes, configFields, configValues, laid, configBytes}
+use Rattle.wire.specs.Layout.{requestAt, responseBytes, configFields, configValues, fieldsLaid, configBytes}
 
 -- ---- the three layouts
 
@@ -53,7 +53,7 @@ response-state xs at r h t =
     ap value (e ∙ last r) ∙ value-fits 2 (r .state) t
 
 pub length-config : (c : VirtioMemConfig) → length (configBytes c) ≡ 56
-unfolding configBytes laid put littleEndian configFields configValues
+unfolding configBytes fieldsLaid put littleEndian configFields configValues
 length-config c = refl
 
 -- what holds of each of the eight fields
@@ -72,7 +72,7 @@ eight P p₀ p₁ p₂ p₃ p₄ p₅ p₆ p₇ (suc (suc (suc (suc (suc (suc (s
 pub config-field : (c : VirtioMemConfig) (k : ℕ) (d : Field) → k < 8
     → part (configBytes c) (getD configFields k d .0) (getD configFields k d .1)
     ≡ littleEndian (getD configFields k d .1) (getD (configValues c) k 0)
-unfolding configBytes laid put part littleEndian configFields configValues
+unfolding configBytes fieldsLaid put part littleEndian configFields configValues
 config-field c k d =
     eight (λ k. part (configBytes c) (getD configFields k d .0) (getD configFields k d .1) ≡ littleEndian (getD configFields k d .1) (getD (configValues c) k 0))
     refl refl refl refl refl refl refl refl k

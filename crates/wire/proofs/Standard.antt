@@ -6,7 +6,7 @@ use lib.ListN.{length, replicate}
 use Rattle.wire.specs.declared.VirtioMemResp.{VirtioMemResp}
 use Rattle.wire.specs.declared.VirtioMemConfig.{VirtioMemConfig}
 use Rattle.little_endian.specs.Bytes.{littleEndian, part, put}
-use Rattle.wire.specs.Layout.{requestAt, responseBytes, configFields, configValues, laid, configBytes}
+use Rattle.wire.specs.Layout.{requestAt, responseBytes, configFields, configValues, fieldsLaid, configBytes}
 use Rattle.wire.specs.Standard.{virtioMemReq, virtioMemResp, virtioMemConfig}
 use Rattle.little_endian.proofs.Laws.{value-fits}
 
@@ -35,5 +35,5 @@ pub config : (c : VirtioMemConfig)
     → configBytes c
     ≡ virtioMemConfig (c .«block_size») (c .«node_id») (replicate 6 0) (c .addr .0) (c .«region_size»)
     (c .«usable_region_size») (c .«plugged_size») (c .«requested_size»)
-unfolding configBytes laid put littleEndian configFields configValues virtioMemConfig
+unfolding configBytes fieldsLaid put littleEndian configFields configValues virtioMemConfig
 config c = refl

@@ -49,14 +49,14 @@ configValues c =
     ∷ []
 
 -- xs with each value written at its field's offset, in its field's width
-unfoldable pub laid : List ℕ → List Field → List ℕ → List ℕ
-laid xs [] vs = xs
-laid xs (f ∷ fs) [] = xs
-laid xs (f ∷ fs) (v ∷ vs) = laid (put xs (f .0) (littleEndian (f .1) v)) fs vs
+unfoldable pub fieldsLaid : List ℕ → List Field → List ℕ → List ℕ
+fieldsLaid xs [] vs = xs
+fieldsLaid xs (f ∷ fs) [] = xs
+fieldsLaid xs (f ∷ fs) (v ∷ vs) = fieldsLaid (put xs (f .0) (littleEndian (f .1) v)) fs vs
 
 -- R7.5: the 56 bytes of a config
 unfoldable pub configBytes : VirtioMemConfig → List ℕ
-configBytes c = laid (replicate 56 0) configFields (configValues c)
+configBytes c = fieldsLaid (replicate 56 0) configFields (configValues c)
 
 -- R4.7: a config before the device is placed: no start, nothing usable, nothing plugged
 abbrev pub newConfig : ℕ → ℕ → ℕ → ℕ → VirtioMemConfig

@@ -12,7 +12,7 @@ use lib.ListN.{getD}
 use borrow.Author.Needs.{needs}
 use borrow.Author.Tests.{eqb-true, leb-true}
 use Rattle.units.proofs.Tests.{and-left, and-right}
-use Rattle.bitmap.specs.Blocks.{blocks, range, firstOf, nextOf}
+use Rattle.bitmap.specs.Blocks.{blocks, range, firstFrom, nextInState}
 use Rattle.bitmap.specs.Whole.{whole}
 use Rattle.bitmap.proofs.Turns.{place, next, start, range-out, range-turn, first-hit, first-miss, byte-passed}
 use Rattle.bitmap.proofs.next_of.Statement.{statement}
@@ -20,7 +20,7 @@ use Rattle.bitmap.proofs.next_of.Tie as tie
 
 abbrev Inv-loop : tie.InvT-loop
 Inv-loop bitmap from end v passed₀ j₀ k₀ at₀ j k at =
-    (k < 8) × (firstOf v at (range (blocks bitmap) (place j k) (end - at)) ≡ nextOf v (blocks bitmap) from end)
+    (k < 8) × (firstFrom v at (range (blocks bitmap) (place j k) (end - at)) ≡ nextInState v (blocks bitmap) from end)
 
 abbrev μ-loop : tie.MeasureT-loop
 μ-loop bitmap from end v passed₀ j₀ k₀ at₀ j k at = end - at
@@ -32,7 +32,7 @@ loop-holds : tie.Need-loop-holds Inv-loop μ-loop
 loop-holds c = (omega arith, rw (start (c .before .before .args .from)))
 
 returns : tie.Need-returns Inv-loop μ-loop
-unfolding firstOf
+unfolding firstFrom
 returns c =
     let o = c .before .before .loop in
     let z : c .before .before .before .before .before .args .end - o .at ≡ 0 = omega arith in
@@ -94,7 +94,7 @@ bit-requires c κs = omega arith
 turned : (c : tie.After-bit Inv-loop μ-loop) →
     let a = c .before .before .before .before .before .before .before .before .before .args in
     let o = c .before .before .before .before .before .before .loop in
-    firstOf (a .v) (o .at) (c .bit .result ∷ range (blocks (a .bitmap .now)) (next (o .j) (o .k)) (a .end - o .at - 1)) ≡ nextOf (a .v) (blocks (a .bitmap .now)) (a .from) (a .end)
+    firstFrom (a .v) (o .at) (c .bit .result ∷ range (blocks (a .bitmap .now)) (next (o .j) (o .k)) (a .end - o .at - 1)) ≡ nextInState (a .v) (blocks (a .bitmap .now)) (a .from) (a .end)
 turned c =
     let a = c .before .before .before .before .before .before .before .before .before .args in
     let o = c .before .before .before .before .before .before .loop in
@@ -129,7 +129,7 @@ loop-again-2 c =
     (omega arith, rw (e, add-one (o .at)) (sym (first-miss (a .v) (c .before .bit .result) (o .at) _ (c .if3 .left)) ∙ turned (c .before)))
 
 returns-3 : tie.Need-returns-3 Inv-loop μ-loop
-unfolding firstOf
+unfolding firstFrom
 returns-3 c =
     let o = c .before .loop in
     let a = c .before .before .before .before .args in

@@ -3,7 +3,7 @@ use Prim.Native.Nat.{_+_}
 use native.Mathlib.Omega.{arith}
 use borrow.Author.Tests.{lt-ltb, le-ltb}
 use mathlib.Core.Path.{_≡_, _∙_}
-use Rattle.units.proofs.Laws.{held-fits}
+use Rattle.units.proofs.Laws.{saturated-fits}
 use Rattle.units.specs.Numbers.{top}
 use Rattle.change.specs.Change.{hostSum}
 use borrow.Author.Needs.{needs}
@@ -41,7 +41,7 @@ unfolding hostSum
 returns-3 c =
     let a = c .before .before .before .before .before .args in
     let p = sum-within (a .host .0 + a .offset .0) top _ (c .before .before .before .before .sum-within .ensures) (c .before .before .before .if1 .left) in
-    let e : c .before .before .host-from .result .0 ≡ a .host .0 + a .offset .0 = c .before .before .host-from .ensures ∙ held-fits p in
+    let e : c .before .before .host-from .result .0 ≡ a .host .0 + a .offset .0 = c .before .before .host-from .ensures ∙ saturated-fits p in
     let q = sum-within (c .before .before .host-from .result .0 + a .size) top _ (c .before .sum-within2 .ensures) (c .if2 .left) in
     simp (le-ltb top (a .host .0 + a .offset .0 + a .size) (omega arith), ← e)
 

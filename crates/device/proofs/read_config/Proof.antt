@@ -4,7 +4,7 @@ use mathlib.Core.Path.{refl}
 use borrow.Author.Needs.{needs}
 use Rattle.record.specs.Shape.{shapedOf}
 use Rattle.units.proofs.Tests.{refused, passed}
-use Rattle.rows.specs.Rows.{rowsOf, wordsOf}
+use Rattle.rows.specs.Rows.{rowsOf, rowWords}
 use Rattle.bitmap.specs.Blocks.{blocks}
 use Rattle.step.specs.Step.{step, readConfig}
 use Rattle.device.proofs.read_config.Statement.{statement}
@@ -17,7 +17,7 @@ refuse-requires : tie.Need-refuse-requires
 refuse-requires c κs = search needs
 
 returns : tie.Need-returns
-unfolding step readConfig rowsOf wordsOf blocks
+unfolding step readConfig rowsOf rowWords blocks
 returns c =
     let k = c .before .before in
     rw (refused (shapedOf (k .before .before .args .d)) (k .shaped .result) (k .shaped .ensures) (c .before .if1 .taken), c .refuse .ensures)
@@ -30,7 +30,7 @@ same-length : tie.Need-same-length
 same-length c = search needs
 
 returns-2 : tie.Need-returns-2
-unfolding step readConfig rowsOf wordsOf blocks
+unfolding step readConfig rowsOf rowWords blocks
 returns-2 c =
     rw (passed (shapedOf (c .before .before .before .before .before .before .before .before .args .d)) (c .before .before .before .before .before .before .shaped .result) (c .before .before .before .before .before .before .shaped .ensures) (c .before .before .before .before .before .if1 .left))
     (record { answered = refl; told = refl; recorded = refl; leaves = record { marked = refl; mapped = refl; left = c .before .before .read-config .ensures } })

@@ -3,7 +3,7 @@
 use Prim.Native.Nat.{_*_}
 use mathlib.Core.Path.{_∙_}
 use native.Mathlib.Omega.{arith}
-use Rattle.units.proofs.Laws.{held-fits}
+use Rattle.units.proofs.Laws.{saturated-fits}
 use Rattle.making.proofs.Newly.{round-within}
 use borrow.Author.Needs.{needs}
 use Rattle.making.proofs.region_of.Statement.{statement}
@@ -21,7 +21,7 @@ next-multiple-of-requires c κs = search needs
 returns : tie.Need-returns
 returns c =
     let a = c .before .args in
-    c .next-multiple-of .ensures ∙ held-fits (omega (arith, round-within (a .capacity-mib * 1048576) (2 * a .alignment)))
+    c .next-multiple-of .ensures ∙ saturated-fits (omega (arith, round-within (a .capacity-mib * 1048576) (2 * a .alignment)))
 
 pub region-of-spec : {M : Type 1} → statement M
 region-of-spec = tie.close (tie.spec mul-next-multiple-of mul-next-multiple-of-2 next-multiple-of-requires returns)

@@ -7,7 +7,7 @@ use borrow.Author.Tests.{not-true, not-false, lt-ltb, le-ltb}
 use Rattle.rows.specs.declared.FirstUnmapped.the-variants.{Row, NoneLeft}
 use Rattle.rows.specs.Rows.{rowsOf, firstUnmapped}
 use Rattle.rows.proofs.Laws.{first-found}
-use Rattle.resize.specs.Resize.{growthOf, growthAt, rowOf}
+use Rattle.resize.specs.Resize.{growthOf, growthAt, endRow}
 use Rattle.resize.proofs.growth_of.Statement.{statement}
 use Rattle.resize.proofs.growth_of.Tie as tie
 
@@ -40,7 +40,7 @@ returns-3 : tie.Need-returns-3
 unfolding growthOf growthAt
 returns-3 c =
     let a = c .before .before .before .before .before .before .before .before .args in
-    let found : firstUnmapped (rowsOf (a .table .now)) (rowOf (a .region) true (a .usable)) (rowOf (a .region) true (a .new)) ≡ NoneLeft =
+    let found : firstUnmapped (rowsOf (a .table .now)) (endRow (a .region) true (a .usable)) (endRow (a .region) true (a .new)) ≡ NoneLeft =
     cc (c .before .before .first-unmapped .ensures, c .before .before .before .row-of2 .ensures, c .before .before .before .before .row-of .ensures, c .enum-told .given .1) in
     simp (not-false (a .several) (c .before .before .before .before .before .before .if1 .left), lt-ltb (a .usable) (a .new) (c .before .before .before .before .before .if2 .left), found)
 
@@ -48,9 +48,9 @@ creation-size-requires : tie.Need-creation-size-requires
 creation-size-requires c κs =
     let a = c .before .before .before .before .before .before .before .before .before .args in
     let i = c .before .i .given .0 .0 in
-    let found : firstUnmapped (rowsOf (a .table .now)) (rowOf (a .region) true (a .usable)) (rowOf (a .region) true (a .new)) ≡ Row i =
+    let found : firstUnmapped (rowsOf (a .table .now)) (endRow (a .region) true (a .usable)) (endRow (a .region) true (a .new)) ≡ Row i =
     cc (c .before .before .before .first-unmapped .ensures, c .before .before .before .before .row-of2 .ensures, c .before .before .before .before .before .row-of .ensures, c .before .i .given .1) in
-    let lies = first-found (rowsOf (a .table .now)) (rowOf (a .region) true (a .usable)) (rowOf (a .region) true (a .new)) i found in
+    let lies = first-found (rowsOf (a .table .now)) (endRow (a .region) true (a .usable)) (endRow (a .region) true (a .new)) i found in
     (rw (c .before .before .before .before .before .row-of .ensures) (lies .to), rw (c .before .before .before .before .before .row-of .ensures) (omega arith))
 
 returns-4 : tie.Need-returns-4
@@ -58,7 +58,7 @@ unfolding growthOf growthAt
 returns-4 c =
     let a = c .before .before .before .before .before .before .before .before .before .before .args in
     let i = c .before .before .i .given .0 .0 in
-    let found : firstUnmapped (rowsOf (a .table .now)) (rowOf (a .region) true (a .usable)) (rowOf (a .region) true (a .new)) ≡ Row i =
+    let found : firstUnmapped (rowsOf (a .table .now)) (endRow (a .region) true (a .usable)) (endRow (a .region) true (a .new)) ≡ Row i =
     cc (c .before .before .before .before .first-unmapped .ensures, c .before .before .before .before .before .row-of2 .ensures, c .before .before .before .before .before .before .row-of .ensures, c .before .before .i .given .1) in
     simp (not-false (a .several) (c .before .before .before .before .before .before .before .before .if1 .left), lt-ltb (a .usable) (a .new) (c .before .before .before .before .before .before .before .if2 .left), found, c .creation-size .ensures, c .before .before .before .before .before .before .row-of .ensures)
 

@@ -4,17 +4,17 @@ use mathlib.Core.Path.{_≡_, refl, sym, _∙_}
 use native.Mathlib.Omega.{arith}
 use lib.ListN.{length}
 use borrow.Author.Needs.{needs}
-use Rattle.units.specs.Numbers.{held, mapRegion}
-use Rattle.rows.specs.Rows.{rowsOf, written, fillRows, filled}
+use Rattle.units.specs.Numbers.{saturated, mapRegion}
+use Rattle.rows.specs.Rows.{rowsOf, written, fillRows, rowsFilled}
 use Rattle.rows.proofs.Laws.{fill-nothing}
-use Rattle.rows.proofs.Turns.{next-at, held-twice, fill-put}
+use Rattle.rows.proofs.Turns.{next-at, saturated-twice, fill-put}
 use Rattle.rows.proofs.Words.{count, whole, put-length}
 use Rattle.rows.proofs.fill.Statement.{statement}
 use Rattle.rows.proofs.fill.Tie as tie
 
 abbrev Inv-loop : tie.InvT-loop
 Inv-loop table₀ first last host end row₀ table row =
-    (length table ≡ length table₀) × (first ≤ row) × (written table (fillRows (rowsOf table) row (last + 1 - row) (host .0 + (row - first) * mapRegion)) ≡ written table₀ (filled (rowsOf table₀) first last (host .0)))
+    (length table ≡ length table₀) × (first ≤ row) × (written table (fillRows (rowsOf table) row (last + 1 - row) (host .0 + (row - first) * mapRegion)) ≡ written table₀ (rowsFilled (rowsOf table₀) first last (host .0)))
 
 abbrev μ-loop : tie.MeasureT-loop
 μ-loop table₀ first last host end row₀ table row = end - row
@@ -57,8 +57,8 @@ loop-again c =
     let l : o .row < length (rowsOf (o .table)) = omega (arith, count (o .table), count (a .table .now)) in
     let n : a .last + 1 - o .row ≡ suc (a .last + 1 - (o .row + 1)) = omega arith in
     let h : a .host .0 + (o .row + 1 - a .first) * mapRegion ≡ a .host .0 + (o .row - a .first) * mapRegion + mapRegion = next-at (a .host .0) (a .first) (o .row) (o .inv .1) in
-    let e : c .before .before .before .before .host-from .result .0 ≡ held (a .host .0 + (o .row - a .first) * mapRegion) =
-    held-twice (a .host .0) (c .before .before .before .before .before .of-map-region .result .0) ((o .row - a .first) * mapRegion) (c .before .before .before .before .host-from .result .0) (c .before .before .before .before .before .of-map-region .ensures) (c .before .before .before .before .host-from .ensures) in
+    let e : c .before .before .before .before .host-from .result .0 ≡ saturated (a .host .0 + (o .row - a .first) * mapRegion) =
+    saturated-twice (a .host .0) (c .before .before .before .before .before .of-map-region .result .0) ((o .row - a .first) * mapRegion) (c .before .before .before .before .host-from .result .0) (c .before .before .before .before .before .of-map-region .ensures) (c .before .before .before .before .host-from .ensures) in
     (put-length (o .table) (p .last .0) (o .row) _ (p .ensures) ∙ o .inv .0, omega arith, rw h (fill-put (o .table) (p .last .0) (o .row) (a .last + 1 - (o .row + 1)) (a .host .0 + (o .row - a .first) * mapRegion) (c .before .before .before .before .before .before .slot-of .result) (c .before .before .before .before .host-from .result .0) l (c .before .before .before .before .before .before .slot-of .ensures) e (p .ensures)) ∙ rw n at (o .inv .2))
 
 same-length : tie.Need-same-length Inv-loop μ-loop

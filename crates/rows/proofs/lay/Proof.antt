@@ -3,7 +3,7 @@ use Prim.Native.Nat.{_-_}
 use mathlib.Core.Path.{_≡_, refl, sym, ap, _∙_}
 use native.Mathlib.Omega.{arith}
 use lib.ListN.{length, drop, drop-of-length-le}
-use Rattle.rows.specs.Rows.{rowsOf, written, laid}
+use Rattle.rows.specs.Rows.{rowsOf, written, rowsLaid}
 use borrow.Author.Needs.{needs}
 use Rattle.rows.proofs.Turns.{laidFrom, laid-start, laid-none, laid-put}
 use Rattle.rows.proofs.Words.{whole, put-length}
@@ -11,7 +11,7 @@ use Rattle.rows.proofs.lay.Statement.{statement}
 use Rattle.rows.proofs.lay.Tie as tie
 
 abbrev Inv-loop : tie.InvT-loop
-Inv-loop table₀ slots j₀ table j = (length table ≡ length table₀) × (written table (laidFrom j (rowsOf table) (drop j slots)) ≡ written table₀ (laid (rowsOf table₀) slots))
+Inv-loop table₀ slots j₀ table j = (length table ≡ length table₀) × (written table (laidFrom j (rowsOf table) (drop j slots)) ≡ written table₀ (rowsLaid (rowsOf table₀) slots))
 
 abbrev μ-loop : tie.MeasureT-loop
 μ-loop table₀ slots j₀ table j = length slots - j

@@ -10,7 +10,7 @@ use lib.ListN.{length, drop, getD, replicate, drop-of-length-le}
 use lib.Seq.{drop-cons}
 use Rattle.wire.specs.declared.Field.{Field}
 use Rattle.little_endian.specs.Bytes.{littleEndian, put}
-use Rattle.wire.specs.Layout.{configFields, configValues, laid, configBytes}
+use Rattle.wire.specs.Layout.{configFields, configValues, fieldsLaid, configBytes}
 use Rattle.little_endian.proofs.Laws.{length-put}
 use Rattle.wire.proofs.Laws.{length-config, eight}
 use borrow.Author.Needs.{needs}
@@ -29,18 +29,18 @@ table =
 
 -- a turn lays the first field that is left
 turn : (xs vs : List ℕ) (k : ℕ) → k < 8 → k < length vs
-    → laid xs (drop k configFields) (drop k vs)
-    ≡ laid (put xs (field k .0) (littleEndian (field k .1) (getD vs k 0))) (drop (k + 1) configFields) (drop (k + 1) vs)
-unfolding laid configFields
+    → fieldsLaid xs (drop k configFields) (drop k vs)
+    ≡ fieldsLaid (put xs (field k .0) (littleEndian (field k .1) (getD vs k 0))) (drop (k + 1) configFields) (drop (k + 1) vs)
+unfolding fieldsLaid configFields
 turn xs vs k h i = rw (drop-cons configFields k (record { 0 = 0; 1 = 0 }) h, drop-cons vs k 0 i, add-one k)
 
 -- past the table no field is left
-done : (xs vs : List ℕ) (k : ℕ) → 8 ≤ k → laid xs (drop k configFields) vs ≡ xs
-unfolding laid configFields
+done : (xs vs : List ℕ) (k : ℕ) → 8 ≤ k → fieldsLaid xs (drop k configFields) vs ≡ xs
+unfolding fieldsLaid configFields
 done xs vs k h = rw (drop-of-length-le configFields h)
 
 abbrev Inv-loop : tie.InvT-loop
-Inv-loop offset «data» values fields bytes₀ k₀ bytes k = (length bytes ≡ 56) × (laid bytes (drop k configFields) (drop k values) ≡ laid (replicate 56 0) configFields values)
+Inv-loop offset «data» values fields bytes₀ k₀ bytes k = (length bytes ≡ 56) × (fieldsLaid bytes (drop k configFields) (drop k values) ≡ fieldsLaid (replicate 56 0) configFields values)
 
 abbrev μ-loop : tie.MeasureT-loop
 μ-loop offset «data» values fields bytes₀ k₀ bytes k = 8 - k
@@ -94,7 +94,7 @@ loop-again c =
     let vs = configValues (a .config) in
     let h : o .k < 8 = omega arith in (
       ap length (w .ensures) ∙ length-put (o .bytes) (field (o .k) .0) (littleEndian (field (o .k) .1) (getD vs (o .k) 0)) ∙ o .inv .0,
-      ap (λ (l : List ℕ). laid l (drop (o .k + 1) configFields) (drop (o .k + 1) vs)) (w .ensures)
+      ap (λ (l : List ℕ). fieldsLaid l (drop (o .k + 1) configFields) (drop (o .k + 1) vs)) (w .ensures)
           ∙ sym (turn (o .bytes) vs (o .k) h h)
           ∙ o .inv .1,
     )
