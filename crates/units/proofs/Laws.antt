@@ -8,7 +8,7 @@ use lib.Dec.{leb}
 use borrow.Author.Tests.{leb-true, leb-false}
 use lib.Arith.{digits-div}
 use lib.Count.{trailingZeros, under}
-use Rattle.units.specs.Numbers.{top, saturated, bytesOf, twos, nextMultiple}
+use Rattle.units.specs.Numbers.{MiB, top, saturated, bytesOf, twos, nextMultiple}
 
 -- ---- what a test said of a sum or a product n: within the limit, or past it
 pub within : {n limit : ℕ} (r : Bool) → r ≡ leb n limit → r ≡ true → n ≤ limit
@@ -17,15 +17,15 @@ within {n} {limit} r e t = leb-true n limit (sym e ∙ t)
 pub past : {n limit : ℕ} (r : Bool) → r ≡ leb n limit → r ≡ false → limit < n
 past {n} {limit} r e t = leb-false n limit (sym e ∙ t)
 
--- what fits is held as it is
+-- what fits stays as it is
 pub saturated-fits : {n : ℕ} → n ≤ top → saturated n ≡ n
 saturated-fits h = omega arith
 
 -- the blocks of a request, of at most 128 MiB each, have a size that fits
-pub bytes-fit : (b n : ℕ) → b ≤ 134217728 → n < 65536 → bytesOf b n ≤ top
+pub bytes-fit : (b n : ℕ) → b ≤ 128 * MiB → n < 65536 → bytesOf b n ≤ top
 bytes-fit b n h k =
     let few : n ≤ 65535 = omega arith in
-    let small : n * b ≤ 65535 * 134217728 = mul-le-mul few h in
+    let small : n * b ≤ 65535 * (128 * MiB) = mul-le-mul few h in
     omega arith
 
 -- ---- rounding up: a multiple stays, anything else goes to the next multiple

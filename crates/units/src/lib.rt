@@ -3,7 +3,8 @@
 ghost use mathlib.Core.Path.{_≡_};
 ghost use Prim.Native.Nat.{_+_, _-_, _*_, _/_, _%_, min};
 ghost use lib.Dec.{leb, eqb};
-ghost use Rattle.units.specs.Numbers.{saturated, bytesOf, blocksIn, mapRegion, mapRegions, between, alignmentOf, nextMultiple};
+ghost use Rattle.units.specs.Numbers.{saturated, bytesOf, blocksIn, mapRegion, mapRegions};
+ghost use Rattle.units.specs.Numbers.{between, alignmentOf, nextMultiple};
 
 // An address as the guest sees it.
 pub struct GuestAddr(pub u64);
@@ -21,9 +22,7 @@ pub enum Node {
 }
 
 // Boot memory from which on the guest uses large memory blocks.
-const BOOT_MEM_SIZE_FOR_LARGE_BLOCK: u64 = 68719476736;
-
-const MAX: u64 = 18446744073709551615;
+const BOOT_MEM_SIZE_FOR_LARGE_BLOCK: u64 = 64 * MemTool::GIB;
 
 // 2^32: two numbers below it have a product that fits 64 bits.
 const HALF: u64 = 1 << 32;
@@ -40,7 +39,11 @@ impl MemTool {
 
     pub const MAP_REGION_SIZE: u64 = 1 << MemTool::MAP_REGION_SHIFT;
 
-    pub const MIB: u64 = 1048576;
+    pub const MIB: u64 = 1 << 20;
+
+    pub const GIB: u64 = 1 << 30;
+
+    pub const MIN_ALIGNMENT: u64 = 128 * MemTool::MIB;
 
     // The bytes of a request's blocks, saturating at 2^64 - 1.
     pub fn bytes_of(nb_blocks: u16, block_size: u64) -> u64
@@ -167,23 +170,23 @@ pub fn product_within(a: u64, b: u64, limit: u64) -> bool
 pub fn saturating_add(a: u64, b: u64) -> u64
     ensures { λ r. ⌜ r ≡ saturated (a + b) ⌝ }
 {
-    if sum_within(a, b, MAX) {
+    if sum_within(a, b, u64::MAX) {
         return a + b;
     }
-    MAX
+    u64::MAX
 }
 
 // a * b, saturating at 2^64 - 1.
 fn saturating_mul(a: u64, b: u64) -> u64
     ensures { λ r. ⌜ r ≡ saturated (a * b) ⌝ }
 {
-    if product_within(a, b, MAX) {
+    if product_within(a, b, u64::MAX) {
         return a * b;
     }
-    MAX
+    u64::MAX
 }
 
-// A number held between the exponents of 128 MiB and 2 GiB.
+// An exponent, raised to that of 128 MiB or lowered to that of 2 GiB.
 fn clamped(n: u32) -> u32
     ensures { λ r. ⌜ r ≡ between n ⌝ }
 {
@@ -193,12 +196,12 @@ fn clamped(n: u32) -> u32
     if n < 31 { n } else { 31 }
 }
 
-// The guest's memory block size, by its boot memory.
+// The guest's memory block size, by its boot memory (R4.2).
 pub fn alignment_of(boot: u64) -> u64
     ensures { λ r. ⌜ r ≡ alignmentOf boot ⌝ }
 {
     if boot < BOOT_MEM_SIZE_FOR_LARGE_BLOCK {
-        return 134217728;
+        return MemTool::MIN_ALIGNMENT;
     }
     1 << clamped(u64::trailing_zeros(boot))
 }
@@ -217,7 +220,7 @@ pub fn next_multiple_of(n: u64, to: u64) -> u64
     saturating_add(n, to - over)
 }
 
-// How many rows of the map table a region takes.
+// How many rows of the map table a region takes (R4.5).
 pub fn map_regions(region_size: u64, several: bool) -> u64
     ensures { λ r. ⌜ r ≡ mapRegions «region_size» several ⌝ }
 {

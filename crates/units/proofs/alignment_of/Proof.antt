@@ -6,7 +6,7 @@ use native.Mathlib.Omega.{arith}
 use borrow.Author.Needs.{needs}
 use borrow.Author.Tests.{lt-ltb, le-ltb}
 use lib.Pow.{pow-lt}
-use Rattle.units.specs.Numbers.{alignmentOf, twos, between}
+use Rattle.units.specs.Numbers.{GiB, alignmentOf, twos, between}
 use Rattle.units.proofs.alignment_of.Statement.{statement}
 use Rattle.units.proofs.alignment_of.Tie as tie
 
@@ -32,7 +32,7 @@ unfolding alignmentOf twos
 returns-2 c =
     let boot = c .before .before .args .boot in
     let small : between (twos boot) < 64 = omega arith in
-    rw (le-ltb boot 68719476736 (omega arith), c .clamped .ensures) (shifted (between (twos boot)) small)
+    rw (le-ltb boot (64 * GiB) (omega arith), c .clamped .ensures) (shifted (between (twos boot)) small)
 
 pub alignment-of-spec : {M : Type 1} → statement M
 alignment-of-spec =
