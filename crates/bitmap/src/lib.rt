@@ -1,13 +1,14 @@
 // SPDX-License-Identifier: Apache-2.0 AND BSD-3-Clause
 // The plugged blocks as a packed bitmap, lent as bytes: block 8 * j + k is bit k of byte j.
-// A range is tested and put by whole bytes, with single bits at its ends. A loop over blocks stands at bit k of byte j and counts
-// down what is left. No block number is made that could wrap.
+// A range is tested and put by whole bytes, with single bits at its ends. A loop over blocks stands at bit k of byte j
+// and counts down what is left. No block number is made that could wrap.
 use little_endian::read_u64;
 use units::smaller;
 ghost use mathlib.Core.Path.{_≡_};
 ghost use Prim.Native.Nat.{_+_, _-_, _*_, _/_, _%_, _^_, _≤_, _<_};
 ghost use lib.ListN.{length};
-ghost use Rattle.bitmap.specs.Blocks.{lowBits, blocks, blockAt, every, allAre, fill, nextSet, nextClear, nextInState, ones, range, Filled};
+ghost use Rattle.bitmap.specs.Blocks.{lowBits, blocks, blockAt, range, every, allAre, ones, fill, Filled};
+ghost use Rattle.bitmap.specs.Blocks.{nextInState, nextSet, nextClear};
 ghost use Rattle.bitmap.specs.Whole.{whole, wholes};
 
 // The block that a search ended at.
@@ -34,7 +35,7 @@ fn whole_byte(v: bool) -> u8
 fn whole_word(v: bool) -> u64
     ensures { λ r. ⌜ r ≡ wholes 8 v ⌝ }
 {
-    if v { 18446744073709551615 } else { 0 }
+    if v { u64::MAX } else { 0 }
 }
 
 // The n bits from bit k on.
@@ -64,8 +65,8 @@ fn are(b: u8, k: usize, n: usize, v: bool) -> bool
     b & m == whole_byte(v) & m
 }
 
-// Whether each block of these bytes is v: eight bytes at a time, then one. The first loop's test is the one that `read_u64` makes,
-// so the compiler drops the second.
+// Whether each block of these bytes is v: eight bytes at a time, then one. The first loop's test is the one that
+// `read_u64` makes, so the compiler drops the second.
 fn bytes_are(bytes: &[u8], v: bool) -> bool
     ensures { λ r. ⌜ r ≡ every v (blocks (now (bytes .entry))) ⌝ }
 {
@@ -102,8 +103,8 @@ fn put_bytes(bitmap: &mut [u8], from: usize, to: usize, v: bool)
     }
 }
 
-// A range that goes past a byte's end, in three parts: `head` blocks up to byte `from`, the bytes from there up to, not including,
-// byte `to`, and `tail` blocks of byte `to`.
+// A range that goes past a byte's end, in three parts: `head` blocks up to byte `from`, the bytes from there up to, not
+// including, byte `to`, and `tail` blocks of byte `to`.
 struct Parts {
     head: usize,
     from: usize,
@@ -192,7 +193,8 @@ pub fn set_range(bitmap: &mut [u8], first: usize, count: usize, plugged: bool)
     bitmap[to] = put(bitmap[to], 0, p.tail, plugged);
 }
 
-// The lowest block in this state that exists from `from` up to, not including, `end`. A byte without one is passed at once.
+// The lowest block in this state that exists from `from` up to, not including, `end`. A byte without one is passed at
+// once.
 fn next_of(bitmap: &[u8], from: usize, end: usize, v: bool) -> Found
     ensures { λ r. ⌜ r ≡ nextInState v (blocks (now (bitmap .entry))) from end ⌝ }
 {

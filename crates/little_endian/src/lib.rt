@@ -1,7 +1,8 @@
 // SPDX-License-Identifier: Apache-2.0 AND BSD-3-Clause
 // Numbers at a place in bytes, lowest byte first: what is missing reads as zeros, and what has no place is not written.
+use units::smaller;
 ghost use mathlib.Core.Path.{_≡_};
-ghost use Prim.Native.Nat.{_+_, _-_, _≤_, _<_, _^_, min};
+ghost use Prim.Native.Nat.{_+_, _-_, _≤_, _<_, _^_};
 ghost use lib.ListN.{length, drop};
 ghost use Rattle.little_endian.specs.Bytes.{value, littleEndian, part, put};
 
@@ -16,17 +17,11 @@ pub fn from(bytes: &[u8], at: usize) -> &[u8]
     }
 }
 
-fn lesser(a: usize, b: usize) -> usize
-    ensures { λ r. ⌜ r ≡ min a b ⌝ }
-{
-    if a < b { a } else { b }
-}
-
 // The bytes of `what` from the start on; none past the end.
 pub fn copy(bytes: &mut [u8], what: &[u8])
     ensures { λ _. ⌜ now (bytes .exit) ≡ put (now (bytes .entry)) 0 (now (what .entry)) ⌝ }
 {
-    let n = lesser(bytes.len(), what.len());
+    let n = smaller(bytes.len() as u64, what.len() as u64) as usize;
     let mut i = 0;
     while i < n {
         bytes[i] = what[i];
@@ -34,7 +29,8 @@ pub fn copy(bytes: &mut [u8], what: &[u8])
     }
 }
 
-// At how many places `width` bytes are all there, of no bytes as of one. Where a caller has made a wider test, the compiler drops this one.
+// At how many places `width` bytes are all there, of no bytes as of one. Where a caller has made a wider test, the
+// compiler drops this one.
 pub fn places(bytes: &[u8], width: usize) -> usize
     ensures { λ r. ⌜ r ≡ length (now (bytes .entry)) - (width - 1) ⌝ }
 {

@@ -70,7 +70,8 @@ pub const CONFIG_FIELDS: [Field; 8] = [
     Field(48, 8),
 ];
 
-// The constant is the table that the definitions read: no contract can name a constant array, so this one says that the two are the same.
+// The constant is the table that the definitions read: no contract can name a constant array, so this one says that the
+// two are the same.
 pub fn config_fields() -> [Field; 8]
     ensures { λ r. ⌜ r ≡ configFields ⌝ }
 {
@@ -111,7 +112,8 @@ fn put_two(bytes: &mut [u8], at: usize, v: u64)
     bytes[at + 1] = (v / 256 % 256) as u8;
 }
 
-// The bytes of v's field, two by two, as every field has an even number of them. Without a loop, so that the one over the table is unrolled.
+// The bytes of v's field, two by two, as every field has an even number of them. Without a loop, so that the one over
+// the table is unrolled.
 fn write_field(bytes: &mut [u8], field: Field, v: u64)
     requires { ⌜ (field .0 + field .1 ≤ length (now bytes)) × (field .1 % 2 ≡ 0) × (0 < field .1) × (field .1 ≤ 8) ⌝ }
     ensures { λ _. ⌜ now (bytes .exit) ≡ put (now (bytes .entry)) (field .0) (littleEndian (field .1) v) ⌝ }

@@ -40,8 +40,8 @@ Inv-loop bytes₀ what n i₀ bytes i = (length bytes ≡ length bytes₀) × (p
 abbrev μ-loop : tie.MeasureT-loop
 μ-loop bytes₀ what n i₀ bytes i = n - i
 
-lesser-requires : tie.Need-lesser-requires Inv-loop μ-loop
-lesser-requires c κs = search needs
+smaller-requires : tie.Need-smaller-requires Inv-loop μ-loop
+smaller-requires c κs = search needs
 
 loop-holds : tie.Need-loop-holds Inv-loop μ-loop
 loop-holds c = (refl, refl)
@@ -79,7 +79,7 @@ copy-spec =
     (tie.spec
     Inv-loop
     μ-loop
-    lesser-requires
+    smaller-requires
     loop-holds
     shared-slice-read-bytes
     slice-write-bytes
