@@ -1,13 +1,13 @@
 // SPDX-License-Identifier: Apache-2.0 AND BSD-3-Clause
-// The lent map table, one row for each map region. Only `row_at` and `put_row` speak of words.
+// The lent map table, one row for each map region (R8.3). Only `rows_in`, `row_at` and `put_row` speak of words.
 use units::HostAddr;
 use units::RegionOffset;
 ghost use mathlib.Core.Path.{_≡_};
 ghost use Prim.Native.Nat.{_+_, min};
 ghost use lib.ListN.{length, set};
-ghost use Rattle.rows.specs.Rows.{rowsOf, written, rowAt, mappingOf, firstUnmapped, rowsFilled, rowsLaid};
+ghost use Rattle.rows.specs.Rows.{rowsIn, rowsOf, written, rowAt, mappingOf, firstUnmapped, filledTable, laidTable};
 
-// A row's three words. Mapped is 0 for no and anything else for yes.
+// A row's three words (R8.3). Mapped is 0 for no and anything else for yes.
 pub struct MapRow {
     pub slot: u64,
     pub mapped: u64,
@@ -26,14 +26,21 @@ pub enum FirstUnmapped {
     NoneLeft,
 }
 
+// How many whole rows so many words make.
+pub fn rows_in(words: usize) -> u64
+    ensures { λ r. ⌜ r ≡ rowsIn words ⌝ }
+{
+    words as u64 / 3
+}
+
 // How many rows the table holds.
 pub fn row_count(table: &[u64]) -> u64
     ensures { λ r. ⌜ r ≡ length (rowsOf (now (table .entry))) ⌝ }
 {
-    table.len() as u64 / 3
+    rows_in(table.len())
 }
 
-// A row; past the table, where no request looks (`row-in-table` of `step`), slot 0 and not mapped.
+// A row; past the table, where no request looks (`row-in-table` of `step`), slot 0 and not mapped (R8.5).
 fn row_at(table: &[u64], row: u64) -> MapRow
     ensures { λ r. ⌜ r ≡ rowAt (rowsOf (now (table .entry))) row ⌝ }
 {
@@ -114,9 +121,10 @@ pub fn first_unmapped(table: &[u64], first: u64, last: u64) -> FirstUnmapped
     }
 }
 
-// Maps the rows from `first` to `last`, one after the other from `host` on. The device has tested that no sum passes 2^64 - 1 (refusal 9).
+// Maps the rows from `first` to `last`, one after the other from `host` on (R6.7). The device has tested that no sum
+// passes 2^64 - 1 (R1.9).
 pub fn fill(table: &mut [u64], first: u64, last: u64, host: HostAddr)
-    ensures { λ _. ⌜ now (table .exit) ≡ written (now (table .entry)) (rowsFilled (rowsOf (now (table .entry))) first last (host .0)) ⌝ }
+    ensures { λ _. ⌜ now (table .exit) ≡ filledTable (now (table .entry)) first last (host .0) ⌝ }
 {
     let end = end_of(table, last);
     let mut row = first;
@@ -136,9 +144,9 @@ pub fn fill(table: &mut [u64], first: u64, last: u64, host: HostAddr)
     }
 }
 
-// Gives row j slot j of the list, not mapped.
+// Gives row j slot j of the list, not mapped (R5.2).
 pub fn lay(table: &mut [u64], slots: &[u32])
-    ensures { λ _. ⌜ now (table .exit) ≡ written (now (table .entry)) (rowsLaid (rowsOf (now (table .entry))) (now (slots .entry))) ⌝ }
+    ensures { λ _. ⌜ now (table .exit) ≡ laidTable (now (table .entry)) (now (slots .entry)) ⌝ }
 {
     let mut j = 0;
     while j < slots.len() {

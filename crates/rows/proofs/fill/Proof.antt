@@ -1,3 +1,4 @@
+-- SPDX-License-Identifier: Apache-2.0 AND BSD-3-Clause
 -- `fill` meets its contract. The invariant: filling the table from `row` on, as it stands now, gives what filling the lent table gives.
 use Prim.Native.Nat.{suc, _+_, _-_, _*_, _≤_, _<_}
 use mathlib.Core.Path.{_≡_, refl, sym, _∙_}

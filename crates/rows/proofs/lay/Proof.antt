@@ -1,3 +1,4 @@
+-- SPDX-License-Identifier: Apache-2.0 AND BSD-3-Clause
 -- `lay` meets its contract. The invariant: laying the rest of the slots from row j on, in the table as it stands now, gives what laying them all in the lent table gives.
 use Prim.Native.Nat.{_-_}
 use mathlib.Core.Path.{_≡_, refl, sym, ap, _∙_}

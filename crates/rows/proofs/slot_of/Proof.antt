@@ -1,3 +1,5 @@
+-- SPDX-License-Identifier: Apache-2.0 AND BSD-3-Clause
+-- `rows::slot_of` meets its contract.
 use mathlib.Core.Path.{ap}
 use borrow.Author.Needs.{needs}
 use Rattle.rows.proofs.slot_of.Statement.{statement}
