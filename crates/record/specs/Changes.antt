@@ -1,3 +1,4 @@
+-- SPDX-License-Identifier: Apache-2.0 AND BSD-3-Clause
 -- The record with one field changed, for definitions that say what a call leaves.
 use Prim.Native.Nat.{ℕ}
 use mathlib.Core.Bool.{Bool}

@@ -1,5 +1,5 @@
 // SPDX-License-Identifier: Apache-2.0 AND BSD-3-Clause
-// The device's record by value: what it holds, the host call that it waits for, and whether it has the shape that 01 states.
+// The device's record by value: what it holds, the host call that it waits for, and whether it has the shape (R3).
 use units::GuestAddr;
 use units::HostAddr;
 use units::MemTool;
@@ -14,25 +14,32 @@ ghost use mathlib.Core.Bool.{true};
 ghost use Prim.Native.Nat.{_+_, _<_};
 ghost use lib.Dec.{leb};
 ghost use Rattle.units.specs.Numbers.{top};
-ghost use Rattle.record.specs.Shape.{configShapedOf, alignmentOk, regionOk, spanOf, startOk, severalOk, pendingOk, shapedOf, isIdle, featuresOf};
+ghost use Rattle.record.specs.Shape.{alignmentOk, regionOk, spanOf, startOk, severalOk, pendingOk};
+ghost use Rattle.record.specs.Shape.{shapedOf, configShapedOf, isIdle, featuresOf};
 ghost use Rattle.record.specs.Tests.{blocksOk, insideOk, restOk};
 
 const VIRTIO_F_VERSION_1: u64 = 32;
 
 const VIRTIO_MEM_F_ACPI_PXM: u64 = 0;
 
-// The least alignment: 128 MiB.
-const MIN_ALIGNMENT: u64 = 134217728;
-
 // The largest region: 1 TiB.
-const MAX_REGION_SIZE: u64 = 1099511627776;
+const MAX_REGION_SIZE: u64 = 1024 * MemTool::GIB;
 
-const MAX: u64 = 18446744073709551615;
+const MIB_128: u64 = 128 * MemTool::MIB;
+
+const MIB_256: u64 = 256 * MemTool::MIB;
+
+const MIB_512: u64 = 512 * MemTool::MIB;
+
+const GIB_1: u64 = MemTool::GIB;
+
+const GIB_2: u64 = 2 * MemTool::GIB;
 
 // The host call that the device waits for.
 pub enum Pending {
     Nothing,
-    // One creation for the rows from first to last: in placing where the device is not placed yet, else in a size change.
+    // One creation for the rows from first to last: in placing where the device is not placed yet, else in a size
+    // change.
     Create {
         first: u64,
         last: u64,
@@ -64,7 +71,7 @@ pub enum HostCall {
     },
 }
 
-// The device.
+// What the device keeps from call to call (R3.1).
 pub struct Device {
     pub config: VirtioMemConfig,
     pub alignment: u64,
@@ -74,12 +81,12 @@ pub struct Device {
     pub pending: Pending,
 }
 
-// One of 128, 256, 512 MiB, 1 or 2 GiB.
+// One of 128, 256, 512 MiB, 1 or 2 GiB (R3.4).
 fn alignment_ok(alignment: u64) -> bool
     ensures { λ r. ⌜ r ≡ alignmentOk alignment ⌝ }
 {
     match alignment {
-        134217728 | 268435456 | 536870912 | 1073741824 | 2147483648 => true,
+        MIB_128 | MIB_256 | MIB_512 | GIB_1 | GIB_2 => true,
         _ => false,
     }
 }
@@ -112,30 +119,30 @@ fn span_within(start: u64, region: u64, several: bool) -> bool
     ensures { λ r. ⌜ r ≡ leb (start + spanOf region several) top ⌝ }
 {
     if !several {
-        return sum_within(start, region, MAX);
+        return sum_within(start, region, u64::MAX);
     }
     let rows = map_regions(region, several);
-    if !product_within(rows, MemTool::MAP_REGION_SIZE, MAX) {
+    if !product_within(rows, MemTool::MAP_REGION_SIZE, u64::MAX) {
         return false;
     }
-    sum_within(start, rows * MemTool::MAP_REGION_SIZE, MAX)
+    sum_within(start, rows * MemTool::MAP_REGION_SIZE, u64::MAX)
 }
 
-// Whether a region may start here (4).
+// Whether a region may start here (R1.4).
 pub fn start_ok(start: GuestAddr, region: u64, several: bool, alignment: u64) -> bool
     ensures { λ r. ⌜ r ≡ startOk (start .0) region several alignment ⌝ }
 {
     is_multiple(start.0, alignment) & span_within(start.0, region, several)
 }
 
-// Several regions only if the region exceeds 2 GiB.
+// Several regions only if the region exceeds 2 GiB (R3.7).
 fn several_ok(several: bool, region: u64) -> bool
     ensures { λ r. ⌜ r ≡ severalOk several region ⌝ }
 {
     !several | (MemTool::MAP_REGION_SIZE < region)
 }
 
-// The blocks and rows of a pending call lie inside the region, and an unplug is at most the plugged size.
+// The blocks and rows of a pending call lie inside the region, and an unplug is at most the plugged size (R3.8).
 fn pending_ok(pending: Pending, block_size: u64, region: u64, several: bool, plugged: u64) -> bool
     ensures { λ r. ⌜ r ≡ pendingOk pending «block_size» region several plugged ⌝ }
 {
@@ -169,7 +176,7 @@ fn rest_ok(
         & (several_ok(several, region) & pending_ok(pending, block_size, region, several, plugged))
 }
 
-// Whether the record has the stated shape: 12 is given where it has not.
+// Whether the record has the shape: 12 is given where it has not (R3.2).
 // The alignment comes first: past its test it is a power of two, and a remainder by it is a mask.
 // Past the test of the block size that is a number the compiler knows, and a remainder by it is a mask too.
 pub fn shaped(d: Device) -> bool
@@ -203,21 +210,22 @@ pub fn shaped(d: Device) -> bool
     }
     let pending = d.pending;
     if !several & is_idle(pending) {
-        return sum_within(start, region, MAX);
+        return sum_within(start, region, u64::MAX);
     }
     // A copy of its own, so that a device that waits for nothing makes none.
     let waits_for = d.pending;
     rest_ok(block_size, start, region, several, waits_for, plugged)
 }
 
-// Whether config fields have the shape that every device's have: that of a single region with the least alignment, waiting for nothing.
+// Whether config fields have the shape that every device's have (R3.10): that of a single region with the least
+// alignment, waiting for nothing.
 pub fn config_shaped(config: VirtioMemConfig) -> bool
     ensures { λ r. ⌜ r ≡ configShapedOf config ⌝ }
 {
     let pending = Pending::Nothing;
     shaped(Device {
         config: config,
-        alignment: MIN_ALIGNMENT,
+        alignment: MemTool::MIN_ALIGNMENT,
         several: false,
         avail_features: 1 << VIRTIO_F_VERSION_1,
         placed: true,
@@ -244,7 +252,7 @@ pub fn is_idle(pending: Pending) -> bool
     }
 }
 
-// The feature number, for a device with or without a node.
+// The feature number, for a device with or without a node (R4.6).
 pub fn features(node_given: bool) -> u64
     ensures { λ r. ⌜ r ≡ featuresOf «node_given» ⌝ }
 {

@@ -1,3 +1,4 @@
+-- SPDX-License-Identifier: Apache-2.0 AND BSD-3-Clause
 -- `config_shaped` meets its contract.
 use Rattle.record.specs.Shape.{configShapedOf}
 use borrow.Author.Needs.{needs}

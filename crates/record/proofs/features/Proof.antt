@@ -1,3 +1,5 @@
+-- SPDX-License-Identifier: Apache-2.0 AND BSD-3-Clause
+-- `record::features` meets its contract.
 use borrow.Author.Needs.{needs}
 use Rattle.record.proofs.features.Statement.{statement}
 use Rattle.record.proofs.features.Tie as tie

@@ -1,3 +1,5 @@
+-- SPDX-License-Identifier: Apache-2.0 AND BSD-3-Clause
+-- `record::pending_ok` meets its contract: each arm is one row of `pendingOk`.
 use Rattle.record.specs.Shape.{pendingOk}
 use borrow.Author.Needs.{needs}
 use Rattle.record.proofs.pending_ok.Statement.{statement}

@@ -1,3 +1,5 @@
+-- SPDX-License-Identifier: Apache-2.0 AND BSD-3-Clause
+-- `record::region_ok` meets its contract.
 use native.Mathlib.Omega.{arith}
 use Rattle.record.proofs.Laws.{aligned}
 use Rattle.record.specs.Shape.{regionOk}

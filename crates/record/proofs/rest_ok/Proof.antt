@@ -1,3 +1,5 @@
+-- SPDX-License-Identifier: Apache-2.0 AND BSD-3-Clause
+-- `record::rest_ok` meets its contract.
 use Rattle.record.specs.Tests.{restOk}
 use borrow.Author.Needs.{needs}
 use Rattle.record.proofs.rest_ok.Statement.{statement}

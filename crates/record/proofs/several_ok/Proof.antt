@@ -1,3 +1,5 @@
+-- SPDX-License-Identifier: Apache-2.0 AND BSD-3-Clause
+-- `record::several_ok` meets its contract.
 use mathlib.Core.Path.{refl}
 use Rattle.record.specs.Shape.{severalOk}
 use Rattle.record.proofs.several_ok.Statement.{statement}

@@ -1,3 +1,5 @@
+-- SPDX-License-Identifier: Apache-2.0 AND BSD-3-Clause
+-- `record::shaped` meets its contract: a test that fails is a part of the shape, and past the others `restOk` is what is left.
 use Prim.Native.Nat.{_%_}
 use mathlib.Core.Path.{_≡_, sym, _∙_}
 use native.Mathlib.Omega.{arith}

@@ -1,3 +1,5 @@
+-- SPDX-License-Identifier: Apache-2.0 AND BSD-3-Clause
+-- `record::span_within` meets its contract: a span that passes 2^64 - 1 by itself passes it with the start.
 use Prim.Native.Nat.{_+_, _*_, _<_, _≤_}
 use mathlib.Core.Path.{sym, _∙_}
 use native.Mathlib.Omega.{arith}

@@ -1,3 +1,5 @@
+-- SPDX-License-Identifier: Apache-2.0 AND BSD-3-Clause
+-- `record::start_ok` meets its contract.
 use Rattle.record.specs.Shape.{startOk}
 use borrow.Author.Needs.{needs}
 use Rattle.record.proofs.start_ok.Statement.{statement}
