@@ -1,4 +1,5 @@
--- A legal change in two parts, and two legal parts in one (02, request 10/12). Over any block size.
+-- SPDX-License-Identifier: Apache-2.0 AND BSD-3-Clause
+-- A legal change in two parts, and two legal parts in one (10/12), over any block size.
 use Prim.Native.Nat.{ℕ, _+_, _/_, _%_, _≤_, _<_}
 use mathlib.Core.Path.{_≡_, refl, sym, ap, _∙_}
 use mathlib.Core.Bool.{Bool, true, false, not}

@@ -1,4 +1,5 @@
--- Plug, unplug and state of a range of blocks (01, "Plug and unplug"), over numbers, the list of blocks and the list of rows. b is the block size.
+-- SPDX-License-Identifier: Apache-2.0 AND BSD-3-Clause
+-- Plug, unplug and state of a range of blocks (R10), over numbers, the list of blocks and the list of rows; b is the block size.
 use Prim.Native.Nat.{ℕ, _+_, _-_, _/_, _%_}
 use mathlib.Core.Bool.{Bool, true, false, cond, not}
 use mathlib.Core.List.{List}
@@ -18,7 +19,7 @@ use Rattle.change.specs.declared.HostRange.the-variants.{At, CrossesBord
 use Rattle.change.specs.declared.Change.{Change}
 use Rattle.change.specs.declared.Change.the-variants.{Legal, Outside, WrongState, NoHost}
 
--- "or the range is not inside start to start + usable": it begins before, begins past, or ends past
+-- R10.4: the range lies between the start and the start plus the usable size, or begins before it, begins past it, or ends past it
 unfoldable pub insideOf : (start usable addr size : ℕ) → Range
 insideOf start usable addr size =
     cond (ltb addr start) (NotInside BelowStart)
@@ -26,7 +27,7 @@ insideOf start usable addr size =
     (cond (ltb (start + usable) (addr + size)) (NotInside EndPastUsable)
     (Inside (record { 0 = addr - start }))))
 
--- "(b) ERROR if the address is not a multiple of 4 MiB, size is 0, address + size passes 2^64 - 1, or the range is not inside .."
+-- R10.4: test (b)
 unfoldable pub rangeOf : (b start usable addr count : ℕ) → Range
 rangeOf b start usable addr count =
     cond (not (eqb (addr % b) 0)) (NotInside Alignment)
@@ -34,20 +35,20 @@ rangeOf b start usable addr count =
     (cond (ltb top (addr + bytesOf b count)) (NotInside Overflow)
     (insideOf start usable addr (bytesOf b count))))
 
--- "ERROR if the host sum (row's host address + offset, several regions: offset in its 2 GiB, + size) passes 2^64 - 1"
+-- R10.6: the host sum, of the row's host address, the offset and the size
 unfoldable pub hostSum : (host offset size : ℕ) → HostRange
 hostSum host offset size = cond (ltb top (host + offset + size)) SumPasses (At (record { 0 = host + offset }))
 
--- "ERROR if .. unmapped", then the host sum
+-- R10.6: the row is mapped, then the host sum
 unfoldable pub hostIn : Mapping → (offset size : ℕ) → HostRange
 hostIn (MappedAt host) offset size = hostSum (host .0) offset size
 hostIn NotMapped offset size = Unmapped
 
--- the row that (d) looks at: several regions have one for each 2 GiB of offsets, a single region has row 0
+-- R8.4: the row of an offset
 abbrev pub rowOf : (several : Bool) (offset : ℕ) → ℕ
 rowOf several offset = cond several (offset / mapRegion) 0
 
--- "(d) several regions: ERROR if the range crosses a 2 GiB border of offsets, .. or unmapped; single: ERROR if row 0 is unmapped", as 02's 2/12 leaves it: the row is in the table (`row-in-table` of `step`)
+-- R10.6: test (d). That the row is in the table is not tested (R10.7): it is (`row-in-table` of `step`)
 unfoldable pub hostOf : (several : Bool) → List MapRow → (offset size : ℕ) → HostRange
 hostOf several rows offset size =
     cond several
@@ -55,14 +56,14 @@ hostOf several rows offset size =
     (hostIn (mappingOf rows (rowOf several offset)) (offset % mapRegion) size))
     (hostIn (mappingOf rows (rowOf several offset)) offset size)
 
--- (d) of a range that passed (b) and (c): the first block, the offset and the host address
+-- the change that passed (b) and (c), by (d): its first block, its offset and its host address
 unfoldable pub legalAt : (b offset : ℕ) → HostRange → Change
 legalAt b offset (At host) = Legal (blocksIn b offset) (record { 0 = offset }) host
 legalAt b offset CrossesBorder = NoHost CrossesBorder
 legalAt b offset Unmapped = NoHost Unmapped
 legalAt b offset SumPasses = NoHost SumPasses
 
--- "(c) ERROR if any block is already in the wanted state", then (d), of a range that passed (b)
+-- R10.5: test (c), then (d), of a range that passed (b)
 unfoldable pub changeIn : Range → (b : ℕ) (several : Bool) (count : ℕ) (wanted : Bool) → List Bool → List MapRow → Change
 changeIn (Inside offset) b several count wanted blocks rows =
     cond (allAre blocks (blocksIn b (offset .0)) count (not wanted))
@@ -70,16 +71,16 @@ changeIn (Inside offset) b several count wanted blocks rows =
     WrongState
 changeIn (NotInside part) b several count wanted blocks rows = Outside part
 
--- (b), (c), (d) in their order; `wanted` is true for a plug
+-- R10.2: (b), (c), (d) in their order; `wanted` is true for a plug
 abbrev pub changeOf : (b start usable : ℕ) (several : Bool) (addr count : ℕ) (wanted : Bool) → List Bool → List MapRow → Change
 changeOf b start usable several addr count wanted blocks rows =
     changeIn (rangeOf b start usable addr count) b several count wanted blocks rows
 
--- "all plugged 0, else all unplugged 1, else 2"; no block at all is 0
+-- R7.4, R10.16: all plugged, all unplugged, or mixed; no block at all is 0
 unfoldable pub stateIn : List Bool → ℕ
 stateIn blocks = cond (every true blocks) 0 (cond (every false blocks) 1 2)
 
--- "from block (address - start) / 4 MiB, over such blocks as exist"; "None there, or an address below start, or 0 blocks: 0"
+-- R10.16
 unfoldable pub stateOf : (b start region addr count : ℕ) → List Bool → ℕ
 stateOf b start region addr count blocks =
     cond (ltb addr start) 0 (stateIn (range (take (blocksIn b region) blocks) (blocksIn b (addr - start)) count))

@@ -20,9 +20,7 @@ ghost use Rattle.change.specs.declared.Range.the-variants.{Outside as No
 ghost use Rattle.change.specs.declared.Change.the-variants.{Outside};
 ghost use Rattle.change.specs.Change.{insideOf, rangeOf, hostSum, hostIn, hostOf, changeOf, stateIn, stateOf};
 
-const MAX: u64 = 18446744073709551615;
-
-// The parts of test (b), in their order: which of them a range failed first.
+// The parts of test (b) (R10.4), in their order: which of them a range failed first.
 pub enum Part {
     Alignment,
     ZeroBlocks,
@@ -38,7 +36,7 @@ pub enum Range {
     Outside(Part),
 }
 
-// Where the host has a range, or which part of test (d) it failed first.
+// Where the host has a range, or which part of test (d) (R10.6) it failed first.
 pub enum HostRange {
     At(HostAddr),
     CrossesBorder,
@@ -46,7 +44,8 @@ pub enum HostRange {
     SumPasses,
 }
 
-// A legal change with its first block, its offset and its host address, or which of the tests (b), (c), (d) it failed first.
+// A legal change with its first block, its offset and its host address, or the first of the tests (b), (c), (d) that it
+// failed.
 pub enum Change {
     Legal(u64, RegionOffset, HostAddr),
     Outside(Part),
@@ -87,7 +86,7 @@ pub fn range_of(
     if nb_blocks == 0 {
         return Range::Outside(Part::ZeroBlocks);
     }
-    if !product_within(nb_blocks as u64, block_size, MAX - addr.0) {
+    if !product_within(nb_blocks as u64, block_size, u64::MAX - addr.0) {
         return Range::Outside(Part::Overflow);
     }
     inside_of(start, usable, addr, nb_blocks as u64 * block_size)
@@ -107,11 +106,11 @@ fn outside(range: Range) -> Change
 fn host_sum(host: HostAddr, offset: RegionOffset, size: u64) -> HostRange
     ensures { λ r. ⌜ r ≡ hostSum (host .0) (offset .0) size ⌝ }
 {
-    if !sum_within(host.0, offset.0, MAX) {
+    if !sum_within(host.0, offset.0, u64::MAX) {
         return HostRange::SumPasses;
     }
     let at = offset.host_from(host);
-    if !sum_within(at.0, size, MAX) {
+    if !sum_within(at.0, size, u64::MAX) {
         return HostRange::SumPasses;
     }
     HostRange::At(at)
@@ -141,7 +140,7 @@ pub fn host_of(several: bool, table: &[u64], offset: RegionOffset, size: u64) ->
     host_in(mapping_of(table, offset.map_region()), within, size)
 }
 
-// The tests (b), (c) and (d) of a plug, or of an unplug.
+// The tests (b), (c) and (d) of a plug, or of an unplug (R10.2).
 pub fn change_of(
     start: GuestAddr,
     usable: u64,
@@ -153,7 +152,8 @@ pub fn change_of(
     bitmap: &[u8],
     table: &[u64],
 ) -> Change
-    ensures { λ r. ⌜ r ≡ changeOf «block_size» (start .0) usable several (addr .0) «nb_blocks» plug (blocks (now (bitmap .entry))) (rowsOf (now (table .entry))) ⌝ }
+    ensures { λ r. ⌜ r ≡ changeOf «block_size» (start .0) usable several (addr .0) «nb_blocks» plug
+        (blocks (now (bitmap .entry))) (rowsOf (now (table .entry))) ⌝ }
 {
     let range = range_of(start, usable, block_size, addr, nb_blocks);
     let Range::Inside(offset) = range else {
@@ -170,7 +170,7 @@ pub fn change_of(
     Change::Legal(first, offset, at)
 }
 
-// The state of blocks: plugged 0, unplugged 1, mixed 2.
+// The state of blocks: plugged 0, unplugged 1, mixed 2 (R7.4).
 fn state_in(bitmap: &[u8], first: usize, count: usize) -> u16
     ensures { λ r. ⌜ r ≡ stateIn (range (blocks (now (bitmap .entry))) first count) ⌝ }
 {
@@ -183,7 +183,7 @@ fn state_in(bitmap: &[u8], first: usize, count: usize) -> u16
     2
 }
 
-// The state of a range, over such blocks as the region has.
+// The state of a range, over such blocks as the region has (R10.16).
 pub fn state_of(
     start: GuestAddr,
     region: u64,

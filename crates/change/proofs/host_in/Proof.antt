@@ -1,3 +1,4 @@
+-- SPDX-License-Identifier: Apache-2.0 AND BSD-3-Clause
 -- `change::host_in` meets its contract.
 use Rattle.change.specs.Change.{hostIn}
 use borrow.Author.Needs.{needs}

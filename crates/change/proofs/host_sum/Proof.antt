@@ -1,3 +1,4 @@
+-- SPDX-License-Identifier: Apache-2.0 AND BSD-3-Clause
 -- `change::host_sum` meets its contract: a sum that passes 2^64 - 1 before the size is added passes it after.
 use Prim.Native.Nat.{_+_}
 use native.Mathlib.Omega.{arith}

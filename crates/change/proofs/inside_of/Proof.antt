@@ -1,3 +1,4 @@
+-- SPDX-License-Identifier: Apache-2.0 AND BSD-3-Clause
 -- `change::inside_of` meets its contract: from `start` on, a test of the offset is the same test of the address.
 use Prim.Native.Nat.{_+_}
 use native.Mathlib.Omega.{arith}

@@ -1,3 +1,4 @@
+-- SPDX-License-Identifier: Apache-2.0 AND BSD-3-Clause
 -- `change::state_in` meets its contract.
 use Rattle.units.proofs.Tests.{flag}
 use Rattle.change.specs.Change.{stateIn}

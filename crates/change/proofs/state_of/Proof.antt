@@ -1,3 +1,4 @@
+-- SPDX-License-Identifier: Apache-2.0 AND BSD-3-Clause
 -- `change::state_of` meets its contract: the blocks that exist are those before the region's count, so the count is cut there.
 use native.Mathlib.Omega.{arith}
 use mathlib.Core.Path.{sym}

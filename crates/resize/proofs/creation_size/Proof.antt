@@ -1,3 +1,4 @@
+-- SPDX-License-Identifier: Apache-2.0 AND BSD-3-Clause
 -- `resize::creation_size` meets its contract: no row from i to last starts past the region's end, so nothing passes the region's size.
 use mathlib.Core.Path.{sym, _∙_}
 use native.Mathlib.Omega.{arith}

@@ -1,3 +1,4 @@
+-- SPDX-License-Identifier: Apache-2.0 AND BSD-3-Clause
 -- `resize::growth_of` meets its contract: each return is one leaf of `growthOf`.
 use mathlib.Core.Path.{_≡_}
 use mathlib.Core.Bool.{true}
@@ -21,11 +22,11 @@ returns-2 c =
     let a = c .before .before .before .args in
     simp (not-false (a .several) (c .before .if1 .left), le-ltb (a .usable) (a .new) (c .if2 .taken))
 
-row-of-requires : tie.Need-row-of-requires
-row-of-requires c κs = search needs
+end-row-requires : tie.Need-end-row-requires
+end-row-requires c κs = search needs
 
-row-of-requires-2 : tie.Need-row-of-requires-2
-row-of-requires-2 c κs = search needs
+end-row-requires-2 : tie.Need-end-row-requires-2
+end-row-requires-2 c κs = search needs
 
 first-unmapped-requires : tie.Need-first-unmapped-requires
 first-unmapped-requires c κs = search needs
@@ -41,7 +42,7 @@ unfolding growthOf growthAt
 returns-3 c =
     let a = c .before .before .before .before .before .before .before .before .args in
     let found : firstUnmapped (rowsOf (a .table .now)) (endRow (a .region) true (a .usable)) (endRow (a .region) true (a .new)) ≡ NoneLeft =
-    cc (c .before .before .first-unmapped .ensures, c .before .before .before .row-of2 .ensures, c .before .before .before .before .row-of .ensures, c .enum-told .given .1) in
+    cc (c .before .before .first-unmapped .ensures, c .before .before .before .end-row2 .ensures, c .before .before .before .before .end-row .ensures, c .enum-told .given .1) in
     simp (not-false (a .several) (c .before .before .before .before .before .before .if1 .left), lt-ltb (a .usable) (a .new) (c .before .before .before .before .before .if2 .left), found)
 
 creation-size-requires : tie.Need-creation-size-requires
@@ -49,9 +50,9 @@ creation-size-requires c κs =
     let a = c .before .before .before .before .before .before .before .before .before .args in
     let i = c .before .i .given .0 .0 in
     let found : firstUnmapped (rowsOf (a .table .now)) (endRow (a .region) true (a .usable)) (endRow (a .region) true (a .new)) ≡ Row i =
-    cc (c .before .before .before .first-unmapped .ensures, c .before .before .before .before .row-of2 .ensures, c .before .before .before .before .before .row-of .ensures, c .before .i .given .1) in
+    cc (c .before .before .before .first-unmapped .ensures, c .before .before .before .before .end-row2 .ensures, c .before .before .before .before .before .end-row .ensures, c .before .i .given .1) in
     let lies = first-found (rowsOf (a .table .now)) (endRow (a .region) true (a .usable)) (endRow (a .region) true (a .new)) i found in
-    (rw (c .before .before .before .before .before .row-of .ensures) (lies .to), rw (c .before .before .before .before .before .row-of .ensures) (omega arith))
+    (rw (c .before .before .before .before .before .end-row .ensures) (lies .to), rw (c .before .before .before .before .before .end-row .ensures) (omega arith))
 
 returns-4 : tie.Need-returns-4
 unfolding growthOf growthAt
@@ -59,8 +60,8 @@ returns-4 c =
     let a = c .before .before .before .before .before .before .before .before .before .before .args in
     let i = c .before .before .i .given .0 .0 in
     let found : firstUnmapped (rowsOf (a .table .now)) (endRow (a .region) true (a .usable)) (endRow (a .region) true (a .new)) ≡ Row i =
-    cc (c .before .before .before .before .first-unmapped .ensures, c .before .before .before .before .before .row-of2 .ensures, c .before .before .before .before .before .before .row-of .ensures, c .before .before .i .given .1) in
-    simp (not-false (a .several) (c .before .before .before .before .before .before .before .before .if1 .left), lt-ltb (a .usable) (a .new) (c .before .before .before .before .before .before .before .if2 .left), found, c .creation-size .ensures, c .before .before .before .before .before .before .row-of .ensures)
+    cc (c .before .before .before .before .first-unmapped .ensures, c .before .before .before .before .before .end-row2 .ensures, c .before .before .before .before .before .before .end-row .ensures, c .before .before .i .given .1) in
+    simp (not-false (a .several) (c .before .before .before .before .before .before .before .before .if1 .left), lt-ltb (a .usable) (a .new) (c .before .before .before .before .before .before .before .if2 .left), found, c .creation-size .ensures, c .before .before .before .before .before .before .end-row .ensures)
 
 pub growth-of-spec : {M : Type 1} → statement M
 growth-of-spec =
@@ -68,8 +69,8 @@ growth-of-spec =
     (tie.spec
     returns
     returns-2
-    row-of-requires
-    row-of-requires-2
+    end-row-requires
+    end-row-requires-2
     first-unmapped-requires
     enum-known-i
     enum-told
