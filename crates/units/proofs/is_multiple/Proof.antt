@@ -1,3 +1,5 @@
+-- SPDX-License-Identifier: Apache-2.0 AND BSD-3-Clause
+-- `units::is_multiple` meets its contract: only 0 leaves no remainder by 0.
 use native.Mathlib.Nat.{mod-zero}
 use borrow.Author.Needs.{needs}
 use Rattle.units.proofs.is_multiple.Statement.{statement}

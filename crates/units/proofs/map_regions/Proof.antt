@@ -1,3 +1,4 @@
+-- SPDX-License-Identifier: Apache-2.0 AND BSD-3-Clause
 -- `units::map_regions` meets its contract: the quotient is rounded up exactly if a remainder is left.
 use native.Mathlib.Omega.{arith}
 use borrow.Author.Needs.{needs}

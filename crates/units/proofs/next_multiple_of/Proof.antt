@@ -1,3 +1,4 @@
+-- SPDX-License-Identifier: Apache-2.0 AND BSD-3-Clause
 -- `units::next_multiple_of` meets its contract: a multiple stays, and anything else goes to the next multiple.
 use Prim.Native.Nat.{_<_, _%_}
 use native.Mathlib.Nat.{mod-lt}

@@ -1,3 +1,4 @@
+-- SPDX-License-Identifier: Apache-2.0 AND BSD-3-Clause
 -- `units::product_within` meets its contract: two numbers below 2^32 have a product that fits, and otherwise a product is within a limit
 -- exactly if one factor is within the limit over the other.
 use Prim.Native.Nat.{ℕ, _*_, _/_, _<_, _≤_}

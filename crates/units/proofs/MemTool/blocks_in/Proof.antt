@@ -1,3 +1,4 @@
+-- SPDX-License-Identifier: Apache-2.0 AND BSD-3-Clause
 -- `units::MemTool::blocks_in` meets its contract: a size over 0 is 0.
 use mathlib.Core.Path.{sym}
 use native.Mathlib.Nat.{div-zero}
