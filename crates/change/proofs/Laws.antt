@@ -215,7 +215,7 @@ module _ (b start usable : ℕ) (several : Bool) (addr count : ℕ) (wanted : Bo
   pub change-same : changeOf b start usable several addr count wanted bs rs ≡ changeOf b start usable several addr count wanted cs ss
   change-same = same-in (rangeOf b start usable addr count) refl
 
--- ---- the state of a range: "None there, or an address below start, or 0 blocks: 0"
+-- ---- the state of a range without blocks (R10.16)
 module _ (b start region addr count : ℕ) (bs : List Bool) where
   pub state-empty : range (take (blocksIn b region) bs) (blocksIn b (addr - start)) count ≡ [] → stateOf b start region addr count bs ≡ 0
   unfolding stateOf stateIn every

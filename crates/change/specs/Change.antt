@@ -80,7 +80,7 @@ changeOf b start usable several addr count wanted blocks rows =
 unfoldable pub stateIn : List Bool → ℕ
 stateIn blocks = cond (every true blocks) 0 (cond (every false blocks) 1 2)
 
--- R10.16
+-- R10.16. That it is 0 where there are no blocks is proved: `state-none-there`, `state-below-start`, `state-no-blocks`
 unfoldable pub stateOf : (b start region addr count : ℕ) → List Bool → ℕ
 stateOf b start region addr count blocks =
     cond (ltb addr start) 0 (stateIn (range (take (blocksIn b region) blocks) (blocksIn b (addr - start)) count))

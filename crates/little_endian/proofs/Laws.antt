@@ -78,12 +78,6 @@ put-halves xs at a b v e f =
     let n : length (littleEndian a v) ≡ a = length-littleEndian a v in
     rw (littleEndian-append a b v, put-append, n, ← e) f
 
--- the bytes before the place stay
-pub take-put : (n : ℕ) (xs : List ℕ) (at : ℕ) (ys : List ℕ) → n ≤ at → take n (put xs at ys) ≡ take n xs
-unfolding put
-take-put n xs at [] h = refl
-take-put n xs at (y ∷ ys) h = take-put n (set xs at y) (suc at) ys (omega arith) ∙ take-set-le n xs at y h
-
 -- the bytes behind what is written stay
 pub drop-put : (n : ℕ) (xs : List ℕ) (at : ℕ) (ys : List ℕ) → at + length ys ≤ n → drop n (put xs at ys) ≡ drop n xs
 unfolding put

@@ -16,7 +16,7 @@ use Rattle.record.specs.declared.Pending.{Pending}
 use Rattle.record.specs.declared.Pending.the-variants.{Nothing, Create, Discard, DiscardOne}
 use Rattle.record.specs.Shape.{alignmentOk, regionOk, sizeOk, spanOf, startOk, severalOk, pendingOk, shapedOf, ofConfig, configShapedOf, isIdle}
 use Rattle.record.specs.Tests.{blocksOk, insideOk, restOk}
-use Rattle.record.specs.Changes.{configWith, deviceWith, pendingTo, placedTo, startTo, usableTo, pluggedTo, requestedTo}
+use Rattle.record.specs.Changes.{configWith, deviceWith, pendingTo, startTo, pluggedTo, requestedTo}
 
 -- ---- the five alignments
 -- one case of a list of numbers that a can be
@@ -359,12 +359,6 @@ module _ (d : Device) (e : shapedOf d ≡ true) where
       whole (deviceWith d (configWith (d .config) start usable plugged requested) placed p)
       (record { block = o .block; region = o .region; requested = q; usable = u; plugged = g; start = s; several = o .several; pending = t })
 
-  pub placed-keeps : (b : Bool) → shapedOf (placedTo b d) ≡ true
-  placed-keeps b =
-      let c = d .config in
-      let o = parts d e in
-      changed-keeps (c .addr .0) (c .«usable_region_size») (c .«plugged_size») (c .«requested_size») b (d .pending) (o .start) (o .usable) (o .plugged) (o .requested) (o .pending)
-
   pub start-keeps : (start : ℕ) → startOk start (d .config .«region_size») (d .several) (d .alignment) ≡ true → shapedOf (startTo start d) ≡ true
   start-keeps start s =
       let c = d .config in
@@ -380,12 +374,6 @@ module _ (d : Device) (e : shapedOf d ≡ true) where
         let c = d .config in
         let o = parts d e in
         changed-keeps (c .addr .0) (c .«usable_region_size») (c .«plugged_size») n (d .placed) (d .pending) (o .start) (o .usable) (o .plugged) fits-region (o .pending)
-
-    pub usable-keeps : shapedOf (usableTo n d) ≡ true
-    usable-keeps =
-        let c = d .config in
-        let o = parts d e in
-        changed-keeps (c .addr .0) n (c .«plugged_size») (c .«requested_size») (d .placed) (d .pending) (o .start) fits-region (o .plugged) (o .requested) (o .pending)
 
     -- a pending unplug must still fit
     pub plugged-keeps : pendingOk (d .pending) (d .config .«block_size») (d .config .«region_size») (d .several) n ≡ true → shapedOf (pluggedTo n d) ≡ true

@@ -31,7 +31,7 @@ new-whole b region requested alignment =
     by-test (eqb requested 0) (λ t. rw t (zero-mod b))
     (λ t. rw t (mul-mod-left (min region (requested + 2 * alignment) / b) b))
 
--- of whole blocks it is exact: "the smaller of the region and requested + 2 x alignment"
+-- of whole blocks it is exact: nothing is rounded (R6.1)
 pub new-exact : (b region requested alignment : ℕ) → 0 < requested → min region (requested + 2 * alignment) % b ≡ 0 → newSize b region requested alignment ≡ min region (requested + 2 * alignment)
 unfolding newSize
 new-exact b region requested alignment h e =

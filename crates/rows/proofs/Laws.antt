@@ -1,20 +1,20 @@
 -- SPDX-License-Identifier: Apache-2.0 AND BSD-3-Clause
 -- The laws of `specs/Rows.antt` that a caller cites. All are on lists of rows, and none speaks of words.
 use Prim.Native.Nat.{ℕ, zero, suc, _+_, _-_, _*_, _≤_, _<_, min}
-use mathlib.Core.Path.{_≡_, refl, ap, _∙_}
+use mathlib.Core.Path.{_≡_, refl, ap}
 use mathlib.Core.Bool.{true, false}
 use mathlib.Core.List.{List, [], _∷_}
 use native.Mathlib.Omega.{arith}
 use lib.Dec.{eqb}
 use lib.ListN.{length, getD, take, drop, length-take, length-drop}
-use lib.Seq.{take-nil, drop-nil, getD-take, getD-drop}
+use lib.Seq.{getD-take, getD-drop}
 use borrow.Author.Tests.{eq-eqb, ne-eqb, eqb-true, eqb-false}
-use Rattle.units.specs.Numbers.{top, saturated, mapRegion}
+use Rattle.units.specs.Numbers.{mapRegion}
 use Rattle.units.proofs.Tests.{by-test}
 use Rattle.rows.specs.declared.FirstUnmapped.the-variants.{Row, NoneLeft}
 use Rattle.rows.specs.declared.Mapping.the-variants.{At, Unmapped}
 use Rattle.rows.specs.declared.MapRow.{MapRow}
-use Rattle.rows.specs.Rows.{rowAt, mappingOf, unmappedFrom, firstUnmapped, mappedAt, fillRows, rowsFilled, rowsLaid}
+use Rattle.rows.specs.Rows.{rowAt, mappingOf, unmappedFrom, firstUnmapped, mappedAt, fillRows, rowsLaid}
 
 -- ---- where a row is mapped: its two cases
 module _ (rs : List MapRow) (i : ℕ) where
@@ -141,21 +141,6 @@ fill-after (r ∷ rs) zero zero h j k = refl
 fill-after (r ∷ rs) zero (suc n) h zero k = absurd (omega arith)
 fill-after (r ∷ rs) zero (suc n) h (suc j) k = fill-after rs zero n (h + mapRegion) j (omega arith)
 
--- where a filled row is mapped, if no sum passes 2^64 - 1
-pub fill-mapping : (rs : List MapRow) (i last h j : ℕ) → i ≤ j → j ≤ last → j < length rs → h + (j - i) * mapRegion ≤ top → mappingOf (rowsFilled rs i last h) j ≡ At (record { 0 = h + (j - i) * mapRegion })
-fill-mapping rs i last h j p q l t =
-    let e = fill-inside rs i (last + 1 - i) h j p (omega arith) l in
-    let m : saturated (h + (j - i) * mapRegion) ≡ h + (j - i) * mapRegion = omega arith in
-    mapping-at (rowsFilled rs i last h) j (λ z. omega (arith, ap (λ r. r .mapped) e)) ∙ rw (e, m)
-
--- nothing is left unmapped where rows were filled
-pub fill-maps-all : (rs : List MapRow) (i n h k : ℕ) → unmappedFrom k (take n (drop i (fillRows rs i n h))) ≡ NoneLeft
-unfolding fillRows unmappedFrom
-fill-maps-all [] i n h k = rw (drop-nil i, take-nil n)
-fill-maps-all (r ∷ rs) (suc i) n h k = fill-maps-all rs i n h k
-fill-maps-all (r ∷ rs) zero zero h k = refl
-fill-maps-all (r ∷ rs) zero (suc n) h k = fill-maps-all rs zero n (h + mapRegion) (suc k)
-
 -- ---- laying
 pub laid-length : (rs : List MapRow) (ss : List ℕ) → length (rowsLaid rs ss) ≡ length rs
 unfolding rowsLaid
@@ -169,10 +154,3 @@ laid-inside [] ss j l k = absurd (omega arith)
 laid-inside (r ∷ rs) [] j l k = absurd (omega arith)
 laid-inside (r ∷ rs) (s ∷ ss) zero l k = refl
 laid-inside (r ∷ rs) (s ∷ ss) (suc j) l k = laid-inside rs ss j (omega arith) (omega arith)
-
-pub laid-past : (rs : List MapRow) (ss : List ℕ) (j : ℕ) → length ss ≤ j → rowAt (rowsLaid rs ss) j ≡ rowAt rs j
-unfolding rowsLaid
-laid-past [] ss j k = refl
-laid-past (r ∷ rs) [] j k = refl
-laid-past (r ∷ rs) (s ∷ ss) zero k = absurd (omega arith)
-laid-past (r ∷ rs) (s ∷ ss) (suc j) k = laid-past rs ss j (omega arith)

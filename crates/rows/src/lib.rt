@@ -5,7 +5,8 @@ use units::RegionOffset;
 ghost use mathlib.Core.Path.{_≡_};
 ghost use Prim.Native.Nat.{_+_, min};
 ghost use lib.ListN.{length, set};
-ghost use Rattle.rows.specs.Rows.{rowsIn, rowsOf, written, rowAt, mappingOf, firstUnmapped, filledTable, laidTable};
+ghost use Rattle.rows.specs.Rows.{rowsIn, rowsOf, written, filledTable, laidTable};
+ghost use Rattle.rows.specs.Rows.{rowAt, mappingOf, firstUnmapped};
 
 // A row's three words (R8.3). Mapped is 0 for no and anything else for yes.
 pub struct MapRow {

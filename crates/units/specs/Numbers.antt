@@ -38,7 +38,7 @@ mapRegion = 2 * GiB
 unfoldable pub mapRegions : (region : ℕ) (several : Bool) → ℕ
 mapRegions region several = cond several ((region + (mapRegion - 1)) / mapRegion) 1
 
--- the exponent of the largest power of two that divides n
+-- the exponent of the largest power of two that divides n (`twos-divides`, `twos-largest`)
 unfoldable pub twos : ℕ → ℕ
 twos n = trailingZeros 64 n
 

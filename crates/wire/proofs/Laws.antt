@@ -1,18 +1,15 @@
 -- SPDX-License-Identifier: Apache-2.0 AND BSD-3-Clause
 -- Laws on the three layouts.
-use Prim.Native.Nat.{ℕ, zero, suc, _+_, _≤_, _<_}
-use mathlib.Core.Path.{_≡_, refl, ap, _∙_}
+use Prim.Native.Nat.{ℕ, zero, suc, _+_, _<_}
+use mathlib.Core.Path.{_≡_, refl}
 use mathlib.Core.List.{List}
 use native.Mathlib.Omega.{arith}
-use lib.ListN.{length, getD}
-use Rattle.little_endian.specs.Bytes.{value, littleEndian, part, put}
-use Rattle.little_endian.proofs.Laws.{value-fits, part-part, part-put-inside}
+use lib.ListN.{length}
+use Rattle.little_endian.specs.Bytes.{littleEndian, part, put}
+use Rattle.little_endian.proofs.Laws.{part-part}
 use Rattle.wire.specs.declared.VirtioMemResp.{VirtioMemResp}
 use Rattle.wire.specs.declared.VirtioMemConfig.{VirtioMemConfig}
-use Rattle.wire.specs.declared.Field.{Field}
 use Rattle.wire.specs.Layout.{requestAt, responseBytes, configFields, configValues, fieldsLaid, configBytes}
-
--- ---- the three layouts
 
 -- a request is its 24 bytes and nothing else
 pub request-part : (xs : List ℕ) (at : ℕ) → requestAt xs at ≡ requestAt (part xs at 24) 0
@@ -27,30 +24,6 @@ request-part xs at =
 pub length-response : (r : VirtioMemResp) → length (responseBytes r) ≡ 10
 unfolding responseBytes littleEndian
 length-response r = refl
-
-first : (r : VirtioMemResp) → part (responseBytes r) 0 2 ≡ littleEndian 2 (r .«resp_type»)
-unfolding part responseBytes littleEndian
-first r = refl
-
-last : (r : VirtioMemResp) → part (responseBytes r) 8 2 ≡ littleEndian 2 (r .state)
-unfolding part responseBytes littleEndian
-last r = refl
-
--- the guest reads back the type and the state that were written
-pub response-type : (xs : List ℕ) (at : ℕ) (r : VirtioMemResp) → at + 10 ≤ length xs → r .«resp_type» < 65536
-    → value (part (put xs at (responseBytes r)) at 2) ≡ r .«resp_type»
-response-type xs at r h t =
-    let z : at + 0 ≡ at = omega arith in
-    let e : part (put xs at (responseBytes r)) (at + 0) 2 ≡ part (responseBytes r) 0 2 =
-    part-put-inside xs at (responseBytes r) 0 2 (rw length-response h) (rw length-response (omega arith)) in
-    ap value (rw z at e ∙ first r) ∙ value-fits 2 (r .«resp_type») t
-
-pub response-state : (xs : List ℕ) (at : ℕ) (r : VirtioMemResp) → at + 10 ≤ length xs → r .state < 65536
-    → value (part (put xs at (responseBytes r)) (at + 8) 2) ≡ r .state
-response-state xs at r h t =
-    let e : part (put xs at (responseBytes r)) (at + 8) 2 ≡ part (responseBytes r) 8 2 =
-    part-put-inside xs at (responseBytes r) 8 2 (rw length-response h) (rw length-response (omega arith)) in
-    ap value (e ∙ last r) ∙ value-fits 2 (r .state) t
 
 pub length-config : (c : VirtioMemConfig) → length (configBytes c) ≡ 56
 unfolding configBytes fieldsLaid put littleEndian configFields configValues
@@ -67,12 +40,3 @@ eight P p₀ p₁ p₂ p₃ p₄ p₅ p₆ p₇ (suc (suc (suc (suc (suc zero)))
 eight P p₀ p₁ p₂ p₃ p₄ p₅ p₆ p₇ (suc (suc (suc (suc (suc (suc zero)))))) h = p₆
 eight P p₀ p₁ p₂ p₃ p₄ p₅ p₆ p₇ (suc (suc (suc (suc (suc (suc (suc zero))))))) h = p₇
 eight P p₀ p₁ p₂ p₃ p₄ p₅ p₆ p₇ (suc (suc (suc (suc (suc (suc (suc (suc k)))))))) h = absurd (omega arith)
-
--- each field of the table holds its value
-pub config-field : (c : VirtioMemConfig) (k : ℕ) (d : Field) → k < 8
-    → part (configBytes c) (getD configFields k d .0) (getD configFields k d .1)
-    ≡ littleEndian (getD configFields k d .1) (getD (configValues c) k 0)
-unfolding configBytes fieldsLaid put part littleEndian configFields configValues
-config-field c k d =
-    eight (λ k. part (configBytes c) (getD configFields k d .0) (getD configFields k d .1) ≡ littleEndian (getD configFields k d .1) (getD (configValues c) k 0))
-    refl refl refl refl refl refl refl refl k

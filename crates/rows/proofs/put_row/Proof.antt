@@ -1,6 +1,6 @@
 -- SPDX-License-Identifier: Apache-2.0 AND BSD-3-Clause
 -- `rows::put_row` meets its contract: row i stands in the words 3i, 3i + 1 and 3i + 2.
-use Prim.Native.Nat.{_+_, _-_, _*_, _<_}
+use Prim.Native.Nat.{_+_, _*_, _<_}
 use mathlib.Core.Path.{sym, ap, _∙_}
 use native.Mathlib.Omega.{arith}
 use lib.ListN.{length, length-set}

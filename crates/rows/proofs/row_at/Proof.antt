@@ -1,6 +1,5 @@
 -- SPDX-License-Identifier: Apache-2.0 AND BSD-3-Clause
 -- `rows::row_at` meets its contract: row i stands in the words 3i, 3i + 1 and 3i + 2.
-use Prim.Native.Nat.{_-_}
 use mathlib.Core.Path.{sym}
 use native.Mathlib.Omega.{arith}
 use Rattle.rows.specs.Rows.{rowsOf}
