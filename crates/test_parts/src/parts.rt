@@ -1,5 +1,7 @@
 // SPDX-License-Identifier: Apache-2.0 AND BSD-3-Clause
-// Parts of a text, and what the rows of all files have in common.
+// Parts of a text, and the numbers of a row.
+use text::Number;
+use text::read_number;
 
 // The numbers of a row, in their order, and 0 where there are no more.
 pub type Row = [u64; 34];
@@ -34,4 +36,30 @@ pub fn front(s: &[u8], count: usize) -> &[u8] {
 
 pub fn narrow(n: u64) -> u16 {
     (n % 65536) as u16
+}
+
+// The numbers of a command, in their order, and 0 where there are no more. What stands between them is for the reader.
+pub fn numbers_of(s: &[u8]) -> Row {
+    let mut v = [0u64; 34];
+    let mut k: usize = 0;
+    let mut at = 0;
+    while at < s.len() {
+        match read_number(s, at) {
+            Number::At { value, next } => {
+                if next <= at {
+                    return v;
+                }
+                if 34 <= k {
+                    return v;
+                }
+                v[k] = value;
+                k += 1;
+                at = next;
+            }
+            Number::Bad => {
+                at += 1;
+            }
+        }
+    }
+    v
 }

@@ -1,12 +1,10 @@
 // SPDX-License-Identifier: Apache-2.0 AND BSD-3-Clause
 // texts.txt: the lines of a trace as they are read, and the answers as they are put.
 use super::parts::Row;
-use super::parts::byte_at;
 use super::parts::front;
 use super::parts::narrow;
 use forms::put_form;
 use forms::put_form_at;
-use forms::scan;
 use little_endian::copy;
 use little_endian::from;
 use std::num::wrapping_sub_usize;
@@ -39,57 +37,59 @@ fn line_of(command: &[u8]) -> [u8; 256] {
     line
 }
 
-fn put_first(out: &mut [u8], f: FirstLine) -> usize {
-    let node = f.node;
-    let multi = f.multi as u64;
+// A node's number, and one more than the largest for none.
+fn number_of(node: Node) -> u64 {
     match node {
-        Node::None => put_form(
-            out,
-            b"first # # # none # # #",
-            &[
-                f.capacity_mib,
-                f.requested_mib,
-                multi,
-                f.boot,
-                f.addr.0,
-                f.slot,
-            ],
-        ),
-        Node::Number(n) => put_form(
-            out,
-            b"first # # # # # # #",
-            &[
-                f.capacity_mib,
-                f.requested_mib,
-                multi,
-                n as u64,
-                f.boot,
-                f.addr.0,
-                f.slot,
-            ],
-        ),
+        Node::None => 65536,
+        Node::Number(n) => n as u64,
     }
 }
 
-fn put_later(out: &mut [u8], op: Op) -> usize {
+fn put_first(out: &mut [u8], f: FirstLine) -> usize {
+    let node = f.node;
+    let numbers = [
+        f.capacity_mib,
+        f.requested_mib,
+        f.multi as u64,
+        number_of(node),
+        f.boot,
+        f.addr.0,
+        f.slot,
+    ];
+    put_form(out, b"first # # # # # # #", &numbers)
+}
+
+// A later line: the letter of its kind, and its numbers.
+struct Later(u8, u64, u64);
+
+fn later_of(op: Op) -> Later {
     match op {
-        Op::Host { ok, addr } => put_form(out, b"host # #", &[ok as u64, addr.0]),
-        Op::Plug { addr, blocks } => put_form(out, b"plug # #", &[addr.0, blocks as u64]),
-        Op::Unplug { addr, blocks } => put_form(out, b"unplug # #", &[addr.0, blocks as u64]),
-        Op::State { addr, blocks } => put_form(out, b"state # #", &[addr.0, blocks as u64]),
-        Op::UnplugAll => put_form(out, b"unplug_all", &[0]),
-        Op::Size { mib } => put_form(out, b"size #", &[mib]),
+        Op::Host { ok, addr } => Later(b'h', ok as u64, addr.0),
+        Op::Plug { addr, blocks } => Later(b'p', addr.0, blocks as u64),
+        Op::Unplug { addr, blocks } => Later(b'u', addr.0, blocks as u64),
+        Op::State { addr, blocks } => Later(b's', addr.0, blocks as u64),
+        Op::UnplugAll => Later(b'a', 0, 0),
+        Op::Size { mib } => Later(b'm', mib, 0),
+    }
+}
+
+fn put_later(out: &mut [u8], later: Later) -> usize {
+    let to = text::put(out, 0, later.0);
+    put_form_at(out, to, b" # #", &[later.1, later.2])
+}
+
+fn put_line(out: &mut [u8], line: Line) -> usize {
+    match line {
+        Line::First(f) => put_first(out, f),
+        Line::Later(op) => put_later(out, later_of(op)),
+        Line::Bad => put_form(out, b"13", &[0]),
     }
 }
 
 fn read_line(out: &mut [u8], command: &[u8]) -> usize {
     let bytes = line_of(command);
-    let line = trace_text::read_line(front(&bytes, wrapping_sub_usize(command.len(), 5)));
-    match line {
-        Line::First(f) => put_first(out, f),
-        Line::Later(op) => put_later(out, op),
-        Line::Bad => put_form(out, b"13", &[0]),
-    }
+    let length = wrapping_sub_usize(command.len(), 5);
+    put_line(out, trace_text::read_line(front(&bytes, length)))
 }
 
 fn put(room: &mut [u8], kind: u8, v: Row) -> usize {
@@ -102,46 +102,14 @@ fn put(room: &mut [u8], kind: u8, v: Row) -> usize {
     }
 }
 
-// What stands in a room, and the length that is told.
-fn put_told(out: &mut [u8], bytes: [u8; 96], room: usize, n: usize) -> usize {
-    copy(out, front(&bytes, room));
-    put_form_at(out, room, b" #", &[n as u64])
-}
-
-fn put_answer(out: &mut [u8], kind: u8, v: Row) -> usize {
-    let mut dots = [b'.'; 96];
-    let room = v[0] as usize;
-    if 96 < room {
-        return 0;
-    }
-    let n = put(&mut dots[..room], kind, v);
-    put_told(out, dots, room, n)
-}
-
-// Whether a command is a call; its numbers go into `v`.
-fn is_call(command: &[u8], kind: u8, v: &mut [u64]) -> bool {
-    match kind {
-        b'c' => scan(command, b"create room=# guest=# size=# slot=#", v),
-        b'd' => scan(command, b"discard room=# offset=# size=# host=#", v),
-        b'g' => scan(
-            command,
-            b"guest room=# type=# state=# plugged=# usable=#",
-            v,
-        ),
-        b'r' => scan(command, b"refusal room=# number=#", v),
-        b's' => scan(command, b"sized room=# requested=# usable=#", v),
-        _ => false,
-    }
-}
-
-pub fn answer(out: &mut [u8], command: &[u8]) -> usize {
-    let mut v = [0u64; 34];
-    let kind = byte_at(command, 0);
+pub fn answer(out: &mut [u8], kind: u8, v: Row, command: &[u8]) -> usize {
     if kind == b'l' {
         return read_line(out, command);
     }
-    if !is_call(command, kind, &mut v) {
+    let room = v[0] as usize;
+    if out.len() < room {
         return 0;
     }
-    put_answer(out, kind, v)
+    let n = put(&mut out[..room], kind, v);
+    put_form_at(out, room, b" #", &[n as u64])
 }

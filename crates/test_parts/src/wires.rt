@@ -1,11 +1,9 @@
 // SPDX-License-Identifier: Apache-2.0 AND BSD-3-Clause
 // wire.txt: numbers, requests, responses and the config as bytes.
 use super::parts::Row;
-use super::parts::byte_at;
 use super::parts::front;
 use super::parts::narrow;
 use forms::put_form;
-use forms::scan;
 use units::GuestAddr;
 use wire::VirtioMemConfig;
 use wire::VirtioMemResp;
@@ -18,16 +16,16 @@ fn digit(n: u8) -> u8 {
     b'W' + n % 16
 }
 
-fn put_byte(out: &mut [u8], at: usize, b: u8) -> usize {
-    let next = text::put(out, at, digit(b / 16));
-    text::put(out, next, digit(b % 16))
-}
-
-fn put_bytes(out: &mut [u8], bytes: &[u8]) -> usize {
+fn put_bytes(out: &mut [u8], bytes: [u8; 64], count: usize) -> usize {
     let mut to = put_form(out, b"bytes=", &[0]);
-    let mut i = 0;
-    while i < bytes.len() {
-        to = put_byte(out, to, bytes[i]);
+    let mut i: usize = 0;
+    while i < 64 {
+        if count <= i {
+            return to;
+        }
+        let b = bytes[i];
+        to = text::put(out, to, digit(b / 16));
+        to = text::put(out, to, digit(b % 16));
         i += 1;
     }
     to
@@ -42,16 +40,6 @@ fn bytes_of(v: Row) -> [u8; 32] {
         i += 1;
     }
     bytes
-}
-
-fn field(out: &mut [u8], v: Row) -> usize {
-    let fields = wire::config_fields();
-    let k = v[0] as usize;
-    if k < 8 {
-        let f = fields[k];
-        return put_form(out, b"offset=# width=#", &[f.0 as u64, f.1 as u64]);
-    }
-    0
 }
 
 fn numbers(out: &mut [u8], lent: &[u8], at: usize) -> usize {
@@ -79,6 +67,12 @@ fn read(out: &mut [u8], kind: u8, v: Row) -> usize {
     request(out, lent, v[1] as usize)
 }
 
+fn field(out: &mut [u8], k: usize) -> usize {
+    let fields = wire::config_fields();
+    let f = fields[k % 8];
+    put_form(out, b"offset=# width=#", &[f.0 as u64, f.1 as u64])
+}
+
 fn write_number(bytes: &mut [u8], at: usize, width: u64, n: u64) {
     match width {
         2 => little_endian::write_u16(bytes, at, narrow(n)),
@@ -87,10 +81,10 @@ fn write_number(bytes: &mut [u8], at: usize, width: u64, n: u64) {
     }
 }
 
-fn write_response(bytes: &mut [u8], at: usize, resp_type: u64, state: u64) {
+fn write_response(bytes: &mut [u8], at: usize, resp_type: u16, state: u16) {
     let resp = VirtioMemResp {
-        resp_type: narrow(resp_type),
-        state: narrow(state),
+        resp_type: resp_type,
+        state: state,
     };
     wire::write_response(bytes, at, resp);
 }
@@ -108,21 +102,19 @@ fn counting() -> VirtioMemConfig {
     }
 }
 
-fn made(v: Row) -> VirtioMemConfig {
-    VirtioMemConfig::new(v[2], narrow(v[3]), v[4], v[5])
+fn config_of(kind: u8, v: Row) -> VirtioMemConfig {
+    if kind == b'm' {
+        return VirtioMemConfig::new(v[2], narrow(v[3]), v[4], v[5]);
+    }
+    counting()
 }
 
 fn write(bytes: &mut [u8], kind: u8, v: Row) {
     match kind {
-        b'c' => wire::read_config(counting(), v[1], bytes),
-        b'm' => wire::read_config(made(v), v[1], bytes),
-        b'p' => write_response(bytes, v[1] as usize, v[2], v[3]),
-        _ => write_number(bytes, v[1] as usize, v[2], v[3]),
+        b'p' => write_response(bytes, v[1] as usize, narrow(v[2]), narrow(v[3])),
+        b'w' => write_number(bytes, v[1] as usize, v[2], v[3]),
+        _ => wire::read_config(config_of(kind, v), v[1], bytes),
     }
-}
-
-fn put_front(out: &mut [u8], bytes: [u8; 64], count: usize) -> usize {
-    put_bytes(out, front(&bytes, count))
 }
 
 // What a call writes into so many bytes.
@@ -133,40 +125,14 @@ fn written(out: &mut [u8], kind: u8, v: Row) -> usize {
         return 0;
     }
     write(&mut bytes[..lent], kind, v);
-    put_front(out, bytes, lent)
+    put_bytes(out, bytes, lent)
 }
 
-// Whether a command is a call; its numbers go into `v`.
-fn is_call(command: &[u8], kind: u8, v: &mut [u64]) -> bool {
+pub fn answer(out: &mut [u8], kind: u8, v: Row) -> usize {
     match kind {
-        b'c' => scan(command, b"config lent=# offset=#", v),
-        b'f' => scan(command, b"field #", v),
-        b'm' => scan(
-            command,
-            b"made lent=# offset=# block=# node=# region=# requested=#",
-            v,
-        ),
-        b'n' => scan(command, b"numbers lent=# at=# of # # # # # # # # | #", v),
-        b'p' => scan(command, b"put lent=# at=# type=# state=#", v),
-        b'r' => scan(
-            command,
-            b"request lent=# at=# of # # # # # # # # | # # # # # # # # | # # # # # # # # | # # # # # # # #",
-            v,
-        ),
-        b'w' => scan(command, b"write lent=# at=# width=# value=#", v),
-        _ => false,
-    }
-}
-
-pub fn answer(out: &mut [u8], command: &[u8]) -> usize {
-    let mut v = [0u64; 34];
-    let kind = byte_at(command, 0);
-    if !is_call(command, kind, &mut v) {
-        return 0;
-    }
-    match kind {
-        b'f' => field(out, v),
+        b'f' => field(out, v[0] as usize),
         b'n' | b'r' => read(out, kind, v),
-        _ => written(out, kind, v),
+        b'c' | b'm' | b'p' | b'w' => written(out, kind, v),
+        _ => 0,
     }
 }

@@ -8,10 +8,10 @@ use Rattle.test_parts.proofs.wires.put_bytes.Statement.{statement}
 use Rattle.test_parts.proofs.wires.put_bytes.Tie as tie
 
 abbrev Inv-loop : tie.InvT-loop
-Inv-loop out₀ bytes to₀ i₀ out to i = length out ≡ length out₀
+Inv-loop out₀ count bytes to₀ i₀ out to i = length out ≡ length out₀
 
 abbrev μ-loop : tie.MeasureT-loop
-μ-loop out₀ bytes to₀ i₀ out to i = length bytes - i
+μ-loop out₀ count bytes to₀ i₀ out to i = 64 - i
 
 slice-aggregate-put-form : tie.Need-slice-aggregate-put-form Inv-loop μ-loop
 slice-aggregate-put-form c = search needs
@@ -25,11 +25,26 @@ put-form-requires c κs = search needs
 loop-holds : tie.Need-loop-holds Inv-loop μ-loop
 loop-holds c = search needs
 
-shared-slice-read-put-byte : tie.Need-shared-slice-read-put-byte Inv-loop μ-loop
-shared-slice-read-put-byte c = search needs
+same-length : tie.Need-same-length Inv-loop μ-loop
+same-length c = search needs
 
-put-byte-requires : tie.Need-put-byte-requires Inv-loop μ-loop
-put-byte-requires c κs = search needs
+returns : tie.Need-returns Inv-loop μ-loop
+returns c = search needs
+
+array-read-b : tie.Need-array-read-b Inv-loop μ-loop
+array-read-b c = search needs
+
+digit-requires : tie.Need-digit-requires Inv-loop μ-loop
+digit-requires c κs = search needs
+
+put-requires : tie.Need-put-requires Inv-loop μ-loop
+put-requires c κs = search needs
+
+digit-requires-2 : tie.Need-digit-requires-2 Inv-loop μ-loop
+digit-requires-2 c κs = search needs
+
+put-requires-2 : tie.Need-put-requires-2 Inv-loop μ-loop
+put-requires-2 c κs = search needs
 
 add-i : tie.Need-add-i Inv-loop μ-loop
 add-i c = search needs
@@ -40,11 +55,11 @@ loop-less c = search needs
 loop-again : tie.Need-loop-again Inv-loop μ-loop
 loop-again c = search needs
 
-same-length : tie.Need-same-length Inv-loop μ-loop
-same-length c = search needs
+same-length-2 : tie.Need-same-length-2 Inv-loop μ-loop
+same-length-2 c = search needs
 
-returns : tie.Need-returns Inv-loop μ-loop
-returns c = search needs
+returns-2 : tie.Need-returns-2 Inv-loop μ-loop
+returns-2 c = search needs
 
 pub put-bytes-spec : {M : Type 1} → statement M
 put-bytes-spec =
@@ -56,10 +71,15 @@ put-bytes-spec =
     slice-aggregate-put-form-2
     put-form-requires
     loop-holds
-    shared-slice-read-put-byte
-    put-byte-requires
+    same-length
+    returns
+    array-read-b
+    digit-requires
+    put-requires
+    digit-requires-2
+    put-requires-2
     add-i
     loop-less
     loop-again
-    same-length
-    returns)
+    same-length-2
+    returns-2)

@@ -22,8 +22,8 @@ slice-aggregate-write c = sym (length-take-le _ _ (omega arith))
 write-requires : tie.Need-write-requires
 write-requires c κs = search needs
 
-put-front-requires : tie.Need-put-front-requires
-put-front-requires c κs = search needs
+put-bytes-requires : tie.Need-put-bytes-requires
+put-bytes-requires c κs = search needs
 
 same-length : tie.Need-same-length
 same-length c = search needs
@@ -40,6 +40,6 @@ written-spec =
     array-borrow-prefix-bytes
     slice-aggregate-write
     write-requires
-    put-front-requires
+    put-bytes-requires
     same-length
     returns-2)
