@@ -5,10 +5,10 @@ use save::BITMAP;
 use save::Fields;
 use save::Got;
 use save::Wrote;
-use save::blocks_in;
 use save::read;
 use save::shape_ok;
 use save::write;
+use units::MemTool;
 ghost use mathlib.Core.Path.{_≡_};
 ghost use mathlib.Core.Bool.{cond};
 ghost use mathlib.Core.List.{_++_};
@@ -74,7 +74,7 @@ pub fn to_new(f: Fields, old: &[u8], scratch: &mut [u8], out: &mut [u8]) -> Wrot
     if !shape_ok(f) {
         return Wrote::Refused(18);
     }
-    if old.len() as u64 != blocks_in(f.block, f.region) {
+    if old.len() as u64 != MemTool::blocks_in(f.region, f.block) {
         return Wrote::Refused(18);
     }
     if !is_old(old) {
@@ -93,7 +93,7 @@ pub fn to_old(s: &[u8], scratch: &mut [u8], old: &mut [u8]) -> Got
         Got::Refused(number) => Got::Refused(number),
         Got::Fields(fields) => {
             let f = fields;
-            unpack(&scratch[..], blocks_in(f.block, f.region) as usize, old);
+            unpack(&scratch[..], MemTool::blocks_in(f.region, f.block) as usize, old);
             Got::Fields(fields)
         }
     }

@@ -9,6 +9,7 @@ use borrow.Author.Tests.{eq-eqb}
 use lib.Dec.{eqb}
 use lib.ListN.{length, replicate}
 use Rattle.units.proofs.Tests.{refused}
+use Rattle.units.specs.Numbers.{blocksIn}
 use Rattle.bitmap.specs.Blocks.{ones, allAre}
 use Rattle.save.specs.declared.Fields.{Fields}
 use Rattle.runs.specs.declared.Counted.{Counted}
@@ -32,13 +33,12 @@ blocks-is : {m n : ℕ} → Blocks m ≡ Blocks n → m ≡ n
 blocks-is h = cc
 
 -- the state of runs
-made : (f : Fields) (end : ℕ) → shapeOk f ≡ true → end ≡ f .usable / 4194304 → (rs : List Run) → Apart 0 end rs → (l : List ℕ) → runsText rs ≡ l → f .plugged ≡ total rs * 4194304
+made : (f : Fields) (end : ℕ) → shapeOk f ≡ true → end ≡ usedOf f → (rs : List Run) → Apart 0 end rs → (l : List ℕ) → runsText rs ≡ l → f .plugged ≡ total rs * f .block
     → (bs : List Bool) × State f bs × (runsText (runsOf bs) ≡ l)
 unfolding validOf
 made f end s u rs a l t k =
     let all = allOf f in
     let h = shape-is f s .usable-in in
-    let b4 = shape-is f s .block-size in
     let ra = in-blocks f s (f .region) in
     let ua = in-blocks f s (f .usable) in
     let i : end ≤ all = omega arith in
@@ -52,10 +52,9 @@ made f end s u rs a l t k =
     let y : allAre (spread 0 end rs ++ replicate g false) end g false ≡ true = rw m at (past-clear g g (spread 0 end rs)) in
     let p : allAre (spread 0 all rs) end g false ≡ true = rw x y in
     let o = spread-ones 0 all rs in
-    let e : end ≡ usedOf f = u ∙ sym ua in
-    let q : eqb (f .plugged) (ones (spread 0 all rs) * f .block) ≡ true = rw (o, b4) (eq-eqb (f .plugged) (total rs * 4194304) k) in (
+    let q : eqb (f .plugged) (ones (spread 0 all rs) * f .block) ≡ true = rw o (eq-eqb (f .plugged) (total rs * f .block) k) in (
       spread 0 all rs,
-      record { all = n; valid = rw (s, ← e, p, q) },
+      record { all = n; valid = rw (s, ← u, p, q) },
       ap runsText (runs-spread 0 all rs b) ∙ t,
     )
 
@@ -67,17 +66,17 @@ pub laid-shape : (f : Fields) (l : List ℕ) (r : Bool) → r ≡ shapeOk f → 
 laid-shape f l r p q =
     (refl, λ bs st t. let a = refused (shapeOk f) r p q in let b = valid-shape st in let z : _≡_ {A = ℕ} 0 1 = cc in omega arith)
 
-module _ (f : Fields) (end : ℕ) (s : shapeOk f ≡ true) (u : end ≡ f .usable / 4194304) where
+module _ (f : Fields) (end : ℕ) (s : shapeOk f ≡ true) (u : end ≡ usedOf f) where
   pub end-few : end ≤ 262144
-  end-few = let h = shape-is f s in let a = h .usable-in in let b = h .region-top in omega arith
+  end-few = let h = shape-is f s in let a = h .usable-in in let b = h .region-top in let c = in-blocks f s (f .usable) in omega arith
 
   state-runs : (bs : List Bool) → State f bs → Apart 0 end (runsOf bs)
   state-runs bs st =
       let h = shape-is f s .usable-in in
       let a = st .all in
       let ra = in-blocks f s (f .region) in
-      let e : end ≡ usedOf f = u ∙ sym (in-blocks f s (f .usable)) in
-      let p : allAre bs end (length bs - end) false ≡ true = rw (a, e) (valid-past st) in
+      let ua = in-blocks f s (f .usable) in
+      let p : allAre bs end (length bs - end) false ≡ true = rw (a, u) (valid-past st) in
       runs-inside bs end (omega arith) p
 
   -- `end` as the code hands it on
@@ -88,7 +87,7 @@ module _ (f : Fields) (end : ℕ) (s : shapeOk f ≡ true) (u : end ≡ f .usabl
     pub laid-bad : w ≡ Bad → No f l
     laid-bad q = (refl, λ bs st t. bad-is (sym q ∙ counts .whole (runsOf bs) (state-runs bs st) t))
 
-    module _ (n plugged : ℕ) (q : w ≡ Blocks n) (v : plugged ≡ f .plugged / 4194304) where
+    module _ (n plugged : ℕ) (q : w ≡ Blocks n) (v : plugged ≡ blocksIn (f .block) (f .plugged)) where
       pub laid-other : (plugged ≡ n → ⊥) → No f l
       laid-other d = (
         refl,
@@ -96,6 +95,7 @@ module _ (f : Fields) (end : ℕ) (s : shapeOk f ≡ true) (u : end ≡ f .usabl
             let a : n ≡ 0 + total (runsOf bs) = blocks-is (sym q ∙ counts .whole (runsOf bs) (state-runs bs st) t) in
             let b = runs-ones bs in
             let k : f .plugged ≡ ones bs * 4194304 = rw (state-block st) at (valid-plugged st) in
+            let p = in-blocks f s (f .plugged) in
             d (omega arith),
       )
 
@@ -103,4 +103,4 @@ module _ (f : Fields) (end : ℕ) (s : shapeOk f ≡ true) (u : end ≡ f .usabl
       laid d = let o = counts .only n q in go (o .0) (o .1) (o .2) (o .3)
         where
           go : (rs : List Run) → Apart 0 end rs → runsText rs ≡ l → n ≡ 0 + total rs → (bs : List Bool) × State f bs × (runsText (runsOf bs) ≡ l)
-          go rs a t k = made f end s u rs a l t (let o = shape-is f s .plugged-blocks in omega arith)
+          go rs a t k = made f end s u rs a l t (rw (shape-is f s .block-size) (let o = shape-is f s .plugged-blocks in let p = in-blocks f s (f .plugged) in omega arith))

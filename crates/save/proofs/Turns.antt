@@ -57,39 +57,39 @@ module _ (f : Fields) (m : List ℕ) (r : Bool) (p : r ≡ shapeOk f) where
   unfolding validOf
   shape-bad q = let s = refused (shapeOk f) r p q in rw s
 
-  module _ (q : not r ≡ false) (all used : ℕ) (a : all ≡ f .region / 4194304) (u : used ≡ f .usable / 4194304) where
+  module _ (q : not r ≡ false) (all used : ℕ) (a : all ≡ allOf f) (u : used ≡ usedOf f) where
     good : shapeOk f ≡ true
     good = passed (shapeOk f) r p q
 
-    all-is : allOf f ≡ all
-    all-is = in-blocks f good (f .region) ∙ sym a
-
-    used-is : usedOf f ≡ used
-    used-is = in-blocks f good (f .usable) ∙ sym u
-
     pub used-in : used ≤ all
-    used-in = let h = shape-is f good .usable-in in omega arith
+    used-in =
+        let h = shape-is f good .usable-in in
+        let x = in-blocks f good (f .region) in
+        let y = in-blocks f good (f .usable) in
+        omega arith
 
     same-past : allAre (take all (blocks m)) used (all - used) false ≡ allAre (blocks m) used (all - used) false
     same-past = let h = used-in in ap (every false) (range-take all (blocks m) used (all - used) (omega arith))
 
-    valid-is : validIn f m ≡ (allAre (blocks m) used (all - used) false && eqb (f .plugged) (ones (take all (blocks m)) * 4194304))
+    valid-is : validIn f m ≡ (allAre (blocks m) used (all - used) false && eqb (f .plugged) (ones (take all (blocks m)) * f .block))
     unfolding validOf
-    valid-is = let b = shape-is f good .block-size in rw (good, all-is, used-is, same-past, b)
+    valid-is = rw (good, ← a, ← u, same-past)
 
     module _ (t : Bool) (w : t ≡ allAre (blocks m) used (all - used) false) where
       pub past-bad : not t ≡ true → false ≡ validIn f m
       past-bad o = let z = refused (allAre (blocks m) used (all - used) false) t w o in sym (valid-is ∙ rw z)
 
-      pub plugged-is : not t ≡ false → (set : ℕ) → set ≡ ones (range (blocks m) 0 all) → eqb (f .plugged) (set * 4194304) ≡ validIn f m
+      pub plugged-is : not t ≡ false → (set : ℕ) → set ≡ ones (range (blocks m) 0 all) → eqb (f .plugged) (set * f .block) ≡ validIn f m
       plugged-is o set e = let z = passed (allAre (blocks m) used (all - used) false) t w o in sym (valid-is ∙ rw (z, ← e))
 
-    pub set-few : (set : ℕ) → set ≡ ones (range (blocks m) 0 all) → set ≤ 262144
+    pub set-few : (set : ℕ) → set ≡ ones (range (blocks m) 0 all) → set * f .block ≤ 1099511627776
     set-few set o =
         let h = shape-is f good .region-top in
+        let b = in-blocks f good (f .region) in
         let x = ones-length (range (blocks m) 0 all) in
         let y = range-length (blocks m) 0 all in
-        omega arith
+        let few : set ≤ 262144 = omega arith in
+        rw (shape-is f good .block-size) (omega arith)
 
 -- ---- `head_length`
 
@@ -237,9 +237,6 @@ module _ (s : List ℕ) (f : Fields) (runs : ℕ) (a : Accepts s f runs) where
         };
       }
 
-  pub blocks-are : length (a .bs) ≡ f .region / 4194304
-  blocks-are = a .says .state .all ∙ in-blocks f (valid-shape (a .says .state)) (f .region)
-
   pub blocks-few : length (a .bs) ≤ 262144
   blocks-few = state-few (a .says .state)
 
@@ -275,12 +272,12 @@ module _ (short : Bool) (Fits : Fields → List Bool → Type 0) (s : List ℕ) 
         none = λ g cs t. let o = one-text s f g (a .bs) cs (a .says) (t .says) in unfit (rw (o .0, o .1) (t .fits));
       }
 
-module _ (s before mid after : List ℕ) (long : 32768 ≤ length before) (r : Checked) (h : Checks s r) (f : Fields) (n : ℕ) (e : r ≡ checked.State f n) (all : ℕ) (w : all ≡ f .region / 4194304) (most : ℕ) where
+module _ (s before mid after : List ℕ) (long : 32768 ≤ length before) (r : Checked) (h : Checks s r) (f : Fields) (n : ℕ) (e : r ≡ checked.State f n) (all : ℕ) (w : all ≡ allOf f) (most : ℕ) where
   there : Accepts s f n
   there = accepts-at s r h f n e
 
   blocks-of : all ≡ length (there .bs)
-  blocks-of = w ∙ sym (blocks-are s f n there)
+  blocks-of = w ∙ sym (there .says .state .all)
 
   pub read-large : most < all → NotTaken (noRoom before) (AtMost most) s 18
   read-large l = not-fitting (noRoom before) (AtMost most) s (le-ltb (length before) 32768 long) f n there (λ q. let k = blocks-of in omega arith)

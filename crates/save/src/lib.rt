@@ -14,7 +14,6 @@ ghost use mathlib.Core.Path.{_≡_};
 ghost use Prim.Native.Nat.{_+_, _/_};
 ghost use lib.Dec.{ltb};
 ghost use lib.ListN.{drop, length};
-ghost use Rattle.units.specs.Numbers.{blocksIn};
 ghost use Rattle.text.specs.Putting.{Put};
 ghost use Rattle.save.specs.Text.{shapeOk, headText};
 ghost use Rattle.save.specs.Writing.{blocksFor, isShort, validIn, lengthOf, Writes};
@@ -43,16 +42,6 @@ pub struct Fields {
 pub enum Wrote {
     Text(u64),
     Refused(u64),
-}
-
-// How many whole blocks a size holds, and 0 where a block has no size.
-pub fn blocks_in(block: u64, size: u64) -> u64
-    ensures { λ r. ⌜ r ≡ blocksIn block size ⌝ }
-{
-    if block == 0 {
-        return 0;
-    }
-    size / block
 }
 
 // Whether a bitmap of this length has not a bit for each of n blocks.
@@ -87,13 +76,13 @@ fn valid(f: Fields, bitmap: &[u8]) -> bool
     if !shape_ok(f) {
         return false;
     }
-    let all = MemTool::blocks_in(f.region);
-    let used = MemTool::blocks_in(f.usable);
+    let all = MemTool::blocks_in(f.region, f.block);
+    let used = MemTool::blocks_in(f.usable, f.block);
     if !bitmap::all_in_state(bitmap, used as usize, (all - used) as usize, false) {
         return false;
     }
     let set = bitmap::count_set(bitmap, 0, all as usize);
-    f.plugged == (set as u64) * MemTool::BLOCK_SIZE
+    f.plugged == (set as u64) * f.block
 }
 
 // Puts the head: the form's number and the fields.
@@ -121,7 +110,7 @@ fn head_length(f: Fields) -> u64
 pub fn text_length(f: Fields, bitmap: &[u8]) -> Wrote
     ensures { λ r. ⌜ r ≡ lengthOf f (now (bitmap .entry)) ⌝ }
 {
-    let all = blocks_in(f.block, f.region);
+    let all = MemTool::blocks_in(f.region, f.block);
     if is_short(bitmap.len(), all) {
         return Wrote::Refused(11);
     }
@@ -143,7 +132,7 @@ pub fn write(f: Fields, bitmap: &[u8], out: &mut [u8]) -> Wrote
                 return Wrote::Refused(18);
             }
             let to = put_head(out, f);
-            let all = blocks_in(f.block, f.region);
+            let all = MemTool::blocks_in(f.region, f.block);
             put_runs(out, to, bitmap, all as usize);
             Wrote::Text(n)
         }
@@ -163,11 +152,11 @@ fn runs_of(f: Fields, s: &[u8], at: usize) -> Checked
     if !shape_ok(f) {
         return Checked::Refused(18);
     }
-    let end = MemTool::blocks_in(f.usable);
+    let end = MemTool::blocks_in(f.usable, f.block);
     let Counted::Blocks(n) = count_runs(s, at, end as u32) else {
         return Checked::Refused(18);
     };
-    let plugged = MemTool::blocks_in(f.plugged);
+    let plugged = MemTool::blocks_in(f.plugged, f.block);
     if plugged != n {
         return Checked::Refused(18);
     }
@@ -255,7 +244,7 @@ pub fn read(s: &[u8], most: usize, bitmap: &mut [u8]) -> Got
         Checked::Refused(number) => Got::Refused(number),
         Checked::State { fields, runs } => {
             let f = fields;
-            let all = MemTool::blocks_in(f.region);
+            let all = MemTool::blocks_in(f.region, f.block);
             if (most as u64) < all {
                 return Got::Refused(18);
             }

@@ -171,7 +171,7 @@ fn run_wrong(seen: Seen, first: u64, count: u64) -> Found {
     if first < seen.from {
         return report(seen.line, TOUCHES, first, count);
     }
-    if !sum_within(first, count, MemTool::blocks_in(seen.v[5])) {
+    if !sum_within(first, count, MemTool::blocks_in(seen.v[5], MemTool::BLOCK_SIZE)) {
         return report(seen.line, PAST, first, count);
     }
     report(seen.line, NOTHING, first, count)
@@ -243,7 +243,7 @@ fn end_wrong(seen: Seen) -> Found {
     if seen.line <= 6 {
         return report(seen.line, ENDS, 0, 0);
     }
-    if MemTool::blocks_in(plugged) != seen.blocks {
+    if MemTool::blocks_in(plugged, MemTool::BLOCK_SIZE) != seen.blocks {
         return report(6, RUNS, plugged, seen.blocks);
     }
     report(seen.line, NOTHING, 0, 0)
@@ -316,11 +316,11 @@ fn byte_wrong(i: u64, b: u64, all: u64, used: u64) -> Found {
 
 // What the end of n old bytes lacks, of which so many are 1.
 fn bytes_wrong(n: u64, set: u64, f: Fields) -> Found {
-    let all = MemTool::blocks_in(f.region);
+    let all = MemTool::blocks_in(f.region, f.block);
     if n < all {
         return report(0, MISSING, n, all);
     }
-    if MemTool::blocks_in(f.plugged) != set {
+    if MemTool::blocks_in(f.plugged, f.block) != set {
         return report(0, BYTES, f.plugged, set);
     }
     report(0, NOTHING, 0, 0)
@@ -328,8 +328,8 @@ fn bytes_wrong(n: u64, set: u64, f: Fields) -> Found {
 
 // The first of old bytes at which they can no longer be those of a state with these fields.
 pub fn wrong_byte(old: &[u8], f: Fields) -> Found {
-    let all = MemTool::blocks_in(f.region);
-    let used = MemTool::blocks_in(f.usable);
+    let all = MemTool::blocks_in(f.region, f.block);
+    let used = MemTool::blocks_in(f.usable, f.block);
     let mut set: u64 = 0;
     let mut i = 0;
     while i < old.len() {

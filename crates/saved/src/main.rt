@@ -16,10 +16,10 @@ use save::Checked;
 use save::Fields;
 use save::Got;
 use save::Wrote;
-use save::blocks_in;
 use saying::first_bytes;
 use saying::put_why;
 use text::put;
+use units::MemTool;
 ghost use Rattle.saved.specs.Telling.{Tells};
 
 mod finding; // where it is wrong, and why
@@ -94,7 +94,7 @@ fn old_task() -> Asked {
         return Asked::Unknown;
     }
     Asked::Old(Fields {
-        block: 4194304,
+        block: MemTool::BLOCK_SIZE,
         start: start.number,
         region: region.number,
         requested: requested.number,
@@ -147,7 +147,7 @@ fn say_old(number: u64, old: &[u8], f: Fields) {
 fn move_text(s: &[u8], scratch: &mut [u8], old: &mut [u8]) {
     let got = to_old(s, scratch, old);
     match got {
-        Got::Fields(f) => write(first_bytes(&old[..], blocks_in(f.block, f.region) as usize)),
+        Got::Fields(f) => write(first_bytes(&old[..], MemTool::blocks_in(f.region, f.block) as usize)),
         Got::Refused(number) => say_line(number, wrong_line(s)),
     }
 }

@@ -7,11 +7,11 @@ use runs::lay_runs;
 use save::Checked;
 use save::Fields;
 use save::Wrote;
-use save::blocks_in;
 use save::check;
 use save::is_short;
 use save::text_length;
 use save::write;
+use units::MemTool;
 ghost use mathlib.Core.Path.{_≡_};
 ghost use Rattle.bitmap.specs.Blocks.{blocks};
 ghost use Rattle.saving.specs.Saving.{entryRefusal, fieldsIn, savedLength, Saves};
@@ -89,7 +89,7 @@ fn fits_on(d: Device, bitmap: &[u8], f: Fields) -> bool
     bitmap::all_in_state(
         bitmap,
         0,
-        blocks_in(c.block_size, c.region_size) as usize,
+        MemTool::blocks_in(c.region_size, c.block_size) as usize,
         false,
     )
 }
@@ -103,7 +103,7 @@ pub fn restore(d: Device, bitmap: &mut [u8], s: &[u8]) -> Restored
         return Restored::Refused(number);
     }
     let c = d.config;
-    if is_short(bitmap.len(), blocks_in(c.block_size, c.region_size)) {
+    if is_short(bitmap.len(), MemTool::blocks_in(c.region_size, c.block_size)) {
         return Restored::Refused(11);
     }
     let found = check(s);

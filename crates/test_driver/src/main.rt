@@ -179,8 +179,8 @@ fn plan(out: &mut [u8], v: Row) -> usize {
 fn plug(c: VirtioMemConfig, bitmap: &mut [u8], lent: usize) -> Turn {
     match driver::plan(c, first_bytes(&bitmap[..], lent)) {
         Proposal::Plug(addr, count) => {
-            let first = MemTool::blocks_in(addr.offset_from(c.addr).0);
-            let plugged = wrapping_add_u64(c.plugged_size, MemTool::bytes_of(count));
+            let first = MemTool::blocks_in(addr.offset_from(c.addr).0, c.block_size);
+            let plugged = wrapping_add_u64(c.plugged_size, MemTool::bytes_of(count, c.block_size));
             set_range(bitmap, first as usize, count as usize, true);
             Turn {
                 config: VirtioMemConfig {

@@ -80,7 +80,7 @@ fn put_fields(out: &mut [u8], f: Fields) -> usize {
 
 // The fields, the first 64 blocks, and how many blocks of the region are set.
 fn told_state(out: &mut [u8], f: Fields, bitmap: &[u8]) -> usize {
-    let all = MemTool::blocks_in(f.region) as usize;
+    let all = MemTool::blocks_in(f.region, f.block) as usize;
     if !untouched(bitmap, all / 8, ONES) {
         return refused(out, 0, false);
     }
@@ -223,7 +223,7 @@ fn told_old(out: &mut [u8], got: Got, old: &[u8], same: bool) -> usize {
     match got {
         Got::Refused(n) => refused(out, n, same & untouched(old, 0, UNTOUCHED)),
         Got::Fields(f) => {
-            let all = MemTool::blocks_in(f.region) as usize;
+            let all = MemTool::blocks_in(f.region, f.block) as usize;
             if !untouched(old, all, UNTOUCHED) {
                 return refused(out, 0, false);
             }

@@ -32,10 +32,10 @@ count-set-requires : tie.Need-count-set-requires
 count-set-requires c κs = search needs
 
 mul-result : tie.Need-mul-result
-mul-result c = let h = set-few _ _ _ (c .before .before .before .before .before .before .shape-ok .ensures) (c .before .before .before .before .before .if1 .left) _ _ (c .before .before .before .before .blocks-in .ensures) (c .before .before .before .blocks-in2 .ensures) _ (c .count-set .ensures) in omega arith
+mul-result c = let h = set-few _ _ _ (c .before .before .before .before .before .before .before .shape-ok .ensures) (c .before .before .before .before .before .before .if1 .left) _ _ (c .before .before .before .before .before .blocks-in .ensures) (c .before .before .before .before .blocks-in2 .ensures) _ (c .before .count-set .ensures) in omega arith
 
 returns-3 : tie.Need-returns-3
-returns-3 c = plugged-is _ _ _ (c .before .before .before .before .before .before .before .shape-ok .ensures) (c .before .before .before .before .before .before .if1 .left) _ _ (c .before .before .before .before .before .blocks-in .ensures) (c .before .before .before .before .blocks-in2 .ensures) _ (c .before .before .before .all-in-state .ensures) (c .before .before .if2 .left) _ (c .before .count-set .ensures)
+returns-3 c = plugged-is _ _ _ (c .before .before .before .before .before .before .before .before .shape-ok .ensures) (c .before .before .before .before .before .before .before .if1 .left) _ _ (c .before .before .before .before .before .before .blocks-in .ensures) (c .before .before .before .before .before .blocks-in2 .ensures) _ (c .before .before .before .before .all-in-state .ensures) (c .before .before .before .if2 .left) _ (c .before .before .count-set .ensures)
 
 pub valid-spec : {M : Type 1} → statement M
 valid-spec =
