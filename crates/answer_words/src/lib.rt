@@ -49,7 +49,7 @@ fn answer_words(answer: Answer) -> [u64; ANSWER_WORDS]
     }
 }
 
-// 01's number of an answer: 0 unless it is refused.
+// The number of an answer: 0 unless it is refused (R1.0).
 pub fn number_of(answer: Answer) -> u64
     ensures { λ r. ⌜ r ≡ numberOf answer ⌝ }
 {

@@ -8,7 +8,7 @@ use Rattle.descriptors.specs.declared.Link.the-variants.{Is, Missing}
 use Rattle.descriptors.specs.Standard.{hasNext}
 use Rattle.descriptors.specs.Descriptors.{linkAt, linkAfter}
 
--- "index 128 or more" is missing: past the end a reader stands at 128
+-- R9.3: the descriptor of index 128 is missing, and past the end a reader stands there
 unfoldable pub indexAfter : Link → ℕ
 indexAfter Missing = 128
 indexAfter (Is d) = cond (hasNext d) (d .next) 128

@@ -1,5 +1,5 @@
 -- SPDX-License-Identifier: Apache-2.0 AND BSD-3-Clause
--- The whole example of 01 as a run, guest bytes and all, a second run with every kind of event, request 5's builder, which plugs again after a failed unplug-all, and a run that goes on from a restore. All begin with a newly made device, so what is said of every run is said of something. Computed, by `refl`.
+-- The whole example (R12.12) as a run, guest bytes and all, a second run with every kind of event, a builder that plugs again after a failed unplug-all (R10.13), and a run that goes on from a restore. All begin with a newly made device, so what is said of every run is said of something. Computed, by `refl`.
 use Prim.Native.Nat.{ℕ}
 use mathlib.Core.Path.{_≡_, refl}
 use mathlib.Core.Bool.{true, false}
@@ -122,7 +122,7 @@ pub answers : World → List Call → List Answer
 answers w [] = []
 answers w (c ∷ cs) = step w c .answer ∷ answers (step w c .world) cs
 
--- 01's output as 02 amends it: its answers, its events, newest first, the plugged size that the refused unplug-all has left, and how many blocks are plugged; what was lent behind the region's 64 blocks does not count
+-- R12.12: its answers, its events, newest first, the plugged size that the refused unplug-all has left, and how many blocks are plugged; what was lent behind the region's 64 blocks does not count
 pub record Example : Type 0 where
   pub answered :
       answers (begun device .world) calls

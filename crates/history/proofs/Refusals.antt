@@ -1,5 +1,5 @@
 -- SPDX-License-Identifier: Apache-2.0 AND BSD-3-Clause
--- A refused call changes nothing; 10 is given for a creation that failed, and leaves what its sentences in 01 say.
+-- A refused call changes nothing; 10 is given for a creation that failed, and leaves what R2.9 and R2.10 say.
 use Prim.Native.Nat.{ℕ, _≤_}
 use mathlib.Core.Path.{_≡_, refl, ap}
 use mathlib.Core.Bool.{Bool, true, false, cond}

@@ -52,7 +52,7 @@ openOf (Creating first last) = NoRequest
 openOf (Discarding first count status) = Unplugging first count
 openOf (DiscardOne block status) = UnpluggingAll block
 
--- what an ACK to a request acknowledges at once; "Types: plug 0, unplug 1, unplug-all 2, state 3"
+-- what an ACK to a request acknowledges at once, by its type (R7.4)
 unfoldable pub ackToType : World → VirtioMemReq → List Event
 ackToType w req =
     cond (eqb (req .«req_type») 0) (PlugAck (blockOf w (req .addr .0)) (req .«nb_blocks») ∷ [])
@@ -91,7 +91,7 @@ reports o (HostAnswer g ok host) = cond ok (discardOf o) []
 reports o (ReadConfig offset buffer) = []
 reports o (WriteConfig offset buffer) = []
 
--- "an ACK counts as acknowledged" also where it could not be delivered, with length 0
+-- R9.10: an ACK counts also where it could not be delivered, with length 0
 abbrev pub isAck : Option VirtioMemResp → Bool
 isAck none = false
 isAck (some resp) = eqb (resp .«resp_type») 0
@@ -205,9 +205,9 @@ wasPlug (some UnplugAllAck) = false
 abbrev pub used : World → List Bool
 used w = take (regionBlocks w) (w .blocks)
 
--- ---- what demand 3 says of the world that a run led to
+-- ---- R18.3, R18.4: what demand 3 says of the world that a run led to
 pub record Demand3 (w : World) (es : List Event) : Type 0 where
   -- each block of the region is plugged exactly if the last event on it was an acknowledged plug
   pub bits : (i : ℕ) → i < regionBlocks w → blockAt (w .blocks) i ≡ wasPlug (lastOn es i)
-  -- the plugged size is "4 MiB times the plugged blocks, in every state, pending ones included" (02, request 5)
+  -- the plugged size is the block size times the plugged blocks
   pub count : plugged w ≡ bytesOf (blockSize w) (ones (used w))

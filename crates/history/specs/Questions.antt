@@ -30,19 +30,19 @@ use Rattle.step.specs.Step.{step, blockSize, region, usable, start, several, ne
 use Rattle.history.specs.History.{Open, NoRequest, Unplugging, UnpluggingAll, openOf, Story}
 use Rattle.history.specs.Rules.{DiscardsNothing}
 
--- ---- what is asked for is what is pending
+-- ---- R18.9: what is asked for is what is pending
 -- the discard of `count` blocks from `first` on: their offset, their size, and the host address that the row of the map table gives
 pub record IsDiscard (w : World) (first count : ℕ) (call : HostCall) : Type 0 where
   pub host : HostAddr
   pub host-is : hostOf (several w) (w .rows) (bytesOf (blockSize w) first) (bytesOf (blockSize w) count) ≡ At host
   pub call-is : call ≡ DiscardCall (record { 0 = bytesOf (blockSize w) first }) (bytesOf (blockSize w) count) host
 
--- the creation that is due, its rows and its size: as "The usable size" says; of a single region the whole, in placing
+-- the creation that is due, its rows and its size: with several regions as R6.4 to R6.6 say; of a single region the whole, in placing (R5.3)
 abbrev pub creationDue : World → Growth
 creationDue w =
     cond (several w) (growthOf (region w) (several w) (usable w) (newUsable w) (w .rows)) (cond (w .device .placed) Settled (Asks 0 0 (region w)))
 
--- "one creation covers i to last: guest address start + i x 2 GiB, slot of row i, size .."
+-- R6.6
 pub record IsCreation (w : World) (i last : ℕ) (call : HostCall) : Type 0 where
   pub size : ℕ
   pub is-due : creationDue w ≡ Asks i last size
@@ -58,13 +58,13 @@ WaitsFor w (DiscardOne block status) call = IsDiscard w block 1 call
 abbrev pub AsksForPending : World → Call → Outcome → Type 0
 AsksForPending w c o = (call : HostCall) → o .answer ≡ Wants call → WaitsFor (o .world) (o .world .device .pending) call
 
--- ---- a discard is asked for by an unplug, by an unplug-all, and by the host's yes while an unplug-all is open
+-- ---- R18.10: a discard is asked for by an unplug, by an unplug-all, and by the host's yes while an unplug-all is open
 -- the type of the request that a chain holds
 unfoldable pub typeOf : Parsed → Option ℕ
 typeOf (Bad reason) = none
 typeOf (Got req status) = some (req .«req_type»)
 
--- "Types: .. unplug 1, unplug-all 2"
+-- R7.4
 unfoldable pub isUnplug : Option ℕ → Bool
 isUnplug none = false
 isUnplug (some type) = eqb type 1 || eqb type 2

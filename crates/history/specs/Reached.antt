@@ -1,5 +1,5 @@
 -- SPDX-License-Identifier: Apache-2.0 AND BSD-3-Clause
--- What a run reaches: a newly made device, any calls, and a restore wherever it is allowed. A restore is told by plugs, so this also says what an event does to the blocks and the plugged size, and what must be so before it.
+-- What a run reaches (R18.5): a newly made device, any calls, and a restore wherever it is allowed. A restore is told by plugs, so this also says what an event does to the blocks and the plugged size, and what must be so before it.
 use Prim.Native.Nat.{ℕ, _+_, _-_, _≤_}
 use mathlib.Core.Path.{_≡_}
 use mathlib.Core.Bool.{Bool, true, false, _&&_}
@@ -51,12 +51,12 @@ unfoldable pub allCould : List Event → List Bool → (n : ℕ) → Bool
 allCould [] bs n = true
 allCould (e ∷ es) bs n = allCould es bs n && could e (marked es bs) n
 
--- ---- a restore: "Demand 3's history then starts as if each run had been plugged and acknowledged" (02, request 6)
+-- ---- R15.15: a restore
 unfoldable pub allPlugs : List Event → Bool
 allPlugs [] = true
 allPlugs (e ∷ es) = wasPlug (some e) && allPlugs es
 
--- it is "laid on a placed device (no bit set, plugged 0)" that waits for nothing and has its bitmap; the requested size is of the record's shape, and the plugs, one for each run, could happen one after the other inside the usable size
+-- R15.13: it is laid on a placed device, with no bit set and plugged 0, that waits for nothing and has its bitmap; the requested size is of the record's shape, and the plugs, one for each run, could happen one after the other inside the usable size
 pub record CanRestore (w : World) (requested : ℕ) (plugs : List Event) : Type 0 where
   pub is-placed : w .device .placed ≡ true
   pub waits-for-nothing : w .device .pending ≡ Nothing
@@ -67,7 +67,7 @@ pub record CanRestore (w : World) (requested : ℕ) (plugs : List Event) : Type 
   pub only-plugs : allPlugs plugs ≡ true
   pub all-could : allCould plugs (w .blocks) (blocksIn (blockSize w) (usable w)) ≡ true
 
--- "it sets bits, requested and plugged"
+-- R15.14
 abbrev pub afterRestore : World → (requested : ℕ) → (plugs : List Event) → World
 afterRestore w requested plugs =
     let d = w .device in

@@ -1,5 +1,5 @@
 -- SPDX-License-Identifier: Apache-2.0 AND BSD-3-Clause
--- What a refusal leaves: "All but 0 and 10 change nothing", and what 10 changes. Of every call c from every world w, and of its outcome o; nothing is asked of the record, the tables or what led to them.
+-- What a refusal leaves: nothing has changed but by 10 (R2.8 to R2.10). Of every call c from every world w, and of its outcome o; nothing is asked of the record, the tables or what led to them.
 use Prim.Native.Nat.{ℕ, _*_}
 use mathlib.Core.Path.{_≡_}
 use mathlib.Core.Bool.{Bool, true, false}
@@ -22,11 +22,11 @@ lentBytes (HostAnswer guest ok host) = guest .mem
 lentBytes (ReadConfig offset buffer) = buffer
 lentBytes (WriteConfig offset buffer) = buffer
 
--- "All but 0 and 10 change nothing": neither the record, nor the tables, nor a byte
+-- R2.8: neither the record, nor the tables, nor a byte
 abbrev pub RefusedChangesNothing : World → Call → Outcome → Type 0
 RefusedChangesNothing w c o = (n : ℕ) → o .answer ≡ Refused n → (n ≡ 10 → ⊥) → (o .world ≡ w) × (o .bytes ≡ lentBytes c)
 
--- 10, "creation failed", is given for the host's no to a pending creation and for nothing else; then nothing is pending, and no more has changed
+-- R1.10, R2.9: 10 is given for the host's no to a pending creation and for nothing else; then nothing is pending, and no more has changed
 pub record CreationFailed (w : World) (c : Call) (o : Outcome) : Type 0 where
   pub first : ℕ
   pub last : ℕ
@@ -44,7 +44,7 @@ TenIsCreationFailed w c o = o .answer ≡ Refused 10 → CreationFailed w c o
 abbrev pub thenNo : World → Call → Guest → (host : ℕ) → Outcome
 thenNo w c g host = step (step w c .world) (HostAnswer g false host)
 
--- "After 10 in a size change: the new requested size, written before the question, stands; the usable size and the map do not change": nor does anything else
+-- R2.9
 pub record SizeChangeFailed (w : World) (mib : ℕ) (o : Outcome) : Type 0 where
   pub gives-10 : o .answer ≡ Refused 10
   pub requested-stands : o .world ≡ deviceOf (requestedTo (mib * 1048576) (w .device)) w
@@ -53,7 +53,7 @@ abbrev pub TenInSizeChange : Type 0
 TenInSizeChange = (w : World) (mib : ℕ) (call : HostCall) → step w (SetRequestedSize mib) .answer ≡ Wants call
     → (g : Guest) (host : ℕ) → SizeChangeFailed w mib (thenNo w (SetRequestedSize mib) g host)
 
--- "After 10 in placing: the device is unplaced, the given start, rows and bitmap stay as placing wrote them, and placing may be tried again": any placing is then answered as it was before
+-- R2.10
 pub record PlacingFailed (w : World) (at : ℕ) (slots : List ℕ) (bs : List Bool) (rows : List MapRow) (o : Outcome) : Type 0 where
   pub gives-10 : o .answer ≡ Refused 10
   pub unplaced : o .world .device .placed ≡ false

@@ -34,7 +34,7 @@ InEveryRun P = (s : Story) → Reached s → (c : Call) → P s c
 abbrev pub FromEveryWorld : (World → Call → Outcome → Type 0) → Type 0
 FromEveryWorld P = (w : World) (c : Call) → P w c (step w c)
 
--- the record keeps its shape
+-- R18.11: the record keeps its shape
 abbrev pub KeepsShape : Story → Call → Type 0
 KeepsShape s c = shapedOf (next s c .world .device) ≡ true
 
@@ -42,15 +42,15 @@ KeepsShape s c = shapedOf (next s c .world .device) ≡ true
 abbrev pub Never12 : Story → Call → Type 0
 Never12 s c = step (s .world) c .answer ≡ Refused 12 → ⊥
 
--- the usable size never shrinks
+-- R6.2: the usable size never shrinks
 abbrev pub UsableNeverShrinks : World → Call → Outcome → Type 0
 UsableNeverShrinks w c o = usable w ≤ usable (o .world)
 
--- "never below 0, which only a spoiled bitmap could bring" (02, request 5): in a run the block that an unplug-all waits for is counted in the plugged size, so nothing is cut off
+-- R18.11: in a run the block that an unplug-all waits for is counted in the plugged size, so nothing is cut off at 0
 abbrev pub DiscardIsCounted : Story → Call → Type 0
 DiscardIsCounted s c = (block : ℕ) (status : GuestAddr) → s .world .device .pending ≡ DiscardOne block status → blockSize (s .world) ≤ plugged (s .world)
 
--- ---- the requested size is the only lever
+-- ---- R18.6: the requested size is the only lever
 unfoldable pub isSizeChange : Call → Bool
 isSizeChange (Place at size slots blocks rows) = false
 isSizeChange (SetRequestedSize mib) = true
@@ -67,7 +67,7 @@ OnlySizeChangeMovesRequested w c o = isSizeChange c ≡ false → requested (o .
 abbrev pub PlugWithinRequested : World → Call → Outcome → Type 0
 PlugWithinRequested w c o = plugged w < plugged (o .world) → plugged (o .world) ≤ requested w
 
--- ---- lowering the requested size takes nothing away by force
+-- ---- R18.7: lowering the requested size takes nothing away by force
 -- it changes no block, no row and no plugged size, nor does raising it: rows change when the host has answered
 abbrev pub SizeChangeTouchesNothing : World → Call → Outcome → Type 0
 SizeChangeTouchesNothing w c o = isSizeChange c ≡ true → Untouched w (o .world)
@@ -85,7 +85,7 @@ abbrev pub LoweringAsksNothing : World → Call → Outcome → Type 0
 LoweringAsksNothing w c o = (mib : ℕ) → c ≡ SetRequestedSize mib → mib * 1048576 ≤ requested w → newUsable w ≤ usable w
     → (usable (o .world) ≡ usable w) × (o .world .device .pending ≡ w .device .pending)
 
--- ---- every plug and unplug happens whole or not at all
+-- ---- R18.8: every plug and unplug happens whole or not at all
 pub record Whole (w : World) (new : List Event) (w′ : World) : Type 0 where
   pub blocks-by : w′ .blocks ≡ marked new (w .blocks)
   pub size-by : plugged w′ ≡ counted (blockSize w) new (plugged w)
@@ -104,7 +104,7 @@ isPlace (WriteConfig offset buffer) = false
 abbrev pub WholeOrNotAtAll : Story → Call → Type 0
 WholeOrNotAtAll s c = isPlace c ≡ false → Whole (s .world) (eventsOf (s .world) (s .«open») c (step (s .world) c .answer)) (next s c .world)
 
--- ---- no host call is asked twice or left unanswered
+-- ---- R18.9: no host call is asked twice or left unanswered
 -- the questions to the host in an answer
 abbrev pub asks : Answer → ℕ
 asks a = cond (present (question a)) 1 0

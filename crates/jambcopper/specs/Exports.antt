@@ -29,7 +29,7 @@ unfoldable pub madeWords : List ℕ → Made → List ℕ
 madeWords ws (MadeDevice d) = put ws 0 (wordsOf d)
 madeWords ws (Refused number) = ws
 
--- 12 where there is no room for a record, and nothing is written
+-- R19.5: 12 where there is no room for a record, and nothing is written
 pub record MadeIn (words : List ℕ) (m : Made) (number : ℕ) (words′ : List ℕ) : Type 0 where
   pub numbered : number ≡ cond (leb 15 (length words)) (madeNumber m) 12
   pub recorded : words′ ≡ cond (leb 15 (length words)) (madeWords words m) words
@@ -52,7 +52,7 @@ pub record Told (o : Outcome) (entry exit : Handed) (number : ℕ) : Type 0 wher
   pub told : exit .answer ≡ put (entry .answer) 0 (answerWords (o .answer))
   pub leaves : Leaves (leftBy o) (entry .slices) (exit .slices)
 
--- 12: the words are no record, and only the answer is written
+-- R19.2, R19.8: the words are no record, and only the answer is written
 pub record Foreign (entry exit : Handed) (number : ℕ) : Type 0 where
   pub numbered : number ≡ 12
   pub told : exit .answer ≡ put (entry .answer) 0 (answerWords (RefusedWith 12))

@@ -32,7 +32,7 @@ newQueue descriptors available used =
       taken = Nothing;
     }
 
--- 12 where there is no room for a queue, and nothing is written
+-- R19.5: 12 where there is no room for a queue, and nothing is written
 pub record QueueMadeIn (words : List ℕ) (q : Queue) (number : ℕ) (words′ : List ℕ) : Type 0 where
   pub numbered : number ≡ cond (leb 6 (length words)) 0 12
   pub queued : words′ ≡ cond (leb 6 (length words)) (put words 0 (queueWords q)) words
@@ -63,7 +63,7 @@ pub record QueueTold (o : QueueOutcome) (entry exit : QueueHanded) (number : ℕ
   pub told : exit .others .answer ≡ put (entry .others .answer) 0 (queueAnswerWords (o .answer))
   pub leaves : Leaves (leftByQueue o) (entry .others .slices) (exit .others .slices)
 
--- 12: the words are no record, or no queue, and only the answer is written
+-- R19.2, R19.4, R19.8: the words are no record, or no queue, and only the answer is written
 pub record QueueForeign (entry exit : QueueHanded) (number : ℕ) : Type 0 where
   pub others : Foreign (entry .others) (exit .others) number
   pub queued : exit .queue ≡ entry .queue

@@ -54,7 +54,7 @@ eventsHeard h o es [] = es
 eventsHeard h o es (u ∷ us) =
     eventsHeard (leaves h u) (openAfter (inHand h) o (callOf u) (heard u)) (eventsOf (inHand h) o (callOf u) (heard u) ++ es) us
 
--- demand 3 of what a program holds and has heard since making, in any run whose answers it can hear
+-- R18.12: demand 3 of what a program holds and has heard since making, in any run whose answers it can hear
 abbrev pub Demand3InHand : Type 0
 Demand3InHand = (m : Making) (words′ : List ℕ) → Makes m words′ → (us : List Use) → Run (first words′) us → AllHeard us
     → Told (inHand (heldAfter (first words′) us)) (eventsHeard (first words′) NoRequest [] us)

@@ -30,7 +30,7 @@ abbrev pub AfterEveryRun : (Story → Call → Type 0) → Type 0
 AfterEveryRun P = (m : Making) (words′ : List ℕ) → Makes m words′ → (d : Device) → madeBy m ≡ MadeDevice d → (us : List Use) → Run (first words′) us → (u : Use)
     → P (storyInHand (heldAfter (first words′) us) (after (begun d) (callsOf us))) (callOf u)
 
--- each sentence as `history` has it
+-- R18.12: each sentence as `history` has it
 pub record RulesInHand : Type 0 where
   -- the requested size is the only lever: a plug never goes past it,
   pub only-size-change-moves-requested : OfEveryCall OnlySizeChangeMovesRequested

@@ -1,5 +1,5 @@
 -- SPDX-License-Identifier: Apache-2.0 AND BSD-3-Clause
--- What making a device ends in (01, "Making and placing" and the numbers 2 and 1).
+-- What making a device ends in (R4): a record, or the number 2 or 1.
 use Prim.Native.Nat.{ℕ, _*_}
 use mathlib.Core.Bool.{Bool, true, false, cond, not, _&&_, _||_}
 use mathlib.Core.Path.{_≡_}
@@ -18,12 +18,12 @@ abbrev pub isGiven : Node → Bool
 isGiven None = false
 isGiven (Number n) = true
 
--- "the node is 0 otherwise"
+-- R4.6
 abbrev pub nodeNumber : Node → ℕ
 nodeNumber None = 0
 nodeNumber (Number n) = n
 
--- "Several regions are kept only if asked and the region exceeds 2 GiB"; nothing is usable, plugged, placed or pending yet
+-- R4.4, R4.7: nothing is usable, plugged, placed or pending yet
 abbrev pub newDevice : (region requested alignment : ℕ) (several : Bool) → Node → Device
 newDevice region requested alignment several node =
     record {
@@ -35,7 +35,7 @@ newDevice region requested alignment several node =
       pending = Nothing;
     }
 
--- 2: "capacity above 1,048,576 MiB"; 1: "capacity 0, requested above the rounded capacity, or requested not a multiple of 4 MiB"
+-- R4.1; R2.1: R1.2, then R1.1
 unfoldable pub made : (capacity requested : ℕ) (several : Bool) → Node → (boot : ℕ) → Made
 made capacity requested several node boot =
     let alignment = alignmentOf boot in
@@ -44,12 +44,12 @@ made capacity requested several node boot =
     (cond (eqb capacity 0 || not (sizeOk 4194304 (requested * 1048576) region)) (Refused 1)
     (MadeDevice (newDevice region (requested * 1048576) alignment several node)))
 
--- 01's number of a device that was made or refused
+-- the number of a device that was made or refused
 unfoldable pub madeNumber : Made → ℕ
 madeNumber (MadeDevice d) = 0
 madeNumber (Refused number) = number
 
--- what code promises: the device or the refusal is that of `made`, with 01's number
+-- R18.2, what code promises: the device or the refusal is that of `made`, with its number
 pub record MadeAs (m r : Made) : Type 0 where
   pub same : r ≡ m
   pub numbered : madeNumber r ≡ madeNumber m

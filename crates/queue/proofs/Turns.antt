@@ -70,7 +70,7 @@ module _ (w : World) (q : Queue) (g : Guest) where
   stands n e (HasRefused m) = by-test (eqb n 0) (λ t. rw t) (λ t. rw t)
   stands n e (HasHead head) = by-test (eqb n 0) (λ t. rw t) (λ t. rw (t, ← e, t))
 
-  -- "a refused call takes none": where the device refuses, the head stays
+  -- R13.9: where the device refuses, the head stays
   pub by-taking : serveNext w q g ≡ walks (takingOf (w .device) q (length (w .blocks)) (length (w .rows)) (g .mem) (g .base)) w q g
   unfolding takingRefusal takingOf nextUnless takes walks
   by-taking =

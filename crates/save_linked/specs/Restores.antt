@@ -1,4 +1,4 @@
--- A program that links the library and restores a device by it (02, request 6): "Demand 3's history then starts as if each run had been plugged and acknowledged".
+-- A program that links the library and restores a device by it (R15.15, R18.12): demand 3's history starts with a plug for each run of the text.
 use Prim.Native.Nat.{ℕ}
 use mathlib.Core.Path.{_≡_}
 use mathlib.Core.Bool.{Bool}

@@ -1,4 +1,4 @@
--- Both sides of each edge, W1 to W11 of 01, by one statement over one list that the checker computes.
+-- Both sides of each edge, R17.1 to R17.11, by one statement over one list that the checker computes.
 use Prim.Native.Nat.{ℕ}
 use mathlib.Core.Path.{_≡_, refl}
 use mathlib.Core.Bool.{Bool, true, false}
@@ -83,7 +83,7 @@ asked o = rowsOfCall (o .world .device .pending) (sizeOfCall (o .answer))
 grows : (region mib : ℕ) → List ℕ
 grows region mib = asked (step (world (device region 0 0 0 true) 2048 4 0) (SetRequestedSize mib))
 
--- what is worked out, and what 01 says of it
+-- what is worked out, and what the rule says of it
 pub record Edge : Type 0 where
   pub gives : List ℕ
   pub says : List ℕ

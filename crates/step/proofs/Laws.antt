@@ -60,7 +60,7 @@ pub asking-takes-nothing : (w : World) (first count offset host status : ℕ) (g
 asking-takes-nothing w first count offset host status g =
     (record { same-blocks = refl; same-rows = refl; same-plugged = refl }, record { same-blocks = refl; same-rows = refl; same-plugged = refl })
 
--- ---- nor does a discard that failed, also of an unplug-all: "cleared blocks stay cleared", and what they took off stays taken off
+-- ---- nor does a discard that failed, also of an unplug-all (R10.13): cleared blocks stay cleared, and what they took off stays taken off
 pub failure-takes-nothing : (w : World) (status : ℕ) (g : Guest) → Untouched w (stops w status g .world)
 failure-takes-nothing w status g = record { same-blocks = refl; same-rows = refl; same-plugged = refl }
 
@@ -68,11 +68,11 @@ failure-takes-nothing w status g = record { same-blocks = refl; same-rows = refl
 pub response-alone : (resp : VirtioMemResp) (status : ℕ) (w : World) (g : Guest) → served resp status w g .world ≡ w
 response-alone resp status w g = refl
 
--- ---- "If all succeed, plugged size is 0, usable stays"
+-- ---- R10.14
 pub all-leaves-none : (w : World) (status : ℕ) (g : Guest) → (plugged (endsAll w status g .world) ≡ 0) × (endsAll w status g .world .device .config .«usable_region_size» ≡ w .device .config .«usable_region_size»)
 all-leaves-none w status g = (refl, refl)
 
--- ---- "The request and status address are read once, before any host call": the answer to a discard reads neither from guest memory
+-- ---- R9.9: the answer to a discard reads neither the request nor the status address from guest memory
 pub answer-reads-no-request : (first count host : ℕ) (status : GuestAddr) (w : World) (g : Guest) → hostAnswer (Discard first count status) w g true host ≡ unplugs w first count (status .0) g
 unfolding hostAnswer
 answer-reads-no-request first count host status w g = refl

@@ -25,7 +25,7 @@ whole-sum r a p q =
     let e : r + 2 * a ≡ (r / 4194304 + 2 * (a / 4194304)) * 4194304 = omega (arith, div-add-mod' r 4194304, div-add-mod' a 4194304) in
     rw e (mul-mod-left (r / 4194304 + 2 * (a / 4194304)) 4194304)
 
--- the usable size is at least "the smaller of the region and requested + 2 x alignment" once it is worked out
+-- the usable size is at least the new size (R6.1) once it is worked out
 pub sized-covers : (w : World) → shapedOf (w .device) ≡ true → 0 < requested w → min (region w) (requested w + 2 * w .device .alignment) ≤ usable (sizes w .world)
 sized-covers w h r =
     let s = shaped-is (w .device) h in

@@ -1,4 +1,4 @@
--- 01's number and values of an answer, case by case, as nine words: its kind, the number, the question (an address, a size, a slot or host address), the response (type and state), the used length, and the reason.
+-- The number and the values of an answer, case by case, as nine words (R18.2, R19.3): its kind, the number, the question (an address, a size, a slot or host address), the response (type and state), the used length, and the reason.
 use Prim.Native.Nat.{ℕ}
 use mathlib.Core.List.{List, [], _∷_}
 use mathlib.Core.Option.{Option, some, none}
@@ -9,7 +9,7 @@ use Rattle.record.specs.declared.HostCall.the-variants.{Create, Discard}
 use Rattle.step.specs.declared.Answer.{Answer}
 use Rattle.step.specs.declared.Answer.the-variants.{Refused, Wants, Sized, Unserved, Served, Done}
 
--- a question: creation is kind 1, discard kind 2
+-- R11.2: a question: creation is kind 1, discard kind 2
 abbrev pub questionWords : HostCall → List ℕ
 questionWords (Create guest size slot) = 1 ∷ 0 ∷ guest .0 ∷ size ∷ slot ∷ 0 ∷ 0 ∷ 0 ∷ 0 ∷ []
 questionWords (Discard offset size host) = 2 ∷ 0 ∷ offset .0 ∷ size ∷ host .0 ∷ 0 ∷ 0 ∷ 0 ∷ 0 ∷ []
@@ -23,7 +23,7 @@ answerWords (Unserved reason) = 4 ∷ 0 ∷ 0 ∷ 0 ∷ 0 ∷ 0 ∷ 0 ∷ 0 ∷ 
 answerWords (Served reply) = 5 ∷ 0 ∷ 0 ∷ 0 ∷ 0 ∷ reply .response .«resp_type» ∷ reply .response .state ∷ reply .used ∷ 0 ∷ []
 answerWords Done = 6 ∷ 0 ∷ 0 ∷ 0 ∷ 0 ∷ 0 ∷ 0 ∷ 0 ∷ 0 ∷ []
 
--- 01's number of an answer: 0 unless it is refused
+-- R1.0: the number of an answer: 0 unless it is refused
 abbrev pub numberOf : Answer → ℕ
 numberOf answer = getD (answerWords answer) 1 0
 

@@ -1,4 +1,4 @@
--- What each call does, in the order of tests and the words of 01 as 02 amends it: `step` from a World and a Call to an Outcome. Every ending is a named leaf, and every decision a tree of tests over leaves.
+-- What each call does, in the order of the rules' tests (R2): `step` from a World and a Call to an Outcome. Every ending is a named leaf, and every decision a tree of tests over leaves.
 use Prim.Native.Nat.{ℕ, _+_, _-_, _*_, _%_}
 use mathlib.Core.Path.{_≡_}
 use mathlib.Core.Bool.{Bool, true, false, cond, not, _&&_, _||_}
@@ -76,15 +76,15 @@ pub record Untouched (w w′ : World) : Type 0 where
   pub same-plugged : plugged w′ ≡ plugged w
 
 -- ---- the endings
--- a refusal of 01's number changes nothing
+-- R2.8: a refusal changes nothing
 abbrev pub refused : ℕ → World → List ℕ → Outcome
 refused n w bytes = record { world = w; answer = Refused n; bytes = bytes }
 
--- used length 0 with its reason, and nothing written
+-- R9.7: used length 0 with its reason, and nothing written
 abbrev pub unserved : ℕ → World → Guest → Outcome
 unserved reason w g = record { world = w; answer = Unserved reason; bytes = g .mem }
 
--- the responses: ACK 0, NACK 1, ERROR 3, with state 0
+-- R7.4: ACK 0, NACK 1, ERROR 3; R10.2: with state 0
 abbrev pub respond : (type state : ℕ) → VirtioMemResp
 respond type state = record { «resp_type» = type; state = state }
 
@@ -97,7 +97,7 @@ nack = respond 1 0
 abbrev pub error : VirtioMemResp
 error = respond 3 0
 
--- "The response goes to the status address: length 10. If its 10 bytes are not wholly inside, nothing is written and the length is 0"
+-- R9.10
 abbrev pub served : VirtioMemResp → (status : ℕ) → World → Guest → Outcome
 served resp status w g =
     record {
@@ -106,7 +106,7 @@ served resp status w g =
       bytes = delivered (g .mem) (g .base) status resp;
     }
 
--- "A plug then sets bits and adds"
+-- R10.8
 abbrev pub plugs : World → (first count status : ℕ) → Guest → Outcome
 plugs w first count status g =
     served ack status
@@ -117,7 +117,7 @@ plugs w first count status g =
     })
     g
 
--- "An unplug asks for one discard of the range"
+-- R10.9, R11.1: an unplug asks for one discard, and the record waits for its answer
 abbrev pub asksDiscard : World → (first count offset host status : ℕ) → Guest → Outcome
 asksDiscard w first count offset host status g =
     record {
@@ -126,7 +126,7 @@ asksDiscard w first count offset host status g =
       bytes = g .mem;
     }
 
--- "success clears bits and subtracts"
+-- R10.10
 abbrev pub unplugs : World → (first count status : ℕ) → Guest → Outcome
 unplugs w first count status g =
     served ack status
@@ -137,11 +137,11 @@ unplugs w first count status g =
     })
     g
 
--- "failure gives ERROR with nothing changed"; "The first that is not ACK ends it"
+-- R10.10, R10.13: ERROR, and nothing has changed but that nothing is pending
 abbrev pub stops : World → (status : ℕ) → Guest → Outcome
 stops w status g = served error status (deviceOf (pendingTo Nothing (w .device)) w) g
 
--- an unplug-all asks for one block
+-- R10.11: an unplug-all asks for one block
 abbrev pub asksOne : World → (block offset host status : ℕ) → Guest → Outcome
 asksOne w block offset host status g =
     record {
@@ -150,7 +150,7 @@ asksOne w block offset host status g =
       bytes = g .mem;
     }
 
--- one block of an unplug-all is discarded, and nothing is asked yet: "each block that an unplug-all clears takes 4 MiB off at once (never below 0 ..)" (02, request 5)
+-- R10.12: one block of an unplug-all is discarded, and nothing is asked yet
 abbrev pub cleared : World → (block : ℕ) → World
 cleared w block =
     record {
@@ -159,11 +159,11 @@ cleared w block =
       rows = w .rows;
     }
 
--- "If all succeed, plugged size is 0, usable stays"
+-- R10.14
 abbrev pub endsAll : World → (status : ℕ) → Guest → Outcome
 endsAll w status g = served ack status (deviceOf (pendingTo Nothing (pluggedTo 0 (w .device))) w) g
 
--- the usable size that the requested size is worth now
+-- R6.1: the usable size that the requested size is worth now
 abbrev pub newUsable : World → ℕ
 newUsable w = newSize (blockSize w) (region w) (requested w) (w .device .alignment)
 
@@ -181,7 +181,7 @@ sizes w =
       bytes = [];
     }
 
--- "one creation covers i to last: guest address start + i x 2 GiB, slot of row i, size .."
+-- R6.6, R11.1, R11.5
 abbrev pub asksCreate : World → (i last size : ℕ) → Outcome
 asksCreate w i last size =
     record {
@@ -190,7 +190,7 @@ asksCreate w i last size =
       bytes = [];
     }
 
--- "Row j then gets the answered host address + (j - i) x 2 GiB", and the usable size is worked out
+-- R11.4: the rows are mapped (R6.7), and the usable size is worked out
 abbrev pub creates : World → (i last host : ℕ) → List ℕ → Outcome
 creates w i last host bytes =
     record {
@@ -203,12 +203,12 @@ creates w i last host bytes =
       bytes = bytes;
     }
 
--- "creation failed": the requested size, written before the question, stands; a device that was being placed is unplaced, with start, rows and bitmap as placing wrote them
+-- R1.10; R2.9, R2.10: what was written before the question stands, and nothing else has changed
 abbrev pub createFails : World → List ℕ → Outcome
 createFails w bytes =
     record { world = deviceOf (pendingTo Nothing (w .device)) w; answer = Refused 10; bytes = bytes }
 
--- "Placing zeroes the bitmap and writes each row: slot, not mapped"
+-- R5.2
 abbrev pub placed : World → (start : ℕ) (slots : List ℕ) → List Bool → List MapRow → World
 placed w at slots bs rows =
     record {
@@ -218,13 +218,13 @@ placed w at slots bs rows =
     }
 
 -- ---- the refusals, in their order: the first number that is given, or 0
--- 11: "bitmap shorter than blocks / 8 bytes, or map table shorter than the region count"
+-- R1.11
 unfoldable pub tablesFit : Device → (blocks rows : ℕ) → Bool
 tablesFit d blocks rows =
     leb (blocksIn (d .config .«block_size») (d .config .«region_size»)) blocks
     && leb (mapRegions (d .config .«region_size») (d .several)) rows
 
--- a request and a size change: 12, 7, 5, 11
+-- R2.3, R2.4: a request and a size change: 12, 7 (R1.7), 5 (R1.5), 11
 unfoldable pub readyRefusal : Device → (blocks rows : ℕ) → ℕ
 readyRefusal d blocks rows =
     cond (not (shapedOf d)) 12
@@ -232,7 +232,7 @@ readyRefusal d blocks rows =
     (cond (not (d .placed)) 5
     (cond (not (tablesFit d blocks rows)) 11 0)))
 
--- placing: 12, 7, 6, 11
+-- R2.2: placing: 12, 7, 6 (R1.6), 11
 unfoldable pub unplacedRefusal : Device → (blocks rows : ℕ) → ℕ
 unplacedRefusal d blocks rows =
     cond (not (shapedOf d)) 12
@@ -240,7 +240,7 @@ unplacedRefusal d blocks rows =
     (cond (d .placed) 6
     (cond (not (tablesFit d blocks rows)) 11 0)))
 
--- a host answer: 12, 8, 11
+-- R2.5: a host answer: 12, 8 (R1.8), 11
 unfoldable pub pendingRefusal : Device → (blocks rows : ℕ) → ℕ
 pendingRefusal d blocks rows =
     cond (not (shapedOf d)) 12
@@ -270,13 +270,13 @@ plugAs (Outside part) w count status g = served error status w g
 plugAs WrongState w count status g = served error status w g
 plugAs (NoHost part) w count status g = served error status w g
 
--- "(a) plug only: plugged + size above requested gives NACK", then (b) to (d)
+-- R10.2; R10.3: test (a), then (b) to (d)
 unfoldable pub plug : World → (addr count status : ℕ) → Guest → Outcome
 plug w addr count status g =
     cond (ltb (requested w) (plugged w + bytesOf (blockSize w) count)) (served nack status w g)
     (plugAs (changing w addr count true) w count status g)
 
--- 12 "comes after every test that gives ERROR": an otherwise legal unplug larger than the plugged size
+-- R10.9; R2.7: the 12 of an unplug larger than the plugged size comes last
 unfoldable pub unplugAs : Change → World → (count status : ℕ) → Guest → Outcome
 unplugAs (Legal first offset host) w count status g =
     cond (ltb (plugged w) (bytesOf (blockSize w) count)) (refused 12 w (g .mem))
@@ -288,7 +288,7 @@ unplugAs (NoHost part) w count status g = served error status w g
 abbrev pub unplug : World → (addr count status : ℕ) → Guest → Outcome
 unplug w addr count status g = unplugAs (changing w addr count false) w count status g
 
--- "each as a one-block unplug"
+-- R10.11, R10.13: each as an unplug of one block
 unfoldable pub oneAs : Change → World → (block status : ℕ) → Guest → Outcome
 oneAs (Legal first offset host) w block status g = asksOne w block (offset .0) (host .0) status g
 oneAs (Outside part) w block status g = stops w status g
@@ -302,22 +302,22 @@ unfoldable pub nextAs : Found → World → (status : ℕ) → Guest → Outcome
 nextAs NoneSet w status g = endsAll w status g
 nextAs (At block) w status g = unplugOne w block status g
 
--- "Unplug-all takes plugged blocks lowest first", from a block on
+-- R10.11, R10.12: the plugged blocks, the lowest first, from a block on
 abbrev pub unplugAll : World → (from status : ℕ) → Guest → Outcome
 unplugAll w from status g = nextAs (nextSet (w .blocks) from (regionBlocks w)) w status g
 
--- "State: type ERROR if (b) fails, else ACK"
+-- R10.15
 unfoldable pub stateType : Range → ℕ
 stateType (Inside offset) = 0
 stateType (NotInside part) = 3
 
--- "The state field is worked out in either case"
+-- R10.15, R10.16: the state is worked out in either case
 abbrev pub stateResp : World → (addr count : ℕ) → VirtioMemResp
 stateResp w addr count =
     respond (stateType (rangeOf (blockSize w) (start w) (usable w) addr count))
     (stateOf (blockSize w) (start w) (region w) addr count (w .blocks))
 
--- "Types: plug 0, unplug 1, unplug-all 2, state 3"; "Type 4 or more: length 0, reason 0, nothing written"
+-- R7.4; R9.8: type 4 or more
 unfoldable pub serve : World → VirtioMemReq → (status : ℕ) → Guest → Outcome
 serve w req status g =
     cond (eqb (req .«req_type») 0) (plug w (req .addr .0) (req .«nb_blocks») status g)
@@ -326,7 +326,7 @@ serve w req status g =
     (cond (eqb (req .«req_type») 3) (served (stateResp w (req .addr .0) (req .«nb_blocks»)) status w g)
     (unserved 0 w g))))
 
--- "The request and status address are read once, before any host call"
+-- R9.9: the request and the status address, read once
 unfoldable pub request : Parsed → World → Guest → Outcome
 request (Bad reason) w g = unserved reason w g
 request (Got req status) w g = serve w req (status .0) g
@@ -340,25 +340,26 @@ resizes (Asks i last size) w = asksCreate w i last size
 abbrev pub resized : World → Outcome
 resized w = resizes (growthOf (region w) (several w) (usable w) (newUsable w) (w .rows)) w
 
--- "A single region then asks for creation of the whole region with slot 0 of the list"; several regions ask as the usable size does
+-- R5.3; R5.4: several regions ask as the usable size does
 unfoldable pub placing : World → Outcome
 placing w = cond (several w) (resized w) (asksCreate w 0 0 (region w))
 
--- 3: "slot count wrong, or range size not the region size"; 4: "start not a multiple of the alignment, or start + region .. above 2^64 - 1"
+-- R5.1; R1.3, then R1.4 (R2.2)
 unfoldable pub place : World → (start size : ℕ) (slots : List ℕ) → List Bool → List MapRow → Outcome
 place w at size slots bs rows =
     unless (rangeRefusal (w .device) at size (length slots)) w [] (placing (placed w at slots bs rows))
 
--- 1: "requested above the rounded capacity, or requested not a multiple of 4 MiB"
+-- R6.3; R1.1
 unfoldable pub setRequestedSize : World → (mib : ℕ) → Outcome
 setRequestedSize w mib =
     cond (not (sizeOk (blockSize w) (mib * 1048576) (region w))) (refused 1 w [])
     (resized (deviceOf (requestedTo (mib * 1048576) (w .device)) w))
 
--- 9: "a host address that, plus the size asked (several regions: 2 GiB x rows covered), passes 2^64 - 1"
+-- R1.9: what a creation covers
 abbrev pub coveredBy : World → (i last : ℕ) → ℕ
 coveredBy w i last = cond (several w) ((last + 1 - i) * mapRegion) (region w)
 
+-- R2.5, R11.3, R11.4: by what is pending; a creation then gives 9 or 10, and a discard ends its request or goes on
 unfoldable pub hostAnswer : Pending → World → Guest → (ok : Bool) (host : ℕ) → Outcome
 hostAnswer Nothing w g ok host = refused 8 w (g .mem)
 hostAnswer (Create i last) w g ok host =
@@ -371,7 +372,7 @@ hostAnswer (DiscardOne block status) w g ok host =
     cond ok (unplugAll (cleared w block) (block + 1) (status .0) g) (stops w (status .0) g)
 
 -- ---- the config
--- "A read at offset 56 or more writes nothing; otherwise it writes up to byte 56 or the buffer's end and leaves the rest. Config writes do nothing": 12 only
+-- R7.6, R7.7; R2.6: 12 only
 unfoldable pub readConfig : World → (offset : ℕ) → List ℕ → Outcome
 readConfig w offset buffer =
     cond (not (shapedOf (w .device))) (refused 12 w buffer)

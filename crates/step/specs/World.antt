@@ -28,7 +28,7 @@ guestOf mem base = record { mem = mem; base = base .0 }
 abbrev pub noGuest : Guest
 noGuest = record { mem = []; base = 0 }
 
--- every call of the device, with all that it brings; placing brings the tables too
+-- every call of the device, with all that it brings; placing brings the tables too (R5.1, R6.3, R11.3)
 pub data Call : Type 0 where
   Place : (start size : ℕ) (slots : List ℕ) (blocks : List Bool) (rows : List MapRow) → Call
   SetRequestedSize : (mib : ℕ) → Call

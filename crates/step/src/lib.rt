@@ -27,7 +27,7 @@ pub struct Reply {
 
 // The answer of a call.
 pub enum Answer {
-    // Refused with 01's number; 10, creation failed, too.
+    // Refused with a number (R1); 10, creation failed, too.
     Refused(u64),
     // The host is asked, and the call goes on with its answer.
     Wants(HostCall),

@@ -1,5 +1,5 @@
-// The guest's side and its planner, as a table. Each row of data/driver.txt is a call and, behind an arrow, the answer that documents
-// 01 and 02 give. A row that gets another answer is printed with it, and so is a row that is no call, which gets none. What the rows
+// The guest's side and its planner, as a table. Each row of data/driver.txt is a call and, behind an arrow, the answer that the
+// rules (R14) give. A row that gets another answer is printed with it, and so is a row that is no call, which gets none. What the rows
 // are, and their columns, the file says in its lines that begin with #.
 use bitmap::count_set;
 use bitmap::set_range;

@@ -1,4 +1,4 @@
--- A trace's ops as calls of the device, and its answers as house lines (01, "Trace lines").
+-- A trace's ops as calls of the device (R12.9), and its answers as lines (R12.6).
 use Prim.Native.Nat.{ℕ, _+_}
 use mathlib.Core.List.{List, [], _∷_}
 use Rattle.little_endian.specs.Bytes.{value, part, put, littleEndian}
@@ -32,7 +32,7 @@ abbrev pub descriptor : (at addr len flags next : ℕ) → List Number → List 
 descriptor at addr len flags next more =
     number at 8 addr ∷ number (at + 8) 4 len ∷ number (at + 12) 2 flags ∷ number (at + 14) 2 next ∷ more
 
--- the guest's chain, in memory that starts at guest address 0: descriptor 0 names the request, 24 bytes at 64, and goes on with descriptor 1, which names 10 writable bytes at 96
+-- R12.9: the guest's chain, in memory that starts at guest address 0: descriptor 0 names the request, 24 bytes at 64, and goes on with descriptor 1, which names 10 writable bytes at 96
 unfoldable pub chained : List ℕ → List ℕ
 chained mem = laid mem (descriptor 0 64 24 1 1 (descriptor 16 96 10 2 0 []))
 

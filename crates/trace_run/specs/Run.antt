@@ -1,4 +1,4 @@
--- A run of a trace, line by line (01, "Trace lines"): the first line makes the device and places it, and each later one is an op on it.
+-- A run of a trace, line by line (R12): the first line makes the device and places it, and each later one is an op on it.
 use Prim.Native.Nat.{ℕ, zero, suc, _≤_}
 use mathlib.Core.List.{List, [], _∷_, _++_}
 use mathlib.Core.Path.{_≡_}
@@ -38,7 +38,7 @@ pub record Turn : Type 0 where
 abbrev pub asLine : List ℕ → List ℕ
 asLine text = text ++ 10 ∷ []
 
--- "A refusal, 10 too, prints `refuse=N`": here of a line that comes to no call, so nothing that is lent changes
+-- R12.6: a refusal; here of a line that comes to no call, so nothing that is lent changes
 abbrev pub refusedAs : Run → ℕ → Meant → Turn
 refusedAs run n m = record { run = run; left = m; printed = asLine (refusalText n) }
 
@@ -53,7 +53,7 @@ answeredAs run o mem =
 
 -- ---- the first line
 
--- "Slots count up from `slot`"
+-- R12.7
 unfoldable pub countedFrom : (slot count : ℕ) → List ℕ
 countedFrom slot zero = []
 countedFrom slot (suc count) = slot ∷ countedFrom (suc slot) count
@@ -64,7 +64,7 @@ placeOf d f m =
     let region = d .config .«region_size» in
     Place (f .addr .0) region (countedFrom (f .slot) (mapRegions region (d .several))) (m .blocks) (m .rows)
 
--- "one in the first line ends the run"
+-- R12.8: a refusal in the first line ends the run
 unfoldable pub placedAs : Answer → Device → Run
 placedAs (Refused n) d = Ended
 placedAs (Wants call) d = On d
@@ -93,7 +93,7 @@ goneOn d op m =
     let o = step (worldOn d m) (callOf op (m .bytes)) in
     answeredAs (On (o .world .device)) o (bytesAfter op (m .bytes) o)
 
--- a line where another is due is a bad line: 13. A bad first line ends the run, and after a bad later one it goes on. Nothing comes of a line after the end
+-- R12.5: a line where another is due is a bad line. R12.8: a bad first line ends the run, and after a bad later one it goes on. Nothing comes of a line after the end
 unfoldable pub turn : Run → Line → Meant → Turn
 turn Before (First f) m = begun f m
 turn Before (Later op) m = refusedAs Ended 13 m
@@ -125,7 +125,7 @@ pub record Serves (run : Run) (s : List ℕ) (before after : Lent) (out out′ :
   pub reads : Reads s line
   pub comes : ComesTo (turn run line) before after out out′ r
 
--- the slots of a line that was read stay below 2^32: "above 4,294,966,000 it is 13"
+-- R12.4: the slots of a line that was read stay below 2^32
 abbrev pub SlotFits : Line → Type 0
 SlotFits (First f) = f .slot ≤ 4294966000
 SlotFits (Later op) = Prim.Unit {0}
