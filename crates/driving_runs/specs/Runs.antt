@@ -1,5 +1,5 @@
 -- SPDX-License-Identifier: Apache-2.0 AND BSD-3-Clause
--- The planner and the device, in every good story and so in every run (02, request 3): what it proposes is acknowledged, 17 says that nothing can be plugged, and it gets there. The planner has the device's config and bitmap; guest memory is any that holds the chain.
+-- The planner and the device, in every good story and so in every run (R14.9 to R14.11): what it proposes is acknowledged, 17 says that nothing can be plugged, and it gets there. The planner has the device's config and bitmap; guest memory is any that holds the chain.
 use Prim.Native.Nat.{ℕ, _≤_}
 use mathlib.Core.Path.{_≡_}
 use mathlib.Core.Bool.{true}

@@ -1,5 +1,5 @@
 -- SPDX-License-Identifier: Apache-2.0 AND BSD-3-Clause
--- One big plug or many small ones (02, request 10/12): what holds of the plug of a range, of the plugs of its parts, and of a plug under a higher requested size. In any world: no run need have led to it, and the tables may be spoiled.
+-- One big plug or many small ones (R16): what holds of the plug of a range, of the plugs of its parts, and of a plug under a higher requested size. In any world: no run need have led to it, and the tables may be spoiled.
 use Prim.Native.Nat.{ℕ, _+_, _-_, _*_, _^_, _%_, _≤_, _<_}
 use mathlib.Core.Path.{_≡_}
 use mathlib.Core.Bool.{Bool, true, false, _&&_, _||_}

@@ -42,7 +42,7 @@ pendingOk (Discard first count status) b region several plugged =
     leb (first + count) (blocksIn b region) && leb (bytesOf b count) plugged
 pendingOk (DiscardOne block status) b region several plugged = ltb block (blocksIn b region)
 
--- R3.2, R3.3: the whole shape. It asks nothing of the node, the feature number and whether the device is placed (R3.9)
+-- R3.2, R3.3, R1.12: the whole shape. It asks nothing of the node, the feature number and whether the device is placed (R3.9)
 unfoldable pub shapedOf : Device → Bool
 shapedOf d =
     let c = d .config in

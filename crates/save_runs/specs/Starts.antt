@@ -1,5 +1,5 @@
 -- SPDX-License-Identifier: Apache-2.0 AND BSD-3-Clause
--- A restore in the runs of the device (02, request 6): "Demand 3's history then starts as if each run had been plugged and acknowledged".
+-- A restore in the runs of the device (R15.15): demand 3's history starts with a plug for each run of the text.
 use Prim.Native.Nat.{ℕ}
 use mathlib.Core.Path.{_≡_}
 use mathlib.Core.List.{List, [], _∷_}

@@ -47,7 +47,7 @@ pub record Leaves (m : Meant) (before after : Lent) : Type 0 where
   pub mapped : after .table ≡ written (before .table) (m .rows)
   pub left : after .bytes ≡ m .bytes
 
--- an outcome is given: its answer, with the law's number and values, its record, and what was lent as it leaves it
+-- R18.1, R18.2: an outcome is given: its answer, with its number and values, its record, and what was lent as it leaves it
 pub record Gives (o : Outcome) (before after : Lent) (s : Answered) : Type 0 where
   pub answered : s .answer ≡ o .answer
   pub told : answerWords (s .answer) ≡ answerWords (o .answer)

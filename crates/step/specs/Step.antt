@@ -167,7 +167,7 @@ endsAll w status g = served ack status (deviceOf (pendingTo Nothing (pluggedTo 0
 abbrev pub newUsable : World → ℕ
 newUsable w = newSize (blockSize w) (region w) (requested w) (w .device .alignment)
 
--- the record with its usable size worked out, and placed
+-- R6.8, R5.5: the record with its usable size worked out, and placed
 abbrev pub sizedOf : Device → Device
 sizedOf d =
     let c = d .config in
