@@ -93,7 +93,11 @@ pub fn to_old(s: &[u8], scratch: &mut [u8], old: &mut [u8]) -> Got
         Got::Refused(number) => Got::Refused(number),
         Got::Fields(fields) => {
             let f = fields;
-            unpack(&scratch[..], MemTool::blocks_in(f.region, f.block) as usize, old);
+            unpack(
+                &scratch[..],
+                MemTool::blocks_in(f.region, f.block) as usize,
+                old,
+            );
             Got::Fields(fields)
         }
     }

@@ -9,6 +9,7 @@ use lib.Dec.{eqb}
 use lib.ListN.{length}
 use Rattle.units.proofs.Tests.{by-test, passed, refused}
 use Rattle.bitmap.proofs.Laws.{blocks-length}
+use Rattle.rows.specs.Rows.{rowsIn}
 use Rattle.rows.proofs.Words.{count, whole}
 use Rattle.bitmap.specs.Blocks.{blocks}
 use Rattle.record.specs.declared.Device.{Device}
@@ -131,7 +132,7 @@ module _ (d : Device) (bitmap table : List ℕ) (q : Queue) (g : Guest) where
       }
 
   -- ---- taking the next head
-  module _ (x : Taking) (x-is : x ≡ takingOf d q (8 * length bitmap) (length table / 3) (g .mem) (g .base)) where
+  module _ (x : Taking) (x-is : x ≡ takingOf d q (8 * length bitmap) (rowsIn (length table)) (g .mem) (g .base)) where
     taken-as : serveNext (worldOf d bitmap table) q g ≡ walks x (worldOf d bitmap table) q g
     taken-as = by-taking (worldOf d bitmap table) q g ∙ rw (blocks-length bitmap, count table, ← x-is)
 
@@ -148,7 +149,7 @@ module _ (d : Device) (bitmap table : List ℕ) (q : Queue) (g : Guest) where
     next-none told e is = rw (told-as told e) (unchanged told is)
 
   -- ---- the host's answer
-  module _ (ok : Bool) (host n : ℕ) (n-is : n ≡ queueRefusal d q (8 * length bitmap) (length table / 3) (length (g .mem)) (g .base)) where
+  module _ (ok : Bool) (host n : ℕ) (n-is : n ≡ queueRefusal d q (8 * length bitmap) (rowsIn (length table)) (length (g .mem)) (g .base)) where
     answered-as : hostAnswers (worldOf d bitmap table) q g ok host ≡ unlessRefused n (worldOf d bitmap table) q (g .mem) (answers (q .taken) q (g .base) (step (worldOf d bitmap table) (HostAnswer g ok host)))
     answered-as = by-refusal (worldOf d bitmap table) q g ok host ∙ rw (blocks-length bitmap, count table, ← n-is)
 

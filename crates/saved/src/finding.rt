@@ -171,7 +171,11 @@ fn run_wrong(seen: Seen, first: u64, count: u64) -> Found {
     if first < seen.from {
         return report(seen.line, TOUCHES, first, count);
     }
-    if !sum_within(first, count, MemTool::blocks_in(seen.v[5], MemTool::BLOCK_SIZE)) {
+    if !sum_within(
+        first,
+        count,
+        MemTool::blocks_in(seen.v[5], MemTool::BLOCK_SIZE),
+    ) {
         return report(seen.line, PAST, first, count);
     }
     report(seen.line, NOTHING, first, count)

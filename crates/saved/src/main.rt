@@ -147,7 +147,10 @@ fn say_old(number: u64, old: &[u8], f: Fields) {
 fn move_text(s: &[u8], scratch: &mut [u8], old: &mut [u8]) {
     let got = to_old(s, scratch, old);
     match got {
-        Got::Fields(f) => write(first_bytes(&old[..], MemTool::blocks_in(f.region, f.block) as usize)),
+        Got::Fields(f) => write(first_bytes(
+            &old[..],
+            MemTool::blocks_in(f.region, f.block) as usize,
+        )),
         Got::Refused(number) => say_line(number, wrong_line(s)),
     }
 }

@@ -103,7 +103,10 @@ pub fn restore(d: Device, bitmap: &mut [u8], s: &[u8]) -> Restored
         return Restored::Refused(number);
     }
     let c = d.config;
-    if is_short(bitmap.len(), MemTool::blocks_in(c.region_size, c.block_size)) {
+    if is_short(
+        bitmap.len(),
+        MemTool::blocks_in(c.region_size, c.block_size),
+    ) {
         return Restored::Refused(11);
     }
     let found = check(s);

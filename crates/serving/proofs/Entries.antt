@@ -12,7 +12,7 @@ use Rattle.units.specs.Numbers.{bytesOf}
 use Rattle.bitmap.specs.Blocks.{blocks, Filled}
 use Rattle.bitmap.proofs.Laws.{blocks-length}
 use Rattle.units.specs.declared.GuestAddr.{GuestAddr}
-use Rattle.rows.specs.Rows.{rowsOf}
+use Rattle.rows.specs.Rows.{rowsOf, rowsIn}
 use Rattle.rows.proofs.Words.{count}
 use Rattle.wire.specs.declared.VirtioMemReq.{VirtioMemReq}
 use Rattle.chain.specs.declared.Parsed.{Parsed}
@@ -39,7 +39,7 @@ bad-is (Got req status) k reason e w g = absurd (miss (1 ∷ []) 0 tt k)
 bad-is (Bad n) k reason e w g = rw e
 
 module _ (d : Device) (bitmap table : List ℕ) (number : ℕ) where
-  module _ (number-is : number ≡ readyRefusal d (8 * length bitmap) (length table / 3)) where
+  module _ (number-is : number ≡ readyRefusal d (8 * length bitmap) (rowsIn (length table))) where
     same-ready : readyRefusal d (length (blocks bitmap)) (length (rowsOf table)) ≡ number
     same-ready = rw (blocks-length bitmap, count table, ← number-is)
 
@@ -60,7 +60,7 @@ module _ (d : Device) (bitmap table : List ℕ) (number : ℕ) where
         unfolding request
         request-got req status q = request-ready ∙ rw q
 
-  module _ (number-is : number ≡ pendingRefusal d (8 * length bitmap) (length table / 3)) where
+  module _ (number-is : number ≡ pendingRefusal d (8 * length bitmap) (rowsIn (length table))) where
     same-pending : pendingRefusal d (length (blocks bitmap)) (length (rowsOf table)) ≡ number
     same-pending = rw (blocks-length bitmap, count table, ← number-is)
 

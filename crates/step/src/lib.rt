@@ -7,6 +7,7 @@ use record::is_idle;
 use record::shaped;
 use resize::grown_size;
 use resize::new_size;
+use rows::rows_in;
 use units::GuestAddr;
 use units::MemTool;
 use units::map_regions;
@@ -15,6 +16,7 @@ ghost use mathlib.Core.Path.{_≡_};
 ghost use mathlib.Core.Bool.{cond};
 ghost use Prim.Native.Nat.{_+_, _*_, _/_};
 ghost use Rattle.units.specs.Numbers.{blocksIn};
+ghost use Rattle.rows.specs.Rows.{rowsIn};
 ghost use mathlib.Core.List.{[]};
 ghost use Rattle.step.specs.Step.{tablesFit, readyRefusal, unplacedRefusal, pendingRefusal, sizedOf, served};
 ghost use Rattle.step.specs.Promise.{lent, Does};
@@ -61,17 +63,17 @@ fn bytes_for(region: u64, block_size: u64) -> u64
 
 // Whether a bitmap of `bytes` bytes and a map table of `words` words are long enough (11).
 pub fn tables_fit(d: Device, bytes: usize, words: usize) -> bool
-    ensures { λ r. ⌜ r ≡ tablesFit d (8 * bytes) (words / 3) ⌝ }
+    ensures { λ r. ⌜ r ≡ tablesFit d (8 * bytes) (rowsIn words) ⌝ }
 {
     let region = d.config.region_size;
     let needed = bytes_for(region, d.config.block_size);
     let rows = map_regions(region, d.several);
-    (needed <= bytes as u64) & (rows <= words as u64 / 3)
+    (needed <= bytes as u64) & (rows <= rows_in(words))
 }
 
 // Why a request or a size change is refused, or 0.
 pub fn ready_refusal(d: Device, bytes: usize, words: usize) -> u64
-    ensures { λ r. ⌜ r ≡ readyRefusal d (8 * bytes) (words / 3) ⌝ }
+    ensures { λ r. ⌜ r ≡ readyRefusal d (8 * bytes) (rowsIn words) ⌝ }
 {
     if !shaped(d) {
         return 12;
@@ -91,7 +93,7 @@ pub fn ready_refusal(d: Device, bytes: usize, words: usize) -> u64
 
 // Why placing is refused before its own tests, or 0.
 pub fn unplaced_refusal(d: Device, bytes: usize, words: usize) -> u64
-    ensures { λ r. ⌜ r ≡ unplacedRefusal d (8 * bytes) (words / 3) ⌝ }
+    ensures { λ r. ⌜ r ≡ unplacedRefusal d (8 * bytes) (rowsIn words) ⌝ }
 {
     if !shaped(d) {
         return 12;
@@ -111,7 +113,7 @@ pub fn unplaced_refusal(d: Device, bytes: usize, words: usize) -> u64
 
 // Why a host answer is refused before it is looked at, or 0.
 pub fn pending_refusal(d: Device, bytes: usize, words: usize) -> u64
-    ensures { λ r. ⌜ r ≡ pendingRefusal d (8 * bytes) (words / 3) ⌝ }
+    ensures { λ r. ⌜ r ≡ pendingRefusal d (8 * bytes) (rowsIn words) ⌝ }
 {
     if !shaped(d) {
         return 12;

@@ -16,14 +16,17 @@ bytes-for-requires c κs = search needs
 map-regions-requires : tie.Need-map-regions-requires
 map-regions-requires c κs = search needs
 
+rows-in-requires : tie.Need-rows-in-requires
+rows-in-requires c κs = search needs
+
 returns : tie.Need-returns
 unfolding tablesFit
 returns c =
-    let a = c .before .before .args in
+    let a = c .before .before .before .args in
     let blocks = blocksIn (a .d .config .«block_size») (a .d .config .«region_size») in
     let eight : leb ((blocks + 7) / 8) (a .bytes) ≡ leb blocks (8 * a .bytes) =
     leb-same ((blocks + 7) / 8) (a .bytes) blocks (8 * a .bytes) (λ h. omega arith) (λ h. omega arith) in
-    simp (c .before .bytes-for .ensures, c .map-regions .ensures, eight)
+    simp (c .before .before .bytes-for .ensures, c .before .map-regions .ensures, c .rows-in .ensures, eight)
 
 pub tables-fit-spec : {M : Type 1} → statement M
-tables-fit-spec = tie.close (tie.spec bytes-for-requires map-regions-requires returns)
+tables-fit-spec = tie.close (tie.spec bytes-for-requires map-regions-requires rows-in-requires returns)
