@@ -9,7 +9,7 @@ use Rattle.step.specs.Promise.{Lent}
 use Rattle.step.proofs.Once.{leaves-once}
 use Rattle.queue.specs.declared.QueueAnswer.{QueueAnswer}
 use Rattle.queue.specs.declared.Turn.{Turn}
-use Rattle.queue.specs.Queue.{QueueOutcome, turned, leavesAs, GivesTurn}
+use Rattle.queue.specs.Queue.{QueueOutcome, turned, leftByQueue, GivesTurn}
 
 same-turn : (s s′ : Turn) → s .device ≡ s′ .device → s .queue ≡ s′ .queue → s .answer ≡ s′ .answer → s ≡ s′
 same-turn s s′ p q r =
@@ -23,5 +23,5 @@ pub turn-once : (o : QueueOutcome) (before after after′ : Lent) (s s′ : Turn
     → GivesTurn o before after s → GivesTurn o before after′ s′ → (s ≡ s′) × (after ≡ after′)
 turn-once o before after after′ s s′ b b′ m m′ = (
   same-turn s s′ (m .recorded ∙ sym (m′ .recorded)) (m .queued ∙ sym (m′ .queued)) (m .answered ∙ sym (m′ .answered)),
-  leaves-once (leavesAs o) before after after′ b b′ (m .leaves) (m′ .leaves),
+  leaves-once (leftByQueue o) before after after′ b b′ (m .leaves) (m′ .leaves),
 )

@@ -22,7 +22,7 @@ use Rattle.step.specs.declared.Answer.the-variants.{Refused, Wants, Sized, Unse
 use Rattle.step.specs.World.{World, Guest, Request, HostAnswer, Outcome}
 use Rattle.step.specs.Answers.{answerWords}
 use Rattle.step.specs.Step.{step, readyRefusal, pendingRefusal, tablesFit}
-use Rattle.step.specs.Promise.{Lent, on, guestIn, Leaves}
+use Rattle.step.specs.Promise.{Lent, Meant, on, guestIn, Leaves}
 use Rattle.queue.specs.declared.QueueAnswer.{QueueAnswer}
 use Rattle.queue.specs.declared.QueueAnswer.the-variants.{Empty, Of}
 use Rattle.queue.specs.declared.Ending.{Ending}
@@ -209,9 +209,9 @@ queueAnswerWords (Of a) = answerWords a
 abbrev pub queueNumberOf : QueueAnswer → ℕ
 queueNumberOf t = getD (queueAnswerWords t) 1 0
 
--- an outcome of the device that leaves the same: its answer does not count
-abbrev pub leavesAs : QueueOutcome → Outcome
-leavesAs o = record { world = o .world; answer = Done; bytes = o .bytes }
+-- what an outcome leaves
+abbrev pub leftByQueue : QueueOutcome → Meant
+leftByQueue o = record { blocks = o .world .blocks; rows = o .world .rows; bytes = o .bytes }
 
 -- an outcome is given: what is told, with its words, its record, its queue, and what was lent as it leaves it
 pub record GivesTurn (o : QueueOutcome) (before after : Lent) (s : Turn) : Type 0 where
@@ -219,7 +219,7 @@ pub record GivesTurn (o : QueueOutcome) (before after : Lent) (s : Turn) : Type 
   pub told : queueAnswerWords (s .answer) ≡ queueAnswerWords (o .answer)
   pub recorded : s .device ≡ o .world .device
   pub queued : s .queue ≡ o .queue
-  pub leaves : Leaves (leavesAs o) before after
+  pub leaves : Leaves (leftByQueue o) before after
 
 -- the call on the queue, on what was lent, gives what is said here
 abbrev pub TakesTurn : (World → Queue → Guest → QueueOutcome) → Device → Queue → (base : GuestAddr) → (before after : Lent) → Turn → Type 0
