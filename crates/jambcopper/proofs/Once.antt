@@ -8,7 +8,7 @@ use Rattle.step.specs.Step.{step}
 use Rattle.step.specs.Promise.{Lent, on, guestIn, leftBy}
 use Rattle.step.proofs.Once.{leaves-once}
 use Rattle.rings.specs.declared.Queue.{Queue}
-use Rattle.queue.specs.Queue.{QueueOutcome}
+use Rattle.queue.specs.Queue.{QueueOutcome, leftByQueue}
 use Rattle.making.specs.declared.Made.{Made}
 use Rattle.words.specs.declared.Decoded.{Decoded}
 use Rattle.words.specs.declared.Decoded.the-variants.{Is, NoRecord}
@@ -17,7 +17,7 @@ use Rattle.queue_words.specs.declared.DecodedQueue.{DecodedQueue}
 use Rattle.queue_words.specs.declared.DecodedQueue.the-variants.{Is as IsQueue, NoQueue}
 use Rattle.queue_words.specs.Words.{decodedQueueOf}
 use Rattle.jambcopper.specs.Exports.{MadeIn, Handed, handed, Told, Foreign, Called, Exported}
-use Rattle.jambcopper.specs.Queue.{QueueMadeIn, QueueHanded, queueHanded, QueueCall, leftByQueue, QueueTold, QueueForeign, QueueCalled, QueueExported}
+use Rattle.jambcopper.specs.Queue.{QueueMadeIn, QueueHanded, queueHanded, QueueCall, QueueTold, QueueForeign, QueueCalled, QueueExported}
 
 pub made-in-once : (words : List ℕ) (m : Made) (n n′ : ℕ) (words′ words″ : List ℕ) → MadeIn words m n words′ → MadeIn words m n′ words″ → (n ≡ n′) × (words′ ≡ words″)
 made-in-once words m n n′ words′ words″ p q = (p .numbered ∙ sym (q .numbered), p .recorded ∙ sym (q .recorded))

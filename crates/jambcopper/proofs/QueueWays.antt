@@ -21,7 +21,7 @@ use Rattle.step.specs.Answers.{answerWords}
 use Rattle.step.proofs.Lengths.{Short}
 use Rattle.queue.specs.declared.QueueAnswer.{QueueAnswer}
 use Rattle.queue.specs.declared.Ending.{Ending}
-use Rattle.queue.specs.Queue.{endingOf, queueBy, unmoved, aside, about, Settled, queueAnswerWords, queueNumberOf}
+use Rattle.queue.specs.Queue.{endingOf, queueBy, unmoved, aside, about, Settles, queueAnswerWords, queueNumberOf}
 use Rattle.words.specs.declared.Decoded.{Decoded}
 use Rattle.words.specs.declared.Decoded.the-variants.{Is, NoRecord}
 use Rattle.words.specs.Record.{wordsOf, decodedOf}
@@ -105,7 +105,7 @@ module _ (call : QueueCall) (base : ℕ) (words queue : List ℕ) (r : Decoded) 
     -- that is about a head: its ending is read from its nine words, which are passed on
     pub about-told : length told ≡ 9 → Short (outcome .answer) → (head : ℕ) (was out : Queue)
         → call (on d before) q (guestIn before base) ≡ about head base was out outcome
-        → (ending : Ending) → ending ≡ endingWords told′ → (now : Queue) (queue′ answer answer′ bytes′ : List ℕ) → Settled ending head base was out (after .bytes) now bytes′
+        → (ending : Ending) → ending ≡ endingWords told′ → (now : Queue) (queue′ answer answer′ bytes′ : List ℕ) → Settles ending head base was out (after .bytes) now bytes′
         → (queue′ ≡ put queue 0 (queueWords now)) × (6 ≤ length queue → decodedQueueOf queue′ ≡ IsQueue now) → answer′ ≡ put answer 0 told′
         → QueueExported call base (queueHanded queue (handed words answer before)) (queueHanded queue′ (handed words′ answer′ (lent (after .bitmap) (after .table) bytes′))) number
     unfolding QueueCalled

@@ -8,7 +8,7 @@ use lib.ListN.{length}
 use Rattle.little_endian.specs.Bytes.{put}
 use Rattle.rings.specs.declared.Queue.{Queue}
 use Rattle.rings.specs.declared.Taken.the-variants.{Nothing}
-use Rattle.queue.specs.Queue.{QueueOutcome, queueAnswerWords, queueNumberOf}
+use Rattle.queue.specs.Queue.{QueueOutcome, queueAnswerWords, queueNumberOf, leftByQueue}
 use Rattle.words.specs.declared.Decoded.{Decoded}
 use Rattle.words.specs.declared.Decoded.the-variants.{Is, NoRecord}
 use Rattle.words.specs.Record.{wordsOf, decodedOf}
@@ -16,7 +16,7 @@ use Rattle.queue_words.specs.declared.DecodedQueue.{DecodedQueue}
 use Rattle.queue_words.specs.declared.DecodedQueue.the-variants.{Is as IsQueue, NoQueue}
 use Rattle.queue_words.specs.Words.{queueWords, decodedQueueOf}
 use Rattle.step.specs.World.{World, Guest}
-use Rattle.step.specs.Promise.{on, guestIn, Meant, Leaves}
+use Rattle.step.specs.Promise.{on, guestIn, Leaves}
 use Rattle.jambcopper.specs.Exports.{Handed, Foreign}
 
 -- ---- making
@@ -49,9 +49,6 @@ queueHanded queue others = record { queue = queue; others = others }
 -- a call on a queue, on the world and the guest memory that it finds
 abbrev pub QueueCall : Type 0
 QueueCall = World → Queue → Guest → QueueOutcome
-
-abbrev pub leftByQueue : QueueOutcome → Meant
-leftByQueue o = record { blocks = o .world .blocks; rows = o .world .rows; bytes = o .bytes }
 
 -- the call's outcome: its number, and all that it leaves; the next call goes on from the outcome's record and queue
 pub record QueueTold (o : QueueOutcome) (entry exit : QueueHanded) (number : ℕ) : Type 0 where

@@ -272,7 +272,7 @@ pub extern "C" fn jambcopper_serve(
         return tell(Answer::Refused(12), answer);
     };
     match next_taking(d, q, bitmap.len(), table.len(), &mem[..], GuestAddr(base)) {
-        Taking::Told(told) => tell_queue(told, answer),
+        Taking::NoHead(told) => tell_queue(told, answer),
         Taking::Walk(head) => {
             // Words of its own: those that are lent may be too few to read the head's ending from.
             let mut told: [u64; ANSWER_WORDS] = [0; ANSWER_WORDS];

@@ -23,7 +23,7 @@ use Rattle.step.specs.declared.Answer.the-variants.{Refused}
 use Rattle.step.specs.World.{World, Guest, Call, Request, HostAnswer}
 use Rattle.step.specs.Step.{step, readyRefusal, pendingRefusal, tablesFit}
 use Rattle.queue.specs.declared.QueueAnswer.the-variants.{Of}
-use Rattle.queue.specs.Queue.{QueueOutcome, discarding, queueOk, takingRefusal, nextUnless, nextOf, takes, firstOf, outRefusal, answerRefusal, answers, unlessRefused}
+use Rattle.queue.specs.Queue.{QueueOutcome, discarding, queueOk, takingRefusal, nextUnless, nextOf, takes, firstGiven, outRefusal, answerRefusal, answers, unlessRefused}
 use Rattle.history.specs.Rules.{Never12 as DeviceNever12}
 use Rattle.history.proofs.KeepsShape.{is-shaped}
 use Rattle.history.proofs.Sizes.{never-12 as device-never-12}
