@@ -35,7 +35,7 @@ pub fn rows_in(words: usize) -> u64
 }
 
 // How many rows the table holds.
-pub fn row_count(table: &[u64]) -> u64
+fn row_count(table: &[u64]) -> u64
     ensures { λ r. ⌜ r ≡ length (rowsOf (now (table .entry))) ⌝ }
 {
     rows_in(table.len())

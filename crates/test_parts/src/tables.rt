@@ -46,7 +46,7 @@ fn host_of(mapping: Mapping) -> Found {
 
 fn find(table: &[u64], kind: u8, a: u64, b: u64) -> Found {
     match kind {
-        b'c' => some(rows::row_count(table)),
+        b'c' => some(rows::rows_in(table.len())),
         b'm' => host_of(rows::mapping_of(table, a)),
         b's' => some(rows::slot_of(table, a)),
         b'u' => row_of(rows::first_unmapped(table, a, b)),
