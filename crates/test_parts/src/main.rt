@@ -1,8 +1,8 @@
 // SPDX-License-Identifier: Apache-2.0 AND BSD-3-Clause
-// The wire, the map table and the texts of a trace at their limits, as tables. Each row of data/ is a call and, behind an
-// arrow, its answer; a row that gets another is printed with it.
-// The first letter of a call says what it is, and its numbers count; its words are for the reader. What the rows are, and
-// their columns, each file says in its lines that begin with #.
+// The wire, the map table and the texts of a trace at their limits, as tables. Each row of data/ is a call and, behind
+// an arrow, its answer; a row that gets another is printed with it. The first letter of a call says what it is, and its
+// numbers count; its words are for the reader. What the rows are, and their columns, each file says in its lines that
+// begin with #.
 use libc::STDOUT_FILENO;
 use little_endian::from;
 use parts::byte_at;
@@ -94,8 +94,6 @@ fn run_file(name: &[u8], file: u64) {
     let n = io::read_full(fd, &mut text);
     libc::close(fd);
     let count = run(&text[..n], file);
-    word(name);
-    word(b": ");
     io::print_decimal(STDOUT_FILENO, count.rows);
     word(b" rows, ");
     io::print_decimal(STDOUT_FILENO, count.differing);

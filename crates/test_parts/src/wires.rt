@@ -61,10 +61,11 @@ fn request(out: &mut [u8], lent: &[u8], at: usize) -> usize {
 fn read(out: &mut [u8], kind: u8, v: Row) -> usize {
     let bytes = bytes_of(v);
     let lent = front(&bytes, v[0] as usize);
+    let at = v[1] as usize;
     if kind == b'n' {
-        return numbers(out, lent, v[1] as usize);
+        return numbers(out, lent, at);
     }
-    request(out, lent, v[1] as usize)
+    request(out, lent, at)
 }
 
 fn field(out: &mut [u8], k: usize) -> usize {
@@ -81,10 +82,10 @@ fn write_number(bytes: &mut [u8], at: usize, width: u64, n: u64) {
     }
 }
 
-fn write_response(bytes: &mut [u8], at: usize, resp_type: u16, state: u16) {
+fn write_response(bytes: &mut [u8], at: usize, resp_type: u64, state: u64) {
     let resp = VirtioMemResp {
-        resp_type: resp_type,
-        state: state,
+        resp_type: narrow(resp_type),
+        state: narrow(state),
     };
     wire::write_response(bytes, at, resp);
 }
@@ -109,11 +110,11 @@ fn config_of(kind: u8, v: Row) -> VirtioMemConfig {
     counting()
 }
 
-fn write(bytes: &mut [u8], kind: u8, v: Row) {
+fn write(bytes: &mut [u8], kind: u8, at: u64, a: u64, b: u64, config: VirtioMemConfig) {
     match kind {
-        b'p' => write_response(bytes, v[1] as usize, narrow(v[2]), narrow(v[3])),
-        b'w' => write_number(bytes, v[1] as usize, v[2], v[3]),
-        _ => wire::read_config(config_of(kind, v), v[1], bytes),
+        b'p' => write_response(bytes, at as usize, a, b),
+        b'w' => write_number(bytes, at as usize, a, b),
+        _ => wire::read_config(config, at, bytes),
     }
 }
 
@@ -124,7 +125,8 @@ fn written(out: &mut [u8], kind: u8, v: Row) -> usize {
     if 64 < lent {
         return 0;
     }
-    write(&mut bytes[..lent], kind, v);
+    let config = config_of(kind, v);
+    write(&mut bytes[..lent], kind, v[1], v[2], v[3], config);
     put_bytes(out, bytes, lent)
 }
 

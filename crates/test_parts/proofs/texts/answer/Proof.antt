@@ -28,6 +28,18 @@ slice-relend-prefix-put c = search needs
 slice-aggregate-put : tie.Need-slice-aggregate-put
 slice-aggregate-put c = sym (length-take-le _ _ (omega arith))
 
+array-read-put : tie.Need-array-read-put
+array-read-put c = search needs
+
+array-read-put-2 : tie.Need-array-read-put-2
+array-read-put-2 c = search needs
+
+array-read-put-3 : tie.Need-array-read-put-3
+array-read-put-3 c = search needs
+
+array-read-put-4 : tie.Need-array-read-put-4
+array-read-put-4 c = search needs
+
 put-requires : tie.Need-put-requires
 put-requires c κs = search needs
 
@@ -57,6 +69,10 @@ answer-spec =
     returns-2
     slice-relend-prefix-put
     slice-aggregate-put
+    array-read-put
+    array-read-put-2
+    array-read-put-3
+    array-read-put-4
     put-requires
     slice-aggregate-put-form-at
     slice-aggregate-put-form-at-2

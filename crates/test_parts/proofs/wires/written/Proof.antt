@@ -13,11 +13,23 @@ array-read-lent c = search needs
 returns : tie.Need-returns
 returns c = search needs
 
+config-of-requires : tie.Need-config-of-requires
+config-of-requires c κs = search needs
+
 array-borrow-prefix-bytes : tie.Need-array-borrow-prefix-bytes
 array-borrow-prefix-bytes c = search needs
 
 slice-aggregate-write : tie.Need-slice-aggregate-write
 slice-aggregate-write c = sym (length-take-le _ _ (omega arith))
+
+array-read-write : tie.Need-array-read-write
+array-read-write c = search needs
+
+array-read-write-2 : tie.Need-array-read-write-2
+array-read-write-2 c = search needs
+
+array-read-write-3 : tie.Need-array-read-write-3
+array-read-write-3 c = search needs
 
 write-requires : tie.Need-write-requires
 write-requires c κs = search needs
@@ -37,8 +49,12 @@ written-spec =
     (tie.spec
     array-read-lent
     returns
+    config-of-requires
     array-borrow-prefix-bytes
     slice-aggregate-write
+    array-read-write
+    array-read-write-2
+    array-read-write-3
     write-requires
     put-bytes-requires
     same-length
