@@ -41,8 +41,8 @@ pub enum Proposal {
     Refused(u64),
 }
 
-// Writes the 24 bytes of a request, or gives 16 and writes nothing. The type and the blocks are written as numbers of eight bytes,
-// whose upper six are the padding.
+// Writes the 24 bytes of a request, or gives 16 and writes nothing. The type and the blocks are written as numbers of
+// eight bytes, whose upper six are the padding.
 pub fn write_request(bytes: &mut [u8], req: VirtioMemReq) -> u64
     ensures { λ r. ⌜ Wrote req (now (bytes .entry)) (now (bytes .exit)) r ⌝ }
 {
@@ -149,9 +149,9 @@ fn count_of(bitmap: &[u8], block_size: u64, usable: u64, first: u64, room: u64) 
     smaller(stop - first, room)
 }
 
-// Proposes the plug that starts at the lowest free block and takes all blocks up to the next plugged one, the 2 GiB border of
-// offsets, the usable end or the spent requested size.
-// 12: not the fields of a device's config; 11: the bitmap is too short; 17: no plug of one block is legal.
+// Proposes the plug that starts at the lowest free block and takes all blocks up to the next plugged one, the 2 GiB
+// border of offsets, the usable end or the spent requested size. 12: not the fields of a device's config; 11: the
+// bitmap is too short; 17: no plug of one block is legal.
 pub fn plan(config: VirtioMemConfig, bitmap: &[u8]) -> Proposal
     ensures { λ r. ⌜ r ≡ planOf config (blocks (now (bitmap .entry))) ⌝ }
 {

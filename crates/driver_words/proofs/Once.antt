@@ -5,9 +5,9 @@ use mathlib.Core.Path.{_≡_, sym, _∙_}
 use mathlib.Core.Bool.{Bool}
 use mathlib.Core.List.{List}
 use Rattle.driver.proofs.Once.{response-once, config-once}
-use Rattle.driver_words.specs.Told.{Gives, Told, ResponseTold, ConfigTold, PlanTold}
+use Rattle.driver_words.specs.Told.{WordsOrNumber, ToldWords, ResponseTold, ConfigTold, PlanTold}
 
-told-once : {n : ℕ} {g : Gives} {words xs ys : List ℕ} {r s : ℕ} → Told n g words xs r → Told n g words ys s → (r ≡ s) × (xs ≡ ys)
+told-once : {n : ℕ} {g : WordsOrNumber} {words xs ys : List ℕ} {r s : ℕ} → ToldWords n g words xs r → ToldWords n g words ys s → (r ≡ s) × (xs ≡ ys)
 told-once a b = (a .numbered ∙ sym (b .numbered), a .written ∙ sym (b .written))
 
 pub response-told-once : (bytes words xs ys : List ℕ) (r s : ℕ) → ResponseTold bytes words xs r → ResponseTold bytes words ys s → (r ≡ s) × (xs ≡ ys)

@@ -17,30 +17,30 @@ use Rattle.driver.specs.Text.{ReadsResponse, ReadsConfig}
 use Rattle.driver.specs.Plan.{planOf}
 
 -- what a call gives: the words of a value, or the number of its refusal
-pub data Gives : Type 0 where
-  Words : List ℕ → Gives
-  Number : ℕ → Gives
+pub data WordsOrNumber : Type 0 where
+  Words : List ℕ → WordsOrNumber
+  Number : ℕ → WordsOrNumber
 
-unfoldable pub numberIn : Gives → ℕ
+unfoldable pub numberIn : WordsOrNumber → ℕ
 numberIn (Words ws) = 0
 numberIn (Number n) = n
 
 -- a refused call writes nothing
-unfoldable pub wordsIn : Gives → List ℕ → List ℕ
+unfoldable pub wordsIn : WordsOrNumber → List ℕ → List ℕ
 wordsIn (Words ws) words = put words 0 ws
 wordsIn (Number n) words = words
 
 -- R19.6: 16 where there is no room for n words, and nothing is written
-pub record Told (n : ℕ) (g : Gives) (words words′ : List ℕ) (number : ℕ) : Type 0 where
+pub record ToldWords (n : ℕ) (g : WordsOrNumber) (words words′ : List ℕ) (number : ℕ) : Type 0 where
   pub numbered : number ≡ cond (leb n (length words)) (numberIn g) 16
   pub written : words′ ≡ cond (leb n (length words)) (wordsIn g words) words
 
 -- ---- the words of each value
-unfoldable pub responseGives : GotResponse → Gives
+unfoldable pub responseGives : GotResponse → WordsOrNumber
 responseGives (Response v) = Words (v .«resp_type» ∷ v .state ∷ [])
 responseGives (NoResponse n) = Number n
 
-unfoldable pub configGives : GotConfig → Gives
+unfoldable pub configGives : GotConfig → WordsOrNumber
 configGives (Config c) =
     Words
     (c .«block_size»
@@ -53,12 +53,12 @@ configGives (Config c) =
     ∷ [])
 configGives (NoConfig n) = Number n
 
-unfoldable pub proposalGives : Proposal → Gives
+unfoldable pub proposalGives : Proposal → WordsOrNumber
 proposalGives (Plug addr n) = Words (addr .0 ∷ n ∷ [])
 proposalGives (Refused n) = Number n
 
 -- the number against the bytes comes before those of the planner
-unfoldable pub planGives : GotConfig → List Bool → Gives
+unfoldable pub planGives : GotConfig → List Bool → WordsOrNumber
 planGives (Config c) bs = proposalGives (planOf c bs)
 planGives (NoConfig n) bs = Number n
 
@@ -66,14 +66,14 @@ planGives (NoConfig n) bs = Number n
 pub record ResponseTold (bytes words words′ : List ℕ) (number : ℕ) : Type 0 where
   pub got : GotResponse
   pub reads : ReadsResponse bytes got
-  pub told : Told 2 (responseGives got) words words′ number
+  pub told : ToldWords 2 (responseGives got) words words′ number
 
 pub record ConfigTold (bytes words words′ : List ℕ) (number : ℕ) : Type 0 where
   pub got : GotConfig
   pub reads : ReadsConfig bytes got
-  pub told : Told 7 (configGives got) words words′ number
+  pub told : ToldWords 7 (configGives got) words words′ number
 
 pub record PlanTold (bytes : List ℕ) (bs : List Bool) (words words′ : List ℕ) (number : ℕ) : Type 0 where
   pub got : GotConfig
   pub reads : ReadsConfig bytes got
-  pub told : Told 2 (planGives got bs) words words′ number
+  pub told : ToldWords 2 (planGives got bs) words words′ number

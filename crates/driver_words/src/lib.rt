@@ -1,6 +1,6 @@
 // SPDX-License-Identifier: Apache-2.0 AND BSD-3-Clause
-// What the guest's side reads and proposes as words, for callers that have no enums. A slice without room for all words is refused
-// with 16, and a refused call writes nothing.
+// What the guest's side reads and proposes as words, for callers that have no enums. A slice without room for all
+// words is refused with 16, and a refused call writes nothing.
 use driver::GotConfig;
 use driver::GotResponse;
 use driver::Proposal;

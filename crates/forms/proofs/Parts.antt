@@ -2,13 +2,13 @@
 -- A form that was filled at the start of a text is found there with what it was filled with, and what was found there was a filled form.
 use Prim.Native.Nat.{ℕ, zero, suc, _+_, _-_, _≤_, _<_}
 use mathlib.Core.Path.{_≡_, refl, sym, ap, _∙_}
-use mathlib.Core.Bool.{true, false, not, _&&_}
+use mathlib.Core.Bool.{true, not, _&&_}
 use mathlib.Core.List.{List, [], _∷_, _++_, append-assoc}
 use native.Mathlib.Omega.{arith}
 use borrow.Author.Tests.{not-true, eq-eqb, eqb-true}
 use lib.Dec.{eqb}
 use lib.ListN.{length, drop, getD, length-append, length-drop}
-use lib.Seq.{sets, getD-append-seam, take-length}
+use lib.Seq.{getD-append-seam, take-length}
 use Rattle.units.proofs.Tests.{by-test, and-left, and-right}
 use Rattle.text.specs.Decimal.{decimal}
 use Rattle.text.specs.Reading.{Got, got, nothing, isDigit, digitOf, wordOf}

@@ -17,9 +17,13 @@ pub enum Place {
     Nowhere,
 }
 
-// Whether a filled form stands at a position of a text, and where the text goes on; the numbers that stand in its holes go into `values`.
+// Whether a filled form stands at a position of a text, and where the text goes on; the numbers that stand in its
+// holes go into `values`.
 pub fn scan_at(s: &[u8], at: usize, form: &[u8], values: &mut [u64]) -> Place
-    ensures { λ r. ⌜ ScannedAt (now (values .entry)) (now (s .entry)) (partOf (length (now (values .entry))) (now (form .entry)) (drop at (now (s .entry)))) r (now (values .exit)) ⌝ }
+    ensures { λ r. ⌜
+        ScannedAt (now (values .entry)) (now (s .entry))
+        (partOf (length (now (values .entry))) (now (form .entry)) (drop at (now (s .entry)))) r (now (values .exit))
+        ⌝ }
 {
     let mut i = smaller(at as u64, s.len() as u64) as usize;
     let mut j = 0;
@@ -52,7 +56,10 @@ pub fn scan_at(s: &[u8], at: usize, form: &[u8], values: &mut [u64]) -> Place
 
 // Whether a text is a filled form; the numbers that stand in its holes go into `values`.
 pub fn scan(s: &[u8], form: &[u8], values: &mut [u64]) -> bool
-    ensures { λ r. ⌜ Scanned (now (values .entry)) (scanOf (length (now (values .entry))) (now (form .entry)) (now (s .entry))) r (now (values .exit)) ⌝ }
+    ensures { λ r. ⌜
+        Scanned (now (values .entry))
+        (scanOf (length (now (values .entry))) (now (form .entry)) (now (s .entry))) r (now (values .exit))
+        ⌝ }
 {
     let Place::At(i) = scan_at(s, 0, form, values) else {
         return false;
@@ -76,7 +83,9 @@ pub fn within(at: usize, len: usize) -> usize
 
 // Puts a form with numbers in its holes into a buffer, at a position.
 pub fn put_form_at(out: &mut [u8], at: usize, form: &[u8], values: &[u64]) -> usize
-    ensures { λ r. ⌜ Put (now (out .entry)) at (filled (now (form .entry)) (now (values .entry))) (now (out .exit)) r ⌝ }
+    ensures { λ r. ⌜
+        Put (now (out .entry)) at (filled (now (form .entry)) (now (values .entry))) (now (out .exit)) r
+        ⌝ }
 {
     let mut to = within(at, out.len());
     let mut j = 0;

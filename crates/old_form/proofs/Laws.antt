@@ -15,7 +15,7 @@ use Rattle.save.specs.declared.Wrote.{Wrote}
 use Rattle.save.specs.declared.Wrote.the-variants.{Text, Refused}
 use Rattle.save.specs.declared.Got.{Got}
 use Rattle.save.specs.declared.Got.the-variants as got
-use Rattle.save.specs.Text.{textOf, shapeOk, allOf, validOf, State, Says}
+use Rattle.save.specs.Text.{textOf, shapeOk, allOf, validOf, IsState, Says}
 use Rattle.save.specs.Writing.{writtenOn}
 use Rattle.save.specs.Reading.{noRoom}
 use Rattle.save.proofs.Text.{valid-shape, one-text}
@@ -63,12 +63,12 @@ bits-length (x ∷ xs) = ap suc (bits-length xs)
 
 -- what is moved to new is a state
 pub moved-state : (f : Fields) (old scratch : List ℕ) (room n : ℕ) → Text n ≡ movedOf f old scratch room
-    → (isOld old ≡ true) × State f (bitsOf old) × (n ≡ length (newText f old)) × (n ≤ room)
+    → (isOld old ≡ true) × IsState f (bitsOf old) × (n ≡ length (newText f old)) × (n ≤ room)
 unfolding movedOf oldOk
 moved-state f old scratch room n e = go (noRoom scratch) refl
   where
     good : (b : Bool) → (oldOk f old && (validOf f (bitsOf old) && leb (length (newText f old)) room)) ≡ b → Text n ≡ cond b (Text (length (newText f old))) (Refused 18)
-        → (isOld old ≡ true) × State f (bitsOf old) × (n ≡ length (newText f old)) × (n ≤ room)
+        → (isOld old ≡ true) × IsState f (bitsOf old) × (n ≡ length (newText f old)) × (n ≤ room)
     good true p q =
         let ok = and-left (oldOk f old) _ p in
         let v = and-right (oldOk f old) _ p in
@@ -83,12 +83,12 @@ moved-state f old scratch room n e = go (noRoom scratch) refl
         )
     good false p q = let z : _≡_ {A = ℕ} 0 1 = cc in absurd (omega arith)
 
-    go : (b : Bool) → noRoom scratch ≡ b → (isOld old ≡ true) × State f (bitsOf old) × (n ≡ length (newText f old)) × (n ≤ room)
+    go : (b : Bool) → noRoom scratch ≡ b → (isOld old ≡ true) × IsState f (bitsOf old) × (n ≡ length (newText f old)) × (n ≤ room)
     go true p = let q : Text n ≡ Refused 11 = e ∙ rw p in let z : _≡_ {A = ℕ} 0 1 = cc in absurd (omega arith)
     go false p = good _ refl (e ∙ rw p)
 
 -- a state's old bytes are moved to its text, where there is room
-pub state-moved : (f : Fields) (bs : List Bool) (scratch : List ℕ) (room : ℕ) → State f bs → noRoom scratch ≡ false → length (textOf 2 f bs) ≤ room
+pub state-moved : (f : Fields) (bs : List Bool) (scratch : List ℕ) (room : ℕ) → IsState f bs → noRoom scratch ≡ false → length (textOf 2 f bs) ≤ room
     → movedOf f (oldOf bs) scratch room ≡ Text (length (textOf 2 f bs))
 unfolding movedOf oldOk
 state-moved f bs scratch room st long fits =

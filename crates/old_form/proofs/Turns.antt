@@ -20,7 +20,7 @@ use Rattle.save.specs.declared.Got.{Got}
 use Rattle.save.specs.declared.Got.the-variants as got
 use Rattle.save.specs.Text.{textOf, shapeOk, allOf}
 use Rattle.save.specs.Writing.{blocksFor, isShort, wroteOf, writtenOn, Writes}
-use Rattle.save.specs.Reading.{Holds, noRoom, Reads}
+use Rattle.save.specs.Reading.{HoldsBlocks, noRoom, ReadsState}
 use Rattle.save.proofs.Text.{in-blocks, shape-is}
 use Rattle.old_form.specs.Old.{oldOf, isOld, bitsOf}
 use Rattle.old_form.specs.Moves.{oldOk, movedOf, ToNew, ToOld}
@@ -98,7 +98,7 @@ module _ {old entry : List ℕ} {i : ℕ} {cur : List ℕ} (o : Packing old entr
         };
       }
 
-  pub pack-end : length old ≤ i → i ≤ length old → Holds (bitsOf old) entry cur
+  pub pack-end : length old ≤ i → i ≤ length old → HoldsBlocks (bitsOf old) entry cur
   pack-end h k =
       let e : i ≡ length old = omega arith in
       let w : i ≡ length (bitsOf old) = e ∙ sym (bits-length old) in
@@ -211,7 +211,7 @@ module _ (f : Fields) (old scratch out : List ℕ) where
           unfolding oldOk
           old-ok = let s = shape in let e = eq-eqb (length old) all n in let z = passed (isOld old) t o w in rw (s, ← a, e, z)
 
-          pub moved : (scratch′ out′ : List ℕ) (x : Wrote) → Holds (bitsOf old) scratch scratch′ → Writes f scratch′ out out′ x → ToNew f old scratch scratch′ out out′ x
+          pub moved : (scratch′ out′ : List ℕ) (x : Wrote) → HoldsBlocks (bitsOf old) scratch scratch′ → Writes f scratch′ out out′ x → ToNew f old scratch scratch′ out out′ x
           unfolding movedOf wroteOf
           moved scratch′ out′ x h y =
               let l = there in
@@ -231,14 +231,14 @@ module _ (f : Fields) (old scratch out : List ℕ) where
 
 -- ---- `to_old`
 
-fields-at : (s before after : List ℕ) (most : ℕ) (r : Got) → Reads s most before after r → (f : Fields) → r ≡ got.Fields f → Reads s most before after (got.Fields f)
-fields-at s before after most r h f e = let g : Reads s most before after (got.Fields f) = rw e at h in g
+fields-at : (s before after : List ℕ) (most : ℕ) (r : Got) → ReadsState s most before after r → (f : Fields) → r ≡ got.Fields f → ReadsState s most before after (got.Fields f)
+fields-at s before after most r h f e = let g : ReadsState s most before after (got.Fields f) = rw e at h in g
 
-pub number-at : (s before after : List ℕ) (most : ℕ) (r : Got) → Reads s most before after r → (k : ℕ) → r ≡ got.Refused k → Reads s most before after (got.Refused k)
-number-at s before after most r h k e = let g : Reads s most before after (got.Refused k) = rw e at h in g
+pub number-at : (s before after : List ℕ) (most : ℕ) (r : Got) → ReadsState s most before after r → (k : ℕ) → r ≡ got.Refused k → ReadsState s most before after (got.Refused k)
+number-at s before after most r h k e = let g : ReadsState s most before after (got.Refused k) = rw e at h in g
 
-module _ (s scratch scratch′ old : List ℕ) (r : Got) (h : Reads s (length old) scratch scratch′ r) (f : Fields) (e : r ≡ got.Fields f) (all : ℕ) (a : all ≡ allOf f) where
-  got-it : Reads s (length old) scratch scratch′ (got.Fields f)
+module _ (s scratch scratch′ old : List ℕ) (r : Got) (h : ReadsState s (length old) scratch scratch′ r) (f : Fields) (e : r ≡ got.Fields f) (all : ℕ) (a : all ≡ allOf f) where
+  got-it : ReadsState s (length old) scratch scratch′ (got.Fields f)
   got-it = fields-at s scratch scratch′ (length old) r h f e
 
   pub fits-both : (all ≤ length (blocks scratch′)) × (all ≤ length old)

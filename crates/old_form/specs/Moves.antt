@@ -13,7 +13,7 @@ use Rattle.save.specs.declared.Got.{Got}
 use Rattle.save.specs.declared.Got.the-variants as got
 use Rattle.save.specs.Text.{textOf, shapeOk, allOf, validOf}
 use Rattle.save.specs.Writing.{writtenOn}
-use Rattle.save.specs.Reading.{Holds, Takes, NotTaken, AtMost, noRoom}
+use Rattle.save.specs.Reading.{HoldsBlocks, Takes, NotTaken, AtMost, noRoom}
 use Rattle.old_form.specs.Old.{oldOf, isOld, bitsOf}
 
 -- ---- old to new
@@ -35,7 +35,7 @@ movedOf f old scratch room =
 pub record ToNew (f : Fields) (old scratch scratch′ out out′ : List ℕ) (r : Wrote) : Type 0 where
   pub answer : r ≡ movedOf f old scratch (length out)
   pub buffer : out′ ≡ writtenOn r (newText f old) out
-  pub packed : (not (noRoom scratch) && oldOk f old) ≡ true → Holds (bitsOf old) scratch scratch′
+  pub packed : (not (noRoom scratch) && oldOk f old) ≡ true → HoldsBlocks (bitsOf old) scratch scratch′
   pub untouched : (not (noRoom scratch) && oldOk f old) ≡ false → scratch′ ≡ scratch
 
 -- ---- new to old
@@ -43,5 +43,5 @@ pub record ToNew (f : Fields) (old scratch scratch′ out out′ : List ℕ) (r 
 -- R15.9: a longer buffer keeps its rest; a shorter one is refused as 18
 abbrev pub ToOld : (s scratch scratch′ old old′ : List ℕ) → Got → Type 0
 ToOld s scratch scratch′ old old′ (got.Fields f) =
-    (bs : List Bool) × Takes (noRoom scratch) (AtMost (length old)) s f bs × Holds bs scratch scratch′ × (old′ ≡ oldOf bs ++ drop (length bs) old)
+    (bs : List Bool) × Takes (noRoom scratch) (AtMost (length old)) s f bs × HoldsBlocks bs scratch scratch′ × (old′ ≡ oldOf bs ++ drop (length bs) old)
 ToOld s scratch scratch′ old old′ (got.Refused number) = NotTaken (noRoom scratch) (AtMost (length old)) s number × (scratch′ ≡ scratch) × (old′ ≡ old)

@@ -1,6 +1,6 @@
 // SPDX-License-Identifier: Apache-2.0 AND BSD-3-Clause
-// Save records of the old form, one byte a block, 0 or 1, and both moves between the forms. A move goes through a packed bitmap that
-// is lent for it, so that there is one writer and one reader of texts.
+// Save records of the old form, one byte a block, 0 or 1, and both moves between the forms. A move goes through a
+// packed bitmap that is lent for it, so that there is one writer and one reader of texts.
 use save::BITMAP;
 use save::Fields;
 use save::Got;
@@ -15,7 +15,7 @@ ghost use mathlib.Core.List.{_++_};
 ghost use Prim.Native.Nat.{_≤_};
 ghost use lib.ListN.{take, drop, length};
 ghost use Rattle.bitmap.specs.Blocks.{blocks};
-ghost use Rattle.save.specs.Reading.{Holds};
+ghost use Rattle.save.specs.Reading.{HoldsBlocks};
 ghost use Rattle.old_form.specs.Old.{oldOf, isOld, bitsOf};
 ghost use Rattle.old_form.specs.Moves.{ToNew, ToOld};
 
@@ -36,7 +36,7 @@ fn is_old(old: &[u8]) -> bool
 // Puts a bit for each byte into a bitmap.
 fn pack(old: &[u8], bitmap: &mut [u8])
     requires { ⌜ length (now old) ≤ length (blocks (now bitmap)) ⌝ }
-    ensures { λ _. ⌜ Holds (bitsOf (now (old .entry))) (now (bitmap .entry)) (now (bitmap .exit)) ⌝ }
+    ensures { λ _. ⌜ HoldsBlocks (bitsOf (now (old .entry))) (now (bitmap .entry)) (now (bitmap .exit)) ⌝ }
 {
     let mut i = 0;
     while i < old.len() {
@@ -66,7 +66,10 @@ fn unpack(bitmap: &[u8], n: usize, old: &mut [u8])
 
 // Moves old bytes, with the fields that they have no place for, into a text. 11, 18.
 pub fn to_new(f: Fields, old: &[u8], scratch: &mut [u8], out: &mut [u8]) -> Wrote
-    ensures { λ r. ⌜ ToNew f (now (old .entry)) (now (scratch .entry)) (now (scratch .exit)) (now (out .entry)) (now (out .exit)) r ⌝ }
+    ensures { λ r. ⌜
+        ToNew f (now (old .entry)) (now (scratch .entry)) (now (scratch .exit))
+        (now (out .entry)) (now (out .exit)) r
+        ⌝ }
 {
     if scratch.len() < BITMAP {
         return Wrote::Refused(11);
@@ -86,7 +89,10 @@ pub fn to_new(f: Fields, old: &[u8], scratch: &mut [u8], out: &mut [u8]) -> Wrot
 
 // Moves a text into old bytes, and gives the fields that they have no place for. 11, 19, 18.
 pub fn to_old(s: &[u8], scratch: &mut [u8], old: &mut [u8]) -> Got
-    ensures { λ r. ⌜ ToOld (now (s .entry)) (now (scratch .entry)) (now (scratch .exit)) (now (old .entry)) (now (old .exit)) r ⌝ }
+    ensures { λ r. ⌜
+        ToOld (now (s .entry)) (now (scratch .entry)) (now (scratch .exit))
+        (now (old .entry)) (now (old .exit)) r
+        ⌝ }
 {
     let got = read(s, old.len(), scratch);
     match got {

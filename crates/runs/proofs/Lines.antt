@@ -23,9 +23,9 @@ use Rattle.runs.specs.declared.Counted.{Counted}
 use Rattle.runs.specs.declared.Counted.the-variants.{Blocks, Bad}
 use Rattle.runs.specs.declared.RunLine.{RunLine}
 use Rattle.runs.specs.declared.RunLine.the-variants as line
-use Rattle.runs.specs.Runs.{Run, Apart, total, laidOn}
+use Rattle.runs.specs.Runs.{Run, RunsApart, total, laidOn}
 use Rattle.runs.specs.Text.{runLine, runsText}
-use Rattle.runs.specs.Reading.{IsRun, runOk, Counts, Starts, Lays}
+use Rattle.runs.specs.Reading.{IsRunLine, runOk, Counts, Starts, Lays}
 
 -- ---- the runs' lines
 
@@ -48,7 +48,7 @@ missing h = let z : _≡_ {A = ℕ} 0 1 = cc in omega arith
 run-is : (r q : Run) → r .first ≡ q .first → r .count ≡ q .count → r ≡ q
 run-is r q a b = ap (λ (x : ℕ). record { first = x; count = r .count }) a ∙ ap (λ (y : ℕ). record { first = q .first; count = y }) b
 
-pub same-runs : (i j end stop : ℕ) (rs qs : List Run) → end ≤ largest → stop ≤ largest → Apart i end rs → Apart j stop qs → runsText rs ≡ runsText qs → rs ≡ qs
+pub same-runs : (i j end stop : ℕ) (rs qs : List Run) → end ≤ largest → stop ≤ largest → RunsApart i end rs → RunsApart j stop qs → runsText rs ≡ runsText qs → rs ≡ qs
 same-runs i j end stop [] [] u v a b h = refl
 same-runs i j end stop [] (q ∷ qs) u v a b h =
     absurd (missing (sym no-run ∙ ap (partOf 2 runLine) h ∙ run-part q qs (omega (arith, b .2)) (omega (arith, b .2))))
@@ -77,7 +77,7 @@ bad-is : {n : ℕ} → Bad ≡ Blocks n → ⊥
 bad-is h = let z : _≡_ {A = ℕ} 0 1 = cc in omega arith
 
 -- a text that starts with no run's line is that of no run, and empty
-no-line : (from end : ℕ) (l : List ℕ) → end ≤ largest → ((us rest : List ℕ) → partOf 2 runLine l ≡ part us rest → ⊥) → (rs : List Run) → Apart from end rs → runsText rs ≡ l → l ≡ []
+no-line : (from end : ℕ) (l : List ℕ) → end ≤ largest → ((us rest : List ℕ) → partOf 2 runLine l ≡ part us rest → ⊥) → (rs : List Run) → RunsApart from end rs → runsText rs ≡ l → l ≡ []
 unfolding runsText
 no-line from end l h n [] a t = sym t
 no-line from end l h n (r ∷ rs) a t =
@@ -94,7 +94,7 @@ pub counts-end : (from end sum : ℕ) → end ≤ largest → Counts from end su
 unfolding total runsText
 counts-end from end sum h = record { whole = go; only = λ m e. ([], tt, refl, (let q : sum ≡ m = cc in omega arith)) }
   where
-    go : (rs : List Run) → Apart from end rs → runsText rs ≡ [] → Blocks sum ≡ Blocks (sum + total rs)
+    go : (rs : List Run) → RunsApart from end rs → runsText rs ≡ [] → Blocks sum ≡ Blocks (sum + total rs)
     go [] a t = let z : sum ≡ sum + 0 = omega arith in ap Blocks z
     go (r ∷ rs) a t =
         absurd (missing (sym no-run ∙ ap (partOf 2 runLine) (sym t) ∙ run-part r rs (omega (arith, a .2)) (omega (arith, a .2))))
@@ -111,8 +111,8 @@ ok-run first count from end p q r = rw (le-leb from first p, lt-ltb 0 count q) (
 
 module _ (from end sum : ℕ) (l : List ℕ) (h : end ≤ largest) (first count : ℕ) (rest : List ℕ) (e : partOf 2 runLine l ≡ part (first ∷ count ∷ []) rest) where
   -- runs whose text is l start with this one
-  starts : (P : Type 0) (rs : List Run) → Apart from end rs → runsText rs ≡ l
-      → ((qs : List Run) → runOk first count from end ≡ true → Apart (suc (first + count)) end qs → runsText qs ≡ rest → total rs ≡ count + total qs → P) → P
+  starts : (P : Type 0) (rs : List Run) → RunsApart from end rs → runsText rs ≡ l
+      → ((qs : List Run) → runOk first count from end ≡ true → RunsApart (suc (first + count)) end qs → runsText qs ≡ rest → total rs ≡ count + total qs → P) → P
   unfolding total
   starts P [] a t f = absurd (missing (sym no-run ∙ ap (partOf 2 runLine) t ∙ e))
   starts P (r ∷ rs) a t f =
@@ -161,11 +161,11 @@ module _ (from end sum : ℕ) (l : List ℕ) (h : end ≤ largest) (first count 
       let r = length-append (filled runLine (first ∷ count ∷ [])) rest in
       omega arith
 
-line-at : (s l : List ℕ) (r : RunLine) → IsRun s l r → (f c n : ℕ) → r ≡ line.At f c n → partOf 2 runLine l ≡ part (f ∷ c ∷ []) (drop n s)
-line-at s l r h f c n e = let g : IsRun s l (line.At f c n) = rw e at h in g
+line-at : (s l : List ℕ) (r : RunLine) → IsRunLine s l r → (f c n : ℕ) → r ≡ line.At f c n → partOf 2 runLine l ≡ part (f ∷ c ∷ []) (drop n s)
+line-at s l r h f c n e = let g : IsRunLine s l (line.At f c n) = rw e at h in g
 
-line-bad : (s l : List ℕ) (r : RunLine) → IsRun s l r → r ≡ line.Bad → (us rest : List ℕ) → partOf 2 runLine l ≡ part us rest → ⊥
-line-bad s l r h e = let g : IsRun s l line.Bad = rw e at h in g
+line-bad : (s l : List ℕ) (r : RunLine) → IsRunLine s l r → r ≡ line.Bad → (us rest : List ℕ) → partOf 2 runLine l ≡ part us rest → ⊥
+line-bad s l r h e = let g : IsRunLine s l line.Bad = rw e at h in g
 
 -- the loop stands at i of the text, with `sum` blocks in runs that end before block `from`: what is right for the text that is left is right for the whole
 pub record Reading (s : List ℕ) (at end i from sum : ℕ) : Type 0 where
@@ -180,13 +180,13 @@ module _ {s : List ℕ} {at end i from sum : ℕ} (h : end ≤ 1099511627776) (o
   left-long : i < length s → 0 < length (drop i s)
   left-long p = let d = length-drop i s in omega arith
 
-  pub read-none : i < length s → (r : RunLine) → IsRun s (drop i s) r → r ≡ line.Bad → Counts 0 end 0 (drop at s) Bad
+  pub read-none : i < length s → (r : RunLine) → IsRunLine s (drop i s) r → r ≡ line.Bad → Counts 0 end 0 (drop at s) Bad
   read-none p r q e = o .back Bad (counts-none from end sum (drop i s) (omega arith) (left-long p) (line-bad s (drop i s) r q e))
 
   pub read-end : length s ≤ i → Counts 0 end 0 (drop at s) (Blocks sum)
   read-end p = o .back (Blocks sum) (rw (drop-of-length-le s p) (counts-end from end sum (omega arith)))
 
-  module _ (r : RunLine) (q : IsRun s (drop i s) r) (f c n : ℕ) (e : r ≡ line.At f c n) (g : Bool) (t : g ≡ runOk f c from end) where
+  module _ (r : RunLine) (q : IsRunLine s (drop i s) r) (f c n : ℕ) (e : r ≡ line.At f c n) (g : Bool) (t : g ≡ runOk f c from end) where
     pub read-bad : not g ≡ true → Counts 0 end 0 (drop at s) Bad
     read-bad u =
         o .back Bad (counts-bad from end sum (drop i s) (omega arith) f c (drop n s) (line-at s (drop i s) r q f c n e) (refused (runOk f c from end) g t u))
@@ -256,7 +256,7 @@ lays-turn l rest f c entry mid exit e d o =
     }
 
 -- a text of runs that are apart starts with those, and with no others
-pub starts-are : (from end : ℕ) (rs qs : List Run) (l : List ℕ) → end ≤ largest → Apart from end rs → runsText rs ≡ l → Starts l qs → qs ≡ rs
+pub starts-are : (from end : ℕ) (rs qs : List Run) (l : List ℕ) → end ≤ largest → RunsApart from end rs → runsText rs ≡ l → Starts l qs → qs ≡ rs
 starts-are from end [] [] l h a t s = refl
 starts-are from end [] (q ∷ qs) l h a t s = absurd (missing (sym no-run ∙ ap (partOf 2 runLine) t ∙ s .1))
 starts-are from end (r ∷ rs) [] l h a t s =
@@ -305,7 +305,7 @@ pub setting-start : (s : List ℕ) (at : ℕ) (entry : List ℕ) → Setting s a
 setting-start s at entry = record { back = λ x o. o; long = refl }
 
 module _ {s : List ℕ} {at : ℕ} {entry : List ℕ} {i : ℕ} {cur : List ℕ} (o : Setting s at entry i cur) where
-  pub set-none : (r : RunLine) → IsRun s (drop i s) r → r ≡ line.Bad → Lays (drop at s) entry cur
+  pub set-none : (r : RunLine) → IsRunLine s (drop i s) r → r ≡ line.Bad → Lays (drop at s) entry cur
   set-none r q e = o .back cur (lays-none (drop i s) cur (line-bad s (drop i s) r q e))
 
   pub set-end : length s ≤ i → Lays (drop at s) entry cur
@@ -314,7 +314,7 @@ module _ {s : List ℕ} {at : ℕ} {entry : List ℕ} {i : ℕ} {cur : List ℕ}
       empty : (us rest : List ℕ) → partOf 2 runLine [] ≡ part us rest → ⊥
       empty us rest q = missing (sym nothing-there ∙ q)
 
-  module _ (r : RunLine) (q : IsRun s (drop i s) r) (f c n : ℕ) (e : r ≡ line.At f c n) where
+  module _ (r : RunLine) (q : IsRunLine s (drop i s) r) (f c n : ℕ) (e : r ≡ line.At f c n) where
     pub set-less : i < length s → length s - n < length s - i
     set-less p =
         let a = shorter 0 0 0 (drop i s) (omega arith) f c (drop n s) (line-at s (drop i s) r q f c n e) in
@@ -332,7 +332,7 @@ module _ {s : List ℕ} {at : ℕ} {entry : List ℕ} {i : ℕ} {cur : List ℕ}
 -- ---- how long the lines are
 
 -- no line is longer than 46 bytes, and each run has a block
-pub runs-short : (from end : ℕ) (rs : List Run) → end ≤ largest → Apart from end rs → length (runsText rs) ≤ 46 * total rs
+pub runs-short : (from end : ℕ) (rs : List Run) → end ≤ largest → RunsApart from end rs → length (runsText rs) ≤ 46 * total rs
 unfolding runsText total holes
 runs-short from end [] h a = omega arith
 runs-short from end (r ∷ rs) h a =

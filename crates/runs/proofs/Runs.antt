@@ -6,22 +6,22 @@ use mathlib.Core.Bool.{Bool, true, false}
 use mathlib.Core.List.{List, [], _∷_, _++_, append-nil}
 use native.Mathlib.Omega.{arith}
 use lib.ListN.{length, replicate}
-use Rattle.runs.specs.Runs.{Run, closed, runsFrom, runsOf, spread, Apart}
+use Rattle.runs.specs.Runs.{Run, closed, runsFrom, runsOf, spread, RunsApart}
 
 -- runs that are apart from a block on are so from any before it
-pub sooner : (m l end : ℕ) (rs : List Run) → l ≤ m → Apart m end rs → Apart l end rs
+pub sooner : (m l end : ℕ) (rs : List Run) → l ≤ m → RunsApart m end rs → RunsApart l end rs
 sooner m l end [] q a = tt
 sooner m l end (r ∷ rs) q a = (omega (arith, a .0), a .1, a .2, a .3)
 
 -- ---- the runs of a list are apart
-closed-apart : (i n end : ℕ) (rs : List Run) → n ≤ i → i ≤ end → Apart (suc i) end rs → Apart (i - n) end (closed i n rs)
+closed-apart : (i n end : ℕ) (rs : List Run) → n ≤ i → i ≤ end → RunsApart (suc i) end rs → RunsApart (i - n) end (closed i n rs)
 unfolding closed
 closed-apart i zero end rs h k a = sooner (suc i) (i - 0) end rs (omega arith) a
 closed-apart i (suc n) end rs h k a =
     let w : i - suc n + suc n ≡ i = omega arith in
     (omega arith, omega arith, omega arith, rw w a)
 
-pub runs-apart : (i n : ℕ) (bs : List Bool) → n ≤ i → Apart (i - n) (i + length bs) (runsFrom i n bs)
+pub runs-apart : (i n : ℕ) (bs : List Bool) → n ≤ i → RunsApart (i - n) (i + length bs) (runsFrom i n bs)
 unfolding runsFrom
 runs-apart i n [] h = let z : i + 0 ≡ i = omega arith in rw z (closed-apart i n i [] h (omega arith) tt)
 runs-apart i n (true ∷ bs) h =
@@ -34,7 +34,7 @@ runs-apart i n (false ∷ bs) h =
     rw z (closed-apart i n (suc i + length bs) _ h (omega arith) (rw y at (runs-apart (suc i) 0 bs (omega arith))))
 
 -- ---- the runs spread again are the list
-one-clear : (i end : ℕ) (rs : List Run) → i < end → Apart (suc i) end rs → spread i end rs ≡ false ∷ spread (suc i) end rs
+one-clear : (i end : ℕ) (rs : List Run) → i < end → RunsApart (suc i) end rs → spread i end rs ≡ false ∷ spread (suc i) end rs
 unfolding spread
 one-clear i end [] h a = let w : end - i ≡ suc (end - suc i) = omega arith in rw w
 one-clear i end (r ∷ rs) h a = let p = a .0 in let w : r .first - i ≡ suc (r .first - suc i) = omega arith in rw w
@@ -68,7 +68,7 @@ spread-runs i n (false ∷ bs) h =
     let z : i + suc (length bs) ≡ suc i + length bs = omega arith in
     let y : suc i - 0 ≡ suc i = omega arith in
     let rest = runsFrom (suc i) 0 bs in
-    let a : Apart (suc i) (suc i + length bs) rest = rw y at (runs-apart (suc i) 0 bs (omega arith)) in
+    let a : RunsApart (suc i) (suc i + length bs) rest = rw y at (runs-apart (suc i) 0 bs (omega arith)) in
     let s : spread (suc i) (suc i + length bs) rest ≡ bs = rw y at (spread-runs (suc i) 0 bs (omega arith)) in
     rw z (closed-spread i n (suc i + length bs) rest h ∙ ap (λ (l : List Bool). replicate n true ++ l) (one-clear i (suc i + length bs) rest (omega arith) a ∙ ap (λ (l : List Bool). false ∷ l) s))
 
@@ -91,7 +91,7 @@ count-set (suc c) i n bs =
     rw (z, y) (count-set c (suc i) (suc n) bs)
 
 -- behind a run the list ends, or a clear block stands there
-run-ends : (i n end : ℕ) (rs : List Run) → i ≤ end → Apart (suc i) end rs → runsFrom i n (spread i end rs) ≡ closed i n (runsFrom i 0 (spread i end rs))
+run-ends : (i n end : ℕ) (rs : List Run) → i ≤ end → RunsApart (suc i) end rs → runsFrom i n (spread i end rs) ≡ closed i n (runsFrom i 0 (spread i end rs))
 unfolding runsFrom spread closed
 run-ends i n end [] h a = go (end - i)
   where
@@ -105,7 +105,7 @@ unfolding closed
 closed-run f zero rs h = absurd (omega arith)
 closed-run f (suc c) rs h = let w : f + suc c - suc c ≡ f = omega arith in rw w
 
-pub runs-spread : (i end : ℕ) (rs : List Run) → Apart i end rs → runsFrom i 0 (spread i end rs) ≡ rs
+pub runs-spread : (i end : ℕ) (rs : List Run) → RunsApart i end rs → runsFrom i 0 (spread i end rs) ≡ rs
 unfolding spread closed runsFrom
 runs-spread i end [] a = let e = append-nil (replicate (end - i) false) in rw (← e) (skip-clear (end - i) i [])
 runs-spread i end (r ∷ rs) a =

@@ -8,7 +8,7 @@ use native.Mathlib.Omega.{arith}
 use lib.ListN.{length, take, drop, replicate, length-append, length-take, length-drop}
 use Rattle.bitmap.specs.Blocks.{every, ones, allAre, fill}
 use Rattle.bitmap.proofs.Laws.{fill-left, fill-right, fill-whole}
-use Rattle.runs.specs.Runs.{Run, closed, runsFrom, runsOf, spread, Apart, total, laidOn}
+use Rattle.runs.specs.Runs.{Run, closed, runsFrom, runsOf, spread, RunsApart, total, laidOn}
 use Rattle.runs.proofs.Runs.{runs-apart, comes-back, sooner}
 
 pub same-length : (n : ℕ) (v : Bool) → length (replicate n v) ≡ n
@@ -17,7 +17,7 @@ same-length (suc n) v = ap suc (same-length n v)
 
 -- ---- of runs
 
-pub spread-length : (i end : ℕ) (rs : List Run) → i ≤ end → Apart i end rs → length (spread i end rs) ≡ end - i
+pub spread-length : (i end : ℕ) (rs : List Run) → i ≤ end → RunsApart i end rs → length (spread i end rs) ≡ end - i
 unfolding spread
 spread-length i end [] h a = same-length (end - i) false
 spread-length i end (r ∷ rs) h a =
@@ -64,7 +64,7 @@ more-clear zero g = let z : 0 + g ≡ g = omega arith in rw z
 more-clear (suc n) g = let z : suc n + g ≡ suc (n + g) = omega arith in rw z (ap (λ (l : List Bool). false ∷ l) (more-clear n g))
 
 -- past the end of all runs nothing is set
-pub spread-more : (i end g : ℕ) (rs : List Run) → i ≤ end → Apart i end rs → spread i (end + g) rs ≡ spread i end rs ++ replicate g false
+pub spread-more : (i end g : ℕ) (rs : List Run) → i ≤ end → RunsApart i end rs → spread i (end + g) rs ≡ spread i end rs ++ replicate g false
 unfolding spread
 spread-more i end g [] h a = let z : end + g - i ≡ end - i + g = omega arith in rw z (more-clear (end - i) g)
 spread-more i end g (r ∷ rs) h a =
@@ -117,7 +117,7 @@ take-whole (suc n) [] h = refl
 take-whole (suc n) (b ∷ bs) h = ap (λ (l : List Bool). b ∷ l) (take-whole n bs (omega arith))
 
 -- where no block from `used` on is set, no run goes past it
-pub runs-inside : (bs : List Bool) (used : ℕ) → used ≤ length bs → allAre bs used (length bs - used) false ≡ true → Apart 0 used (runsOf bs)
+pub runs-inside : (bs : List Bool) (used : ℕ) → used ≤ length bs → allAre bs used (length bs - used) false ≡ true → RunsApart 0 used (runsOf bs)
 runs-inside bs used h e =
     let d = length-drop used bs in
     let t = length-take used bs in
@@ -127,7 +127,7 @@ runs-inside bs used h e =
     let w : take used bs ++ replicate (length (drop used bs)) false ≡ bs = ap (λ (l : List Bool). take used bs ++ l) (sym c) ∙ take-drop used bs in
     let r : runsOf (take used bs) ≡ runsOf bs = sym (runs-clear 0 0 (length (drop used bs)) (take used bs)) ∙ ap runsOf w in
     let z : 0 + length (take used bs) ≡ used = omega arith in
-    let q : Apart 0 used (runsOf (take used bs)) = rw z at (runs-apart 0 0 (take used bs) (omega arith)) in
+    let q : RunsApart 0 used (runsOf (take used bs)) = rw z at (runs-apart 0 0 (take used bs) (omega arith)) in
     rw r at q
 
 -- ---- runs laid on clear blocks
@@ -139,7 +139,7 @@ clear-fill c ys =
     ∙ ap (λ (l : List Bool). l ++ ys) (fill-whole (replicate c false) c true (omega arith) ∙ ap (λ (m : ℕ). replicate m true) n)
 
 -- behind the blocks xs, whose number is i, the blocks up to `end` are clear
-laid-behind : (i end : ℕ) (rs : List Run) (xs rest : List Bool) → length xs ≡ i → i ≤ end → Apart i end rs
+laid-behind : (i end : ℕ) (rs : List Run) (xs rest : List Bool) → length xs ≡ i → i ≤ end → RunsApart i end rs
     → laidOn rs (xs ++ (replicate (end - i) false ++ rest)) ≡ xs ++ (spread i end rs ++ rest)
 unfolding laidOn spread
 laid-behind i end [] xs rest n h a = refl
@@ -180,6 +180,6 @@ pub runs-laid : (bs rest : List Bool) → laidOn (runsOf bs) (replicate (length 
 runs-laid bs rest =
     let z : 0 + length bs ≡ length bs = omega arith in
     let y : length bs - 0 ≡ length bs = omega arith in
-    let a : Apart 0 (length bs) (runsOf bs) = rw z at (runs-apart 0 0 bs (omega arith)) in
+    let a : RunsApart 0 (length bs) (runsOf bs) = rw z at (runs-apart 0 0 bs (omega arith)) in
     rw y at (laid-behind 0 (length bs) (runsOf bs) [] rest refl (omega arith) a)
     ∙ ap (λ (l : List Bool). l ++ rest) (comes-back bs)

@@ -1,6 +1,6 @@
 -- SPDX-License-Identifier: Apache-2.0 AND BSD-3-Clause
 -- What each step of writing and of measuring does.
-use Prim.Native.Nat.{ℕ, zero, suc, min, _+_, _-_, _*_, _/_, _≤_, _<_}
+use Prim.Native.Nat.{ℕ, zero, suc, min, _+_, _-_, _≤_, _<_}
 use mathlib.Core.Path.{_≡_, refl, ap, _∙_, sym}
 use mathlib.Core.Bool.{Bool, true, false}
 use mathlib.Core.List.{List, [], _∷_, _++_, append-assoc, append-nil}

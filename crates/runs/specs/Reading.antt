@@ -12,21 +12,21 @@ use Rattle.runs.specs.declared.RunLine.{RunLine}
 use Rattle.runs.specs.declared.RunLine.the-variants as line
 use Rattle.runs.specs.declared.Counted.{Counted}
 use Rattle.runs.specs.declared.Counted.the-variants.{Blocks, Bad}
-use Rattle.runs.specs.Runs.{Run, Apart, total, laidOn}
+use Rattle.runs.specs.Runs.{Run, RunsApart, total, laidOn}
 use Rattle.runs.specs.Text.{runLine, runsText}
 
 -- the text l, which is s from some position on, starts with a run's line, or it does not
-abbrev pub IsRun : (s l : List ℕ) → RunLine → Type 0
-IsRun s l (line.At first count next) = partOf 2 runLine l ≡ part (first ∷ count ∷ []) (drop next s)
-IsRun s l line.Bad = (us rest : List ℕ) → partOf 2 runLine l ≡ part us rest → ⊥
+abbrev pub IsRunLine : (s l : List ℕ) → RunLine → Type 0
+IsRunLine s l (line.At first count next) = partOf 2 runLine l ≡ part (first ∷ count ∷ []) (drop next s)
+IsRunLine s l line.Bad = (us rest : List ℕ) → partOf 2 runLine l ≡ part us rest → ⊥
 
 unfoldable pub runOk : (first count from end : ℕ) → Bool
 runOk first count from end = leb from first && (ltb 0 count && leb (first + count) end)
 
 -- l is the text of runs that are apart, from block `from` on and none past `end`, and w counts their blocks on from `sum`; or it is no such text
 pub record Counts (from end sum : ℕ) (l : List ℕ) (w : Counted) : Type 0 where
-  pub whole : (rs : List Run) → Apart from end rs → runsText rs ≡ l → w ≡ Blocks (sum + total rs)
-  pub only : (n : ℕ) → w ≡ Blocks n → (rs : List Run) × Apart from end rs × (runsText rs ≡ l) × (n ≡ sum + total rs)
+  pub whole : (rs : List Run) → RunsApart from end rs → runsText rs ≡ l → w ≡ Blocks (sum + total rs)
+  pub only : (n : ℕ) → w ≡ Blocks n → (rs : List Run) × RunsApart from end rs × (runsText rs ≡ l) × (n ≡ sum + total rs)
 
 -- the runs with whose lines a text starts, up to where no run's line follows
 abbrev pub Starts : List ℕ → List Run → Type 0
@@ -39,4 +39,4 @@ pub record Lays (l entry exit : List ℕ) : Type 0 where
   pub starts : Starts l runs
   pub as-blocks : blocks exit ≡ laidOn runs (blocks entry)
   pub long : length exit ≡ length entry
-  pub outside : (from end : ℕ) → Apart from end runs → Outside entry exit 0 end
+  pub outside : (from end : ℕ) → RunsApart from end runs → Outside entry exit 0 end

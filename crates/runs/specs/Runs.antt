@@ -30,9 +30,9 @@ spread i end [] = replicate (end - i) false
 spread i end (r ∷ rs) = replicate (r .first - i) false ++ (replicate (r .count) true ++ spread (r .first + r .count) end rs)
 
 -- R15.4: runs that neither touch nor fall back, from block `from` on, none empty and none past `end`
-abbrev pub Apart : (from end : ℕ) → List Run → Type 0
-Apart from end [] = Prim.Unit {0}
-Apart from end (r ∷ rs) = (from ≤ r .first) × (0 < r .count) × (r .first + r .count ≤ end) × Apart (suc (r .first + r .count)) end rs
+abbrev pub RunsApart : (from end : ℕ) → List Run → Type 0
+RunsApart from end [] = Prim.Unit {0}
+RunsApart from end (r ∷ rs) = (from ≤ r .first) × (0 < r .count) × (r .first + r .count ≤ end) × RunsApart (suc (r .first + r .count)) end rs
 
 -- how many blocks runs have
 unfoldable pub total : List Run → ℕ

@@ -1,5 +1,6 @@
 // SPDX-License-Identifier: Apache-2.0 AND BSD-3-Clause
-// The runs of plugged blocks as text, one line for each longest run: written from a packed bitmap, counted, and laid on a bitmap.
+// The runs of plugged blocks as text, one line for each longest run: written from a packed bitmap, counted, and laid
+// on a bitmap.
 use bitmap::Found;
 use bitmap::next_clear;
 use bitmap::next_set;
@@ -15,7 +16,7 @@ ghost use Rattle.bitmap.specs.Blocks.{blocks};
 ghost use Rattle.runs.specs.Runs.{runsOf};
 ghost use Rattle.runs.specs.Text.{lineOf, runsText};
 ghost use Rattle.runs.specs.Next.{InARow, IsNext};
-ghost use Rattle.runs.specs.Reading.{IsRun, runOk, Counts, Lays};
+ghost use Rattle.runs.specs.Reading.{IsRunLine, runOk, Counts, Lays};
 
 // How many bytes a run's line has room for: more than any has.
 const LINE: usize = 64;
@@ -44,7 +45,8 @@ fn count_from(bitmap: &[u8], first: usize, end: usize) -> usize
     }
 }
 
-// The next run from `from` on, among the first `end` blocks. Bytes without a set block, and those with no other, are passed at once.
+// The next run from `from` on, among the first `end` blocks. Bytes without a set block, and those with no other, are
+// passed at once.
 fn next_run(bitmap: &[u8], from: usize, end: usize) -> NextRun
     ensures { λ r. ⌜ IsNext (take end (blocks (now (bitmap .entry)))) from r ⌝ }
 {
@@ -59,7 +61,10 @@ fn next_run(bitmap: &[u8], from: usize, end: usize) -> NextRun
 
 // Puts the runs of set blocks among the first `end`.
 pub fn put_runs(out: &mut [u8], at: usize, bitmap: &[u8], end: usize) -> usize
-    ensures { λ r. ⌜ Put (now (out .entry)) at (runsText (runsOf (take end (blocks (now (bitmap .entry)))))) (now (out .exit)) r ⌝ }
+    ensures { λ r. ⌜
+        Put (now (out .entry)) at
+        (runsText (runsOf (take end (blocks (now (bitmap .entry)))))) (now (out .exit)) r
+        ⌝ }
 {
     let mut to = forms::within(at, out.len());
     let mut i = 0;
@@ -111,7 +116,7 @@ pub enum Counted {
 
 // The run's line at a position of a text.
 fn run_at(s: &[u8], at: usize) -> RunLine
-    ensures { λ r. ⌜ IsRun (now (s .entry)) (drop at (now (s .entry))) r ⌝ }
+    ensures { λ r. ⌜ IsRunLine (now (s .entry)) (drop at (now (s .entry))) r ⌝ }
 {
     let mut v = [0u64; 2];
     let Place::At(next) = forms::scan_at(s, at, b"run=#,#\n", &mut v) else {
@@ -131,8 +136,8 @@ fn run_ok(first: u64, count: u64, from: u64, end: u64) -> bool
     (from <= first) & ((0 < count) & sum_within(first, count, end))
 }
 
-// Whether the text from a position on is that of runs that neither touch nor fall back, none past block `end`; and how many blocks
-// they have.
+// Whether the text from a position on is that of runs that neither touch nor fall back, none past block `end`; and
+// how many blocks they have.
 pub fn count_runs(s: &[u8], at: usize, end: u32) -> Counted
     ensures { λ r. ⌜ Counts 0 end 0 (drop at (now (s .entry))) r ⌝ }
 {

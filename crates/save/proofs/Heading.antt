@@ -20,8 +20,8 @@ use Rattle.save.specs.declared.Checked.{Checked}
 use Rattle.save.specs.declared.Checked.the-variants as checked
 use Rattle.runs.specs.Runs.{runsOf}
 use Rattle.runs.specs.Text.{runsText}
-use Rattle.save.specs.Text.{formLine, fieldLines, fieldsOf, textOf, State, Says}
-use Rattle.save.specs.Reading.{Laid, laterPart, isLater, IsFields, Heads, Refuses, IsHead, Checks}
+use Rattle.save.specs.Text.{formLine, fieldLines, fieldsOf, textOf, Says}
+use Rattle.save.specs.Reading.{IsRuns, laterPart, isLater, IsFields, Heads, Refuses, IsHead, Checks}
 use Rattle.save.proofs.Text.{says-form, fields-part, fields-are, state-words, state-block}
 
 -- ---- `fields_at`
@@ -109,7 +109,7 @@ module _ (s : List ℕ) (f : Fields) (n : ℕ) (h : Heads s f n) where
       let q : part (fieldsOf g) (runsText (runsOf bs)) ≡ part (fieldsOf f) (drop n s) = sym (fields-is s (h .rest) (h .form) g bs t) ∙ h .fields in
       (fields-are g f (state-block (t .state) ∙ sym (h .block)) (cc) (cc) (cc) (cc) (cc), cc)
 
-  pub checked-whole : (r : Checked) → Laid f n (drop n s) r → Checks s r
+  pub checked-whole : (r : Checked) → IsRuns f n (drop n s) r → Checks s r
   checked-whole (checked.State g runs) l =
       let d = l .2 in
       rw (l .0, l .1) (record { bs = d .0; says = record { state = d .1; text = whole-text (d .0) (d .2) }; rest = d .2; inside = h .inside })

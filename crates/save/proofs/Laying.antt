@@ -1,6 +1,6 @@
 -- SPDX-License-Identifier: Apache-2.0 AND BSD-3-Clause
 -- `runs_of`: the fields and the runs of a text make a state, or no state has them.
-use Prim.Native.Nat.{ℕ, suc, _+_, _-_, _*_, _/_, _≤_}
+use Prim.Native.Nat.{ℕ, suc, _+_, _-_, _*_, _≤_}
 use mathlib.Core.Path.{_≡_, refl, ap, _∙_, sym}
 use mathlib.Core.Bool.{Bool, true, false, not}
 use mathlib.Core.List.{List, [], _∷_, _++_}
@@ -14,15 +14,15 @@ use Rattle.bitmap.specs.Blocks.{ones, allAre}
 use Rattle.save.specs.declared.Fields.{Fields}
 use Rattle.runs.specs.declared.Counted.{Counted}
 use Rattle.runs.specs.declared.Counted.the-variants.{Blocks, Bad}
-use Rattle.runs.specs.Runs.{Run, runsOf, spread, Apart, total}
+use Rattle.runs.specs.Runs.{Run, runsOf, spread, RunsApart, total}
 use Rattle.runs.specs.Text.{runsText}
 use Rattle.runs.specs.Reading.{Counts}
 use Rattle.runs.proofs.Runs.{runs-spread}
 use Rattle.runs.proofs.Spread.{spread-length, spread-ones, spread-more, past-clear, runs-ones, runs-inside}
-use Rattle.save.specs.Text.{shapeOk, allOf, usedOf, validOf, State}
+use Rattle.save.specs.Text.{shapeOk, allOf, usedOf, validOf, IsState}
 use Rattle.save.proofs.Text.{shape-is, in-blocks, valid-shape, valid-past, valid-plugged, state-block}
 
-later : (i end stop : ℕ) (rs : List Run) → end ≤ stop → Apart i end rs → Apart i stop rs
+later : (i end stop : ℕ) (rs : List Run) → end ≤ stop → RunsApart i end rs → RunsApart i stop rs
 later i end stop [] h a = tt
 later i end stop (r ∷ rs) h a = (a .0, a .1, omega (arith, a .2), later (suc (r .first + r .count)) end stop rs h (a .3))
 
@@ -33,8 +33,8 @@ blocks-is : {m n : ℕ} → Blocks m ≡ Blocks n → m ≡ n
 blocks-is h = cc
 
 -- the state of runs
-made : (f : Fields) (end : ℕ) → shapeOk f ≡ true → end ≡ usedOf f → (rs : List Run) → Apart 0 end rs → (l : List ℕ) → runsText rs ≡ l → f .plugged ≡ total rs * f .block
-    → (bs : List Bool) × State f bs × (runsText (runsOf bs) ≡ l)
+made : (f : Fields) (end : ℕ) → shapeOk f ≡ true → end ≡ usedOf f → (rs : List Run) → RunsApart 0 end rs → (l : List ℕ) → runsText rs ≡ l → f .plugged ≡ total rs * f .block
+    → (bs : List Bool) × IsState f bs × (runsText (runsOf bs) ≡ l)
 unfolding validOf
 made f end s u rs a l t k =
     let all = allOf f in
@@ -60,7 +60,7 @@ made f end s u rs a l t k =
 
 -- l is not the text of the runs of a state with these fields
 abbrev No : Fields → List ℕ → Type 0
-No f l = (_≡_ {A = ℕ} 18 18) × ((bs : List Bool) → State f bs → runsText (runsOf bs) ≡ l → ⊥)
+No f l = (_≡_ {A = ℕ} 18 18) × ((bs : List Bool) → IsState f bs → runsText (runsOf bs) ≡ l → ⊥)
 
 pub laid-shape : (f : Fields) (l : List ℕ) (r : Bool) → r ≡ shapeOk f → not r ≡ true → No f l
 laid-shape f l r p q =
@@ -70,7 +70,7 @@ module _ (f : Fields) (end : ℕ) (s : shapeOk f ≡ true) (u : end ≡ usedOf f
   pub end-few : end ≤ 262144
   end-few = let h = shape-is f s in let a = h .usable-in in let b = h .region-top in let c = in-blocks f s (f .usable) in omega arith
 
-  state-runs : (bs : List Bool) → State f bs → Apart 0 end (runsOf bs)
+  state-runs : (bs : List Bool) → IsState f bs → RunsApart 0 end (runsOf bs)
   state-runs bs st =
       let h = shape-is f s .usable-in in
       let a = st .all in
@@ -99,8 +99,8 @@ module _ (f : Fields) (end : ℕ) (s : shapeOk f ≡ true) (u : end ≡ usedOf f
             d (omega arith),
       )
 
-      pub laid : plugged ≡ n → (bs : List Bool) × State f bs × (runsText (runsOf bs) ≡ l)
+      pub laid : plugged ≡ n → (bs : List Bool) × IsState f bs × (runsText (runsOf bs) ≡ l)
       laid d = let o = counts .only n q in go (o .0) (o .1) (o .2) (o .3)
         where
-          go : (rs : List Run) → Apart 0 end rs → runsText rs ≡ l → n ≡ 0 + total rs → (bs : List Bool) × State f bs × (runsText (runsOf bs) ≡ l)
+          go : (rs : List Run) → RunsApart 0 end rs → runsText rs ≡ l → n ≡ 0 + total rs → (bs : List Bool) × IsState f bs × (runsText (runsOf bs) ≡ l)
           go rs a t k = made f end s u rs a l t (rw (shape-is f s .block-size) (let o = shape-is f s .plugged-blocks in let p = in-blocks f s (f .plugged) in omega arith))

@@ -23,9 +23,9 @@ use Rattle.save.specs.declared.Checked.{Checked}
 use Rattle.save.specs.declared.Checked.the-variants as checked
 use Rattle.save.specs.declared.Got.{Got}
 use Rattle.save.specs.declared.Got.the-variants as got
-use Rattle.save.specs.Text.{formLine, State, Says}
+use Rattle.save.specs.Text.{formLine, Says}
 use Rattle.save.specs.Writing.{Writes}
-use Rattle.save.specs.Reading.{laterPart, isLater, Accepts, Checks, Holds, Takes, AtMost, noRoom, Reads}
+use Rattle.save.specs.Reading.{laterPart, isLater, Accepts, Checks, HoldsBlocks, Takes, AtMost, noRoom, ReadsState}
 use Rattle.save.proofs.Text.{one-text}
 
 -- ---- one outcome
@@ -54,7 +54,7 @@ checks-once s (checked.Refused k) (checked.State g n) p q = absurd (p .no-state 
 checks-once s (checked.Refused k) (checked.Refused l) p q = let e : k ≡ l = p .number-is ∙ sym (q .number-is) in rw e
 
 -- the bytes of a bitmap are below 256, as its type says
-pub holds-once : (bs : List Bool) (before xs ys : List ℕ) → ((i : ℕ) → getD xs i 0 < 256) → ((i : ℕ) → getD ys i 0 < 256) → Holds bs before xs → Holds bs before ys → xs ≡ ys
+pub holds-once : (bs : List Bool) (before xs ys : List ℕ) → ((i : ℕ) → getD xs i 0 < 256) → ((i : ℕ) → getD ys i 0 < 256) → HoldsBlocks bs before xs → HoldsBlocks bs before ys → xs ≡ ys
 holds-once bs before xs ys p q a b = blocks-tell xs ys p q (a .as-blocks ∙ sym (b .as-blocks))
 
 -- a text that is taken says one state; one that is not has one number
@@ -63,7 +63,7 @@ pub takes-once : (short : Bool) (Fits : Fields → List Bool → Type 0) (s : Li
 takes-once short Fits s f g bs cs a b = one-text s f g bs cs (a .says) (b .says)
 
 pub reads-once : (s : List ℕ) (most : ℕ) (before xs ys : List ℕ) (a b : Got) → ((i : ℕ) → getD xs i 0 < 256) → ((i : ℕ) → getD ys i 0 < 256)
-    → Reads s most before xs a → Reads s most before ys b → (a ≡ b) × (xs ≡ ys)
+    → ReadsState s most before xs a → ReadsState s most before ys b → (a ≡ b) × (xs ≡ ys)
 reads-once s most before xs ys (got.Fields f) (got.Fields g) p q x y =
     let o = takes-once (noRoom before) (AtMost most) s f g (x .0) (y .0) (x .1) (y .1) in
     (ap got.Fields (o .0), holds-once (x .0) before xs ys p q (x .2) (rw (o .1) (y .2)))

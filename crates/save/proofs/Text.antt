@@ -19,11 +19,11 @@ use Rattle.record.specs.Shape.{configShapedOf, ofConfig}
 use Rattle.record.proofs.Laws.{Shaped, shaped-is}
 use Rattle.save.specs.declared.Fields.{Fields}
 use Rattle.bitmap.specs.Blocks.{ones, allAre}
-use Rattle.runs.specs.Runs.{Run, runsOf, spread, Apart}
+use Rattle.runs.specs.Runs.{Run, runsOf, spread, RunsApart}
 use Rattle.runs.specs.Text.{runsText}
 use Rattle.runs.proofs.Runs.{runs-apart, comes-back}
 use Rattle.runs.proofs.Lines.{runs-open, same-runs}
-use Rattle.save.specs.Text.{formLine, fieldLines, fieldsOf, textOf, configOf, shapeOk, allOf, usedOf, validOf, State, Says}
+use Rattle.save.specs.Text.{formLine, fieldLines, fieldsOf, textOf, configWith, shapeOk, allOf, usedOf, validOf, IsState, Says}
 
 -- ---- the head
 
@@ -52,15 +52,15 @@ fields-are f g o a b c d e =
 
 -- ---- a state
 
-pub shape-is : (f : Fields) → shapeOk f ≡ true → Shaped (ofConfig (configOf f))
+pub shape-is : (f : Fields) → shapeOk f ≡ true → Shaped (ofConfig (configWith f))
 unfolding configShapedOf
-shape-is f e = shaped-is (ofConfig (configOf f)) e
+shape-is f e = shaped-is (ofConfig (configWith f)) e
 
 -- blocks of 4 MiB
 pub in-blocks : (f : Fields) → shapeOk f ≡ true → (size : ℕ) → blocksIn (f .block) size ≡ size / 4194304
 in-blocks f e size = let b = shape-is f e .block-size in ap (λ (x : ℕ). size / x) b
 
-module _ {f : Fields} {bs : List Bool} (s : State f bs) where
+module _ {f : Fields} {bs : List Bool} (s : IsState f bs) where
   pub valid-shape : shapeOk f ≡ true
   unfolding validOf
   valid-shape = and-left (shapeOk f) _ (s .valid)
@@ -88,7 +88,7 @@ module _ {f : Fields} {bs : List Bool} (s : State f bs) where
       let b = in-blocks f valid-shape (f .region) in
       omega arith
 
-  pub state-apart : Apart 0 (length bs) (runsOf bs)
+  pub state-apart : RunsApart 0 (length bs) (runsOf bs)
   state-apart =
       let z : 0 + length bs ≡ length bs = omega arith in
       rw z at (runs-apart 0 0 bs (omega arith))
@@ -103,7 +103,7 @@ pub record Same (m n : ℕ) (f g : Fields) (bs cs : List Bool) : Type 0 where
   pub fields : f ≡ g
   pub blocks : bs ≡ cs
 
-pub one-state : (m n : ℕ) (f g : Fields) (bs cs : List Bool) → m ≤ largest → n ≤ largest → State f bs → State g cs → textOf m f bs ≡ textOf n g cs → Same m n f g bs cs
+pub one-state : (m n : ℕ) (f g : Fields) (bs cs : List Bool) → m ≤ largest → n ≤ largest → IsState f bs → IsState g cs → textOf m f bs ≡ textOf n g cs → Same m n f g bs cs
 one-state m n f g bs cs u v s t h =
     let a : part (m ∷ []) (filled (fieldLines m) (fieldsOf f) ++ runsText (runsOf bs)) ≡ part (n ∷ []) (filled (fieldLines n) (fieldsOf g) ++ runsText (runsOf cs)) =
     sym (form-part m f bs u) ∙ ap (partOf 1 formLine) h ∙ form-part n g cs v in

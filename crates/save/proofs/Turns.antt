@@ -27,10 +27,10 @@ use Rattle.save.specs.declared.Wrote.{Wrote}
 use Rattle.save.specs.declared.Wrote.the-variants.{Text, Refused}
 use Rattle.save.specs.declared.Checked.{Checked}
 use Rattle.save.specs.declared.Checked.the-variants as checked
-use Rattle.save.specs.Text.{formLine, fieldLines, fieldsOf, headText, textOf, shapeOk, allOf, usedOf, validOf, State}
+use Rattle.save.specs.Text.{formLine, fieldLines, fieldsOf, headText, textOf, shapeOk, allOf, usedOf, validOf, IsState}
 use Rattle.save.specs.Writing.{blocksFor, isShort, validIn, textIn, lengthOf, wroteOf}
-use Rattle.save.specs.Reading.{Refuses, Accepts, Checks, Holds, Takes, NotTaken, AtMost, noRoom}
-use Rattle.save.proofs.Text.{shape-is, in-blocks, valid-shape, state-few, state-apart, one-text}
+use Rattle.save.specs.Reading.{Refuses, Accepts, Checks, HoldsBlocks, Takes, NotTaken, AtMost, noRoom}
+use Rattle.save.proofs.Text.{shape-is, in-blocks, state-few, state-apart, one-text}
 use Rattle.save.proofs.Heading.{not-later}
 
 -- ---- `is_short`
@@ -123,7 +123,7 @@ module _ (f : Fields) (m : List ℕ) (all : ℕ) (a : all ≡ allOf f) (t : Bool
     length-bad y = let e = long in let z = refused (validIn f m) v w y in rw (e, z)
 
     module _ (y : not v ≡ false) where
-      state-in : State f (blocksFor f m)
+      state-in : IsState f (blocksFor f m)
       state-in =
           let b = blocks-length m in
           let l = length-take (allOf f) (blocks m) in
@@ -220,7 +220,7 @@ text-put f m all a {before} p q =
 
 module _ (s : List ℕ) (f : Fields) (runs : ℕ) (a : Accepts s f runs) where
   pub laid-holds : (before mid after : List ℕ) → blocks mid ≡ replicate (length (a .bs)) false ++ drop (length (a .bs)) (blocks before)
-      → Outside before mid 0 (length (a .bs)) → Lays (drop runs s) mid after → Holds (a .bs) before after
+      → Outside before mid 0 (length (a .bs)) → Lays (drop runs s) mid after → HoldsBlocks (a .bs) before after
   laid-holds before mid after e o l =
       let st = a .says .state in
       let few = state-few st in
@@ -283,7 +283,7 @@ module _ (s before mid after : List ℕ) (long : 32768 ≤ length before) (r : C
   read-large l = not-fitting (noRoom before) (AtMost most) s (le-ltb (length before) 32768 long) f n there (λ q. let k = blocks-of in omega arith)
 
   pub read-state : all ≤ most → Filled before mid 0 all false → Lays (drop n s) mid after
-      → (bs : List Bool) × Takes (noRoom before) (AtMost most) s f bs × Holds bs before after
+      → (bs : List Bool) × Takes (noRoom before) (AtMost most) s f bs × HoldsBlocks bs before after
   read-state q d l =
       let k = blocks-of in
       let few = blocks-few s f n there in

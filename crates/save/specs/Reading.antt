@@ -17,7 +17,7 @@ use Rattle.save.specs.declared.Checked.{Checked}
 use Rattle.save.specs.declared.Checked.the-variants as checked
 use Rattle.save.specs.declared.Got.{Got}
 use Rattle.save.specs.declared.Got.the-variants as got
-use Rattle.save.specs.Text.{formLine, fieldLines, fieldsOf, State, Says}
+use Rattle.save.specs.Text.{formLine, fieldLines, fieldsOf, IsState, Says}
 
 -- ---- 19 before 18
 
@@ -62,9 +62,9 @@ IsHead s (head.At f next) = Heads s f next
 IsHead s (head.Refused number) = Refuses s number
 
 -- l is the text of the runs of a state with the fields f, of which there is no other; or it is not, and refused as 18
-abbrev pub Laid : Fields → (at : ℕ) → List ℕ → Checked → Type 0
-Laid f at l (checked.State g runs) = (g ≡ f) × (runs ≡ at) × ((bs : List Bool) × State f bs × (runsText (runsOf bs) ≡ l))
-Laid f at l (checked.Refused number) = (number ≡ 18) × ((bs : List Bool) → State f bs → runsText (runsOf bs) ≡ l → ⊥)
+abbrev pub IsRuns : Fields → (at : ℕ) → List ℕ → Checked → Type 0
+IsRuns f at l (checked.State g runs) = (g ≡ f) × (runs ≡ at) × ((bs : List Bool) × IsState f bs × (runsText (runsOf bs) ≡ l))
+IsRuns f at l (checked.Refused number) = (number ≡ 18) × ((bs : List Bool) → IsState f bs → runsText (runsOf bs) ≡ l → ⊥)
 
 -- ---- the whole text
 
@@ -83,7 +83,7 @@ Checks s (checked.Refused number) = Refuses s number
 -- ---- the text and a bitmap
 
 -- the bitmap's first blocks are bs, and no other block and no byte past them changed
-pub record Holds (bs : List Bool) (before after : List ℕ) : Type 0 where
+pub record HoldsBlocks (bs : List Bool) (before after : List ℕ) : Type 0 where
   pub as-blocks : blocks after ≡ bs ++ drop (length bs) (blocks before)
   pub outside : Outside before after 0 (length bs)
 
@@ -106,6 +106,6 @@ AtMost most f bs = length bs ≤ most
 abbrev pub noRoom : List ℕ → Bool
 noRoom bitmap = ltb (length bitmap) 32768
 
-abbrev pub Reads : (s : List ℕ) (most : ℕ) (before after : List ℕ) → Got → Type 0
-Reads s most before after (got.Fields f) = (bs : List Bool) × Takes (noRoom before) (AtMost most) s f bs × Holds bs before after
-Reads s most before after (got.Refused number) = NotTaken (noRoom before) (AtMost most) s number × (after ≡ before)
+abbrev pub ReadsState : (s : List ℕ) (most : ℕ) (before after : List ℕ) → Got → Type 0
+ReadsState s most before after (got.Fields f) = (bs : List Bool) × Takes (noRoom before) (AtMost most) s f bs × HoldsBlocks bs before after
+ReadsState s most before after (got.Refused number) = NotTaken (noRoom before) (AtMost most) s number × (after ≡ before)

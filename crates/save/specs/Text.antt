@@ -41,8 +41,8 @@ textOf form f bs = headText form f ++ runsText (runsOf bs)
 -- ---- which states have one
 
 -- a device's config with these fields
-abbrev pub configOf : Fields → VirtioMemConfig
-configOf f =
+abbrev pub configWith : Fields → VirtioMemConfig
+configWith f =
     record {
       «block_size» = f .block;
       «node_id» = 0;
@@ -55,7 +55,7 @@ configOf f =
 
 -- R3.10: the shape of a config alone
 abbrev pub shapeOk : Fields → Bool
-shapeOk f = configShapedOf (configOf f)
+shapeOk f = configShapedOf (configWith f)
 
 -- how many blocks the region has, and how many of them are usable
 abbrev pub allOf : Fields → ℕ
@@ -69,11 +69,11 @@ unfoldable pub validOf : Fields → List Bool → Bool
 validOf f bs = shapeOk f && (allAre bs (usedOf f) (allOf f - usedOf f) false && eqb (f .plugged) (bytesOf (f .block) (ones bs)))
 
 -- a state that has a text: bs are the region's blocks
-pub record State (f : Fields) (bs : List Bool) : Type 0 where
+pub record IsState (f : Fields) (bs : List Bool) : Type 0 where
   pub all : length bs ≡ allOf f
   pub valid : validOf f bs ≡ true
 
 -- s is the text of this state
 pub record Says (s : List ℕ) (f : Fields) (bs : List Bool) : Type 0 where
-  pub state : State f bs
+  pub state : IsState f bs
   pub text : textOf 2 f bs ≡ s

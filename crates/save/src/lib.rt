@@ -1,6 +1,6 @@
 // SPDX-License-Identifier: Apache-2.0 AND BSD-3-Clause
-// Save records as text (R15): the fields, one a line, then the runs of plugged blocks. Written from a packed bitmap, and
-// read back whole or not at all.
+// Save records as text (R15): the fields, one a line, then the runs of plugged blocks. Written from a packed bitmap,
+// and read back whole or not at all.
 use forms::Place;
 use runs::Counted;
 use runs::count_runs;
@@ -16,8 +16,8 @@ ghost use lib.Dec.{ltb};
 ghost use lib.ListN.{drop, length};
 ghost use Rattle.text.specs.Putting.{Put};
 ghost use Rattle.save.specs.Text.{shapeOk, headText};
-ghost use Rattle.save.specs.Writing.{blocksFor, isShort, validIn, lengthOf, Writes};
-ghost use Rattle.save.specs.Reading.{Laid, IsFields, IsHead, Checks, Reads};
+ghost use Rattle.save.specs.Writing.{validIn, lengthOf, Writes};
+ghost use Rattle.save.specs.Reading.{IsRuns, IsFields, IsHead, Checks, ReadsState};
 
 // The bytes of the largest packed bitmap.
 pub const BITMAP: usize = 32768;
@@ -120,7 +120,8 @@ pub fn text_length(f: Fields, bitmap: &[u8]) -> Wrote
     Wrote::Text(head_length(f) + runs_length(bitmap, all as usize))
 }
 
-// Writes the text of a state whose blocks are the first of a packed bitmap. 11, 18; 18 too where the buffer is shorter than the text.
+// Writes the text of a state whose blocks are the first of a packed bitmap. 11, 18; 18 too where the buffer is
+// shorter than the text.
 pub fn write(f: Fields, bitmap: &[u8], out: &mut [u8]) -> Wrote
     ensures { λ r. ⌜ Writes f (now (bitmap .entry)) (now (out .entry)) (now (out .exit)) r ⌝ }
 {
@@ -147,7 +148,7 @@ pub enum Checked {
 
 // Whether the text from a position on is that of the runs of a state with these fields.
 fn runs_of(f: Fields, s: &[u8], at: usize) -> Checked
-    ensures { λ r. ⌜ Laid f at (drop at (now (s .entry))) r ⌝ }
+    ensures { λ r. ⌜ IsRuns f at (drop at (now (s .entry))) r ⌝ }
 {
     if !shape_ok(f) {
         return Checked::Refused(18);
@@ -231,10 +232,10 @@ pub enum Got {
     Refused(u64),
 }
 
-// Reads the text of a state of at most so many blocks: they go into a packed bitmap, which has room for the largest region.
-// 11, 19, 18.
+// Reads the text of a state of at most so many blocks: they go into a packed bitmap, which has room for the largest
+// region. 11, 19, 18.
 pub fn read(s: &[u8], most: usize, bitmap: &mut [u8]) -> Got
-    ensures { λ r. ⌜ Reads (now (s .entry)) most (now (bitmap .entry)) (now (bitmap .exit)) r ⌝ }
+    ensures { λ r. ⌜ ReadsState (now (s .entry)) most (now (bitmap .entry)) (now (bitmap .exit)) r ⌝ }
 {
     if bitmap.len() < BITMAP {
         return Got::Refused(11);

@@ -15,11 +15,11 @@ use Rattle.history.proofs.Demand3.{reached-after}
 use Rattle.runs.specs.Runs.{runsOf}
 use Rattle.saving.specs.declared.Restored.{Restored}
 use Rattle.saving.specs.declared.Restored.the-variants.{Device as Laid, Refused}
-use Rattle.saving.specs.Restoring.{Restoring, Restores as Kept}
+use Rattle.saving.specs.Restoring.{Restoring, RestoresText as Kept}
 use Rattle.saving.proofs.Turns.{never-0}
 use Rattle.save_runs.specs.Starts.{plugsOf}
 use Rattle.save_runs.proofs.Starts.{restore-starts}
-use Rattle.save_words.specs.Told.{restoredNumber, restoredWords, Laid as LaidTold, LaidOn}
+use Rattle.save_words.specs.Told.{restoredNumber, restoredWords, RestoresRecord, RestoresFrom}
 use Rattle.linked.specs.Runs.{callOf, Held, heldAfter, callsOf, Means}
 use Rattle.linked.proofs.Linked.{follows-from}
 use Rattle.linked.proofs.Heard.{events-heard}
@@ -64,8 +64,8 @@ module _ (h : Held) (s : Story) (m : Means h (s .world)) (reached : Reached s) (
   answered (Laid d′) r e recorded = laid d′ r recorded
   answered (Refused k) r e recorded = absurd (never-0 here text (h .bitmap) bitmap′ (rw e r))
 
-  on-record : RestoreCalled h text words′ bitmap′ 0 → LaidTold here text (h .words) words′ (h .bitmap) bitmap′ 0
-  unfolding LaidOn
+  on-record : RestoreCalled h text words′ bitmap′ 0 → RestoresRecord here text (h .words) words′ (h .bitmap) bitmap′ 0
+  unfolding RestoresFrom
   on-record t = rw (m .decodes) at t
 
   taken : RestoreCalled h text words′ bitmap′ 0 → SaveLinked (heldThen h words′ bitmap′) s text
@@ -85,13 +85,13 @@ after-every-run-then P rule h′ s text l us run u =
 
 -- ---- a refusal
 pub refused-restore-changes-nothing : RefusedRestoreChangesNothing
-unfolding LaidOn
+unfolding RestoresFrom
 refused-restore-changes-nothing text words words′ bitmap bitmap′ number t refused = go (decodedOf words) t
   where
     of : (d : Device) (a : Restored) → Kept d text bitmap bitmap′ a → number ≡ restoredNumber a → words′ ≡ restoredWords a words → Untouched words words′ bitmap bitmap′
     of d (Laid d′) r e w = absurd (refused e)
     of d (Refused k) r e w = record { same-words = w; same-bitmap = r .same }
 
-    go : (r : Decoded) → LaidOn r text words words′ bitmap bitmap′ number → Untouched words words′ bitmap bitmap′
+    go : (r : Decoded) → RestoresFrom r text words words′ bitmap bitmap′ number → Untouched words words′ bitmap bitmap′
     go (Is d) l = of d (l .answer) (l .restores) (l .numbered) (l .recorded)
     go NoRecord l = record { same-words = l .recorded; same-bitmap = l .marked }

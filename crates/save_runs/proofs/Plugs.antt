@@ -12,7 +12,7 @@ use Rattle.bitmap.specs.Blocks.{every, range, allAre, fill}
 use Rattle.bitmap.proofs.Laws.{all-split, fill-before, fill-swap}
 use Rattle.history.specs.History.{wasPlug}
 use Rattle.history.specs.Reached.{marks, counts, could, marked, counted, allCould, allPlugs}
-use Rattle.runs.specs.Runs.{Run, Apart, total, laidOn}
+use Rattle.runs.specs.Runs.{Run, RunsApart, total, laidOn}
 use Rattle.save_runs.specs.Starts.{plugsOf}
 
 pub plugs-only : (rs : List Run) → allPlugs (plugsOf rs) ≡ true
@@ -43,7 +43,7 @@ plugs-count b (r ∷ rs) = let rest = plugs-count b rs in let sum = add-mul (r .
 
 -- ---- each could happen
 -- the plugs of runs change no block before them
-below : (from end : ℕ) (rs : List Run) (bs : List Bool) (first count : ℕ) → Apart from end rs → first + count ≤ from
+below : (from end : ℕ) (rs : List Run) (bs : List Bool) (first count : ℕ) → RunsApart from end rs → first + count ≤ from
     → range (marked (plugsOf rs) bs) first count ≡ range bs first count
 unfolding plugsOf marked marks
 below from end [] bs first count a h = refl
@@ -63,7 +63,7 @@ part-clear bs n first count h e =
     let here : allAre bs first (count + rest) false ≡ true = rw y at later in
     and-left (allAre bs first count false) _ (sym (all-split bs first count rest false) ∙ here)
 
-pub plugs-could : (from n : ℕ) (rs : List Run) (bs : List Bool) → Apart from n rs → allAre bs 0 n false ≡ true → allCould (plugsOf rs) bs n ≡ true
+pub plugs-could : (from n : ℕ) (rs : List Run) (bs : List Bool) → RunsApart from n rs → allAre bs 0 n false ≡ true → allCould (plugsOf rs) bs n ≡ true
 unfolding plugsOf allCould could
 plugs-could from n [] bs a e = refl
 plugs-could from n (r ∷ rs) bs a e =

@@ -7,13 +7,13 @@ use Rattle.record.specs.declared.Device.{Device}
 use Rattle.save.specs.declared.Fields.{Fields}
 use Rattle.save.specs.Text.{Says}
 use Rattle.saving.specs.declared.Restored.{Restored}
-use Rattle.saving.specs.Restoring.{TakenOn, Restores}
+use Rattle.saving.specs.Restoring.{TakenOn, RestoresText}
 use Rattle.saving.proofs.Round.{saved-says, is-laid, saved-again}
 use Rattle.save_runs.specs.Round.{Fitting, ComesBack, SavedIsKept}
 
 -- the text of any state comes back
 comes-back : (text : List ℕ) (f : Fields) (bs : List Bool) → Says text f bs → (d : Device) (bitmap bitmap′ : List ℕ) (r : Restored)
-    → Fitting d bitmap f → Restores d text bitmap bitmap′ r → ComesBack text f bs d bitmap bitmap′ r
+    → Fitting d bitmap f → RestoresText d text bitmap bitmap′ r → ComesBack text f bs d bitmap bitmap′ r
 comes-back text f bs s d bitmap bitmap′ r h p =
     let t : TakenOn d text bitmap f bs = record { long = h .long; says = s; fits = h .fits } in
     let l = is-laid d text bitmap bitmap′ f bs (h .admitted) t r p in

@@ -23,10 +23,10 @@ use Rattle.history.proofs.Observer.{openOf, sees}
 use Rattle.history.proofs.Calls.{each-call}
 use Rattle.history.proofs.Keeps.{Kept, kept}
 use Rattle.history.proofs.Good.{good-restored}
-use Rattle.runs.specs.Runs.{Run, runsOf, Apart, total, laidOn}
+use Rattle.runs.specs.Runs.{Run, runsOf, RunsApart, total, laidOn}
 use Rattle.runs.proofs.Spread.{runs-inside, runs-laid, runs-ones}
 use Rattle.save.specs.declared.Fields.{Fields}
-use Rattle.save.specs.Text.{configOf, shapeOk, usedOf}
+use Rattle.save.specs.Text.{configWith, shapeOk, usedOf}
 use Rattle.save.proofs.Text.{shape-is, in-blocks, valid-shape, valid-past, valid-plugged, state-block}
 use Rattle.saving.specs.Restoring.{Restoring}
 use Rattle.saving.proofs.Turns.{entry-shaped, is-placed, same-region, usable-enough, none-plugged, none-set, as-many, has-room, starts-clear}
@@ -34,7 +34,7 @@ use Rattle.save_runs.specs.Starts.{plugsOf, starts, StartsWith, RestoreS
 use Rattle.save_runs.proofs.Plugs.{plugs-only, plugs-mark, plugs-count, plugs-could, part-clear}
 
 -- runs that end by a block end by any after it
-ends-by : (from end more : ℕ) (rs : List Run) → end ≤ more → Apart from end rs → Apart from more rs
+ends-by : (from end more : ℕ) (rs : List Run) → end ≤ more → RunsApart from end rs → RunsApart from more rs
 ends-by from end more [] h a = tt
 ends-by from end more (r ∷ rs) h a = (a .0, a .1, omega (arith, a .2), ends-by (suc (r .first + r .count)) end more rs h (a .3))
 
@@ -55,7 +55,7 @@ stays s good w requested plugs e l = let here : CanRestore (s .world) requested 
 
 size-of : (f : Fields) → shapeOk f ≡ true → sizeOk (f .block) (f .requested) (f .region) ≡ true
 unfolding configShapedOf
-size-of f e = parts (ofConfig (configOf f)) e .requested
+size-of f e = parts (ofConfig (configWith f)) e .requested
 
 module _ (d d′ : Device) (text bitmap bitmap′ table : List ℕ) (r : Restoring d text bitmap bitmap′ d′) where
   is-shaped : Parts d
@@ -65,7 +65,7 @@ module _ (d d′ : Device) (text bitmap bitmap′ table : List ℕ) (r : Restori
   same-block = state-block (r .taken .says .state) ∙ sym (shaped-is d (entry-shaped d (r .admitted) .0) .block-size)
 
   -- the state's runs lie in the usable size of the device
-  runs-end : Apart 0 (blocksIn (d .config .«block_size») (d .config .«usable_region_size»)) (runsOf (r .bs))
+  runs-end : RunsApart 0 (blocksIn (d .config .«block_size») (d .config .«usable_region_size»)) (runsOf (r .bs))
   runs-end =
       let f = r .fields in
       let st = r .taken .says .state in

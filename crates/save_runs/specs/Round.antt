@@ -12,11 +12,11 @@ use Rattle.save.specs.declared.Wrote.{Wrote}
 use Rattle.save.specs.declared.Wrote.the-variants.{Text}
 use Rattle.save.specs.Text.{Says}
 use Rattle.save.specs.Writing.{blocksFor, isShort}
-use Rattle.save.specs.Reading.{Holds}
+use Rattle.save.specs.Reading.{HoldsBlocks}
 use Rattle.saving.specs.declared.Restored.{Restored}
 use Rattle.saving.specs.declared.Restored.the-variants.{Device as Laid}
 use Rattle.saving.specs.Saving.{fieldsIn, entryRefusal, Saves}
-use Rattle.saving.specs.Restoring.{fitsOn, restoredTo, Restores}
+use Rattle.saving.specs.Restoring.{fitsOn, restoredTo, RestoresText}
 
 -- a device and a bitmap that a state with the fields f may be laid on
 pub record Fitting (d : Device) (bitmap : List ℕ) (f : Fields) : Type 0 where
@@ -27,7 +27,7 @@ pub record Fitting (d : Device) (bitmap : List ℕ) (f : Fields) : Type 0 where
 -- the restore of this text on d, answered by r, was not refused
 pub record ComesBack (text : List ℕ) (f : Fields) (bs : List Bool) (d : Device) (bitmap bitmap′ : List ℕ) (r : Restored) : Type 0 where
   pub laid : r ≡ Laid (restoredTo f d)
-  pub holds : Holds bs bitmap bitmap′
+  pub holds : HoldsBlocks bs bitmap bitmap′
   -- where the usable size is the form's, saving it again gives the same text, in any buffer with room for it
   pub again : d .config .«usable_region_size» ≡ f .usable → (before after : List ℕ) (w : Wrote) → length text ≤ length before
       → Saves (restoredTo f d) bitmap′ before after w → (w ≡ Text (length text)) × (take (length text) after ≡ text)
@@ -35,7 +35,7 @@ pub record ComesBack (text : List ℕ) (f : Fields) (bs : List Bool) (d : Device
 -- what was written is the text of the device's fields and of the region's blocks, and comes back from any device that it fits
 pub record Kept (d : Device) (bitmap text : List ℕ) : Type 0 where
   pub says : Says text (fieldsIn d) (blocksFor (fieldsIn d) bitmap)
-  pub back : (e : Device) (under under′ : List ℕ) (r : Restored) → Fitting e under (fieldsIn d) → Restores e text under under′ r
+  pub back : (e : Device) (under under′ : List ℕ) (r : Restored) → Fitting e under (fieldsIn d) → RestoresText e text under under′ r
       → ComesBack text (fieldsIn d) (blocksFor (fieldsIn d) bitmap) e under under′ r
 
 -- of every device that was saved, with n bytes in a buffer

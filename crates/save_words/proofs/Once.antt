@@ -15,7 +15,7 @@ use Rattle.save.specs.declared.Got.{Got}
 use Rattle.saving.specs.declared.Restored.{Restored}
 use Rattle.saving.proofs.Once.{restores-once}
 use Rattle.old_form.proofs.Once.{to-new-once, to-old-once}
-use Rattle.save_words.specs.Told.{fieldsOf, WroteTold, SaveTold, restoredNumber, restoredWords, LaidOn, RestoreTold, NewIf, ToNewTold, gotNumber, gotWords, OldIf, ToOldTold}
+use Rattle.save_words.specs.Told.{fieldsFrom, WroteTold, SaveTold, restoredNumber, restoredWords, RestoresFrom, RestoreTold, NewIf, ToNewTold, gotNumber, gotWords, OldIf, ToOldTold}
 
 pub wrote-told-once : (w : Wrote) (len us vs : List ℕ) (m n : ℕ) → WroteTold w len us m → WroteTold w len vs n → (m ≡ n) × (us ≡ vs)
 wrote-told-once w len us vs m n x y = (x .numbered ∙ sym (y .numbered), x .told ∙ sym (y .told))
@@ -27,8 +27,8 @@ save-told-once words bitmap text len xs ys us vs m n x y =
 
 -- the bytes of a bitmap are below 256, as its type says
 module _ (bitmap xs ys : List ℕ) (p : (i : ℕ) → getD xs i 0 < 256) (q : (i : ℕ) → getD ys i 0 < 256) where
-  laid-once : (r : Decoded) (text words us vs : List ℕ) (m n : ℕ) → LaidOn r text words us bitmap xs m → LaidOn r text words vs bitmap ys n → (m ≡ n) × (us ≡ vs) × (xs ≡ ys)
-  unfolding LaidOn
+  laid-once : (r : Decoded) (text words us vs : List ℕ) (m n : ℕ) → RestoresFrom r text words us bitmap xs m → RestoresFrom r text words vs bitmap ys n → (m ≡ n) × (us ≡ vs) × (xs ≡ ys)
+  unfolding RestoresFrom
   laid-once (Is d) text words us vs m n x y =
       let o = restores-once d text bitmap xs ys (x .answer) (y .answer) p q (x .restores) (y .restores) in (
         x .numbered ∙ ap (λ (r : Restored). restoredNumber r) (o .0) ∙ sym (y .numbered),
@@ -54,7 +54,7 @@ module _ (bitmap xs ys : List ℕ) (p : (i : ℕ) → getD xs i 0 < 256) (q : (i
   pub to-new-told-once : (fields old text us vs len ks ls : List ℕ) (m n : ℕ) → ToNewTold fields old bitmap xs text us len ks m → ToNewTold fields old bitmap ys text vs len ls n
       → (m ≡ n) × (xs ≡ ys) × (us ≡ vs) × (ks ≡ ls)
   to-new-told-once fields old text us vs len ks ls m n x y =
-      new-once (leb 6 (length fields) && leb 1 (length len)) (fieldsOf fields) old text us vs len ks ls m n x y
+      new-once (leb 6 (length fields) && leb 1 (length len)) (fieldsFrom fields) old text us vs len ks ls m n x y
 
   old-once : (b : Bool) (text old us vs fields ks ls : List ℕ) (m n : ℕ) → OldIf b text bitmap xs old us fields ks m → OldIf b text bitmap ys old vs fields ls n
       → (m ≡ n) × (xs ≡ ys) × (us ≡ vs) × (ks ≡ ls)

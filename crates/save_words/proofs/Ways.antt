@@ -19,9 +19,9 @@ use Rattle.save.specs.Writing.{textIn}
 use Rattle.saving.specs.declared.Restored.{Restored}
 use Rattle.saving.specs.declared.Restored.the-variants as restored
 use Rattle.saving.specs.Saving.{fieldsIn, savedLength, Saves}
-use Rattle.saving.specs.Restoring.{Restores}
+use Rattle.saving.specs.Restoring.{RestoresText}
 use Rattle.old_form.specs.Moves.{ToNew, ToOld}
-use Rattle.save_words.specs.Told.{fieldsOf, fieldsWords, WroteTold, onRecord, lengthFrom, savedFrom, textFrom, SaveTold, LaidOn, RestoreTold, NewIf, ToNewTold, OldIf, ToOldTold}
+use Rattle.save_words.specs.Told.{fieldsFrom, fieldsWords, WroteTold, onRecord, lengthFrom, savedFrom, textFrom, SaveTold, RestoresFrom, RestoreTold, NewIf, ToNewTold, OldIf, ToOldTold}
 
 -- ---- `tell_wrote`
 
@@ -74,16 +74,16 @@ module _ (words bitmap len : List ℕ) where
 
 module _ (text words bitmap : List ℕ) (r : Decoded) (e : r ≡ decodedOf words) where
   pub restore-foreign : r ≡ NoRecord → RestoreTold text words words bitmap bitmap 12
-  unfolding LaidOn
+  unfolding RestoresFrom
   restore-foreign q = let k = sym e ∙ q in rw k (record { numbered = refl; recorded = refl; marked = refl })
 
-  module _ (d : Device) (q : r ≡ Is d) (bitmap′ : List ℕ) (a : Restored) (h : Restores d text bitmap bitmap′ a) where
+  module _ (d : Device) (q : r ≡ Is d) (bitmap′ : List ℕ) (a : Restored) (h : RestoresText d text bitmap bitmap′ a) where
     pub restore-refused : (n : ℕ) → a ≡ restored.Refused n → RestoreTold text words words bitmap bitmap′ n
-    unfolding LaidOn
+    unfolding RestoresFrom
     restore-refused n p = let k = sym e ∙ q in rw k (record { answer = a; restores = h; numbered = rw p; recorded = rw p })
 
     pub restore-laid : (d′ : Device) → a ≡ restored.Device d′ → (words′ : List ℕ) → words′ ≡ put words 0 (wordsOf d′) → RestoreTold text words words′ bitmap bitmap′ 0
-    unfolding LaidOn
+    unfolding RestoresFrom
     restore-laid d′ p words′ w = let k = sym e ∙ q in rw k (record { answer = a; restores = h; numbered = rw p; recorded = rw p w })
 
 -- ---- `tell_new`
@@ -100,7 +100,7 @@ module _ (fields old scratch text len : List ℕ) where
       let u = lt-leb 1 (length len) l in
       rw (t, u) (record { numbered = refl; scratch-same = refl; bytes-same = refl; words-same = refl })
 
-  pub new-told : 6 ≤ length fields → 1 ≤ length len → (f : Fields) → f ≡ fieldsOf fields → (scratch′ text′ len′ : List ℕ) (w : Wrote) (number : ℕ)
+  pub new-told : 6 ≤ length fields → 1 ≤ length len → (f : Fields) → f ≡ fieldsFrom fields → (scratch′ text′ len′ : List ℕ) (w : Wrote) (number : ℕ)
       → ToNew f old scratch scratch′ text text′ w → WroteTold w len len′ number → ToNewTold fields old scratch scratch′ text text′ len len′ number
   unfolding NewIf
   new-told h l f g scratch′ text′ len′ w number m o =

@@ -20,13 +20,13 @@ use Rattle.save.specs.Writing.{textIn, writtenOn}
 use Rattle.saving.specs.declared.Restored.{Restored}
 use Rattle.saving.specs.declared.Restored.the-variants as restored
 use Rattle.saving.specs.Saving.{fieldsIn, savedLength, savedOf}
-use Rattle.saving.specs.Restoring.{Restores}
+use Rattle.saving.specs.Restoring.{RestoresText}
 use Rattle.old_form.specs.Moves.{ToNew, ToOld}
 
 -- ---- words
 
-abbrev pub fieldsOf : List ℕ → Fields
-fieldsOf ws =
+abbrev pub fieldsFrom : List ℕ → Fields
+fieldsFrom ws =
     record { block = getD ws 0 0; start = getD ws 1 0; region = getD ws 2 0; requested = getD ws 3 0; usable = getD ws 4 0; plugged = getD ws 5 0 }
 
 abbrev pub fieldsWords : Fields → List ℕ
@@ -78,24 +78,24 @@ restoredWords (restored.Device d) words = put words 0 (wordsOf d)
 restoredWords (restored.Refused number) words = words
 
 -- a restore of the record in the words; the next call goes on from what they hold then
-pub record Laid (d : Device) (text words words′ bitmap bitmap′ : List ℕ) (number : ℕ) : Type 0 where
+pub record RestoresRecord (d : Device) (text words words′ bitmap bitmap′ : List ℕ) (number : ℕ) : Type 0 where
   pub answer : Restored
-  pub restores : Restores d text bitmap bitmap′ answer
+  pub restores : RestoresText d text bitmap bitmap′ answer
   pub numbered : number ≡ restoredNumber answer
   pub recorded : words′ ≡ restoredWords answer words
 
 -- R19.2: 12, the words are no record, and nothing is written
-pub record Foreign (words words′ bitmap bitmap′ : List ℕ) (number : ℕ) : Type 0 where
+pub record RefusesNoRecord (words words′ bitmap bitmap′ : List ℕ) (number : ℕ) : Type 0 where
   pub numbered : number ≡ 12
   pub recorded : words′ ≡ words
   pub marked : bitmap′ ≡ bitmap
 
-unfoldable pub LaidOn : Decoded → (text words words′ bitmap bitmap′ : List ℕ) → ℕ → Type 0
-LaidOn (Is d) text words words′ bitmap bitmap′ number = Laid d text words words′ bitmap bitmap′ number
-LaidOn NoRecord text words words′ bitmap bitmap′ number = Foreign words words′ bitmap bitmap′ number
+unfoldable pub RestoresFrom : Decoded → (text words words′ bitmap bitmap′ : List ℕ) → ℕ → Type 0
+RestoresFrom (Is d) text words words′ bitmap bitmap′ number = RestoresRecord d text words words′ bitmap bitmap′ number
+RestoresFrom NoRecord text words words′ bitmap bitmap′ number = RefusesNoRecord words words′ bitmap bitmap′ number
 
 abbrev pub RestoreTold : (text words words′ bitmap bitmap′ : List ℕ) → ℕ → Type 0
-RestoreTold text words words′ bitmap bitmap′ number = LaidOn (decodedOf words) text words words′ bitmap bitmap′ number
+RestoreTold text words words′ bitmap bitmap′ number = RestoresFrom (decodedOf words) text words words′ bitmap bitmap′ number
 
 -- ---- the moves
 pub record NewTold (f : Fields) (old scratch scratch′ text text′ length length′ : List ℕ) (number : ℕ) : Type 0 where
@@ -116,7 +116,7 @@ NewIf false f old scratch scratch′ text text′ length length′ number = NoRo
 
 abbrev pub ToNewTold : (fields old scratch scratch′ text text′ length length′ : List ℕ) → ℕ → Type 0
 ToNewTold fields old scratch scratch′ text text′ len len′ number =
-    NewIf (leb 6 (length fields) && leb 1 (length len)) (fieldsOf fields) old scratch scratch′ text text′ len len′ number
+    NewIf (leb 6 (length fields) && leb 1 (length len)) (fieldsFrom fields) old scratch scratch′ text text′ len len′ number
 
 abbrev pub gotNumber : Got → ℕ
 gotNumber (got.Fields f) = 0

@@ -1,6 +1,7 @@
 // SPDX-License-Identifier: Apache-2.0 AND BSD-3-Clause
-// Saving, restoring and both moves for callers that have no structs: the record and the fields as words. A slice without room for
-// the words that a call gives or takes is refused with 18, before anything else, and a refused call writes no word.
+// Saving, restoring and both moves for callers that have no structs: the record and the fields as words. A slice
+// without room for the words that a call gives or takes is refused with 18, before anything else, and a refused call
+// writes no word.
 use old_form::to_new;
 use old_form::to_old;
 use save::Fields;
@@ -14,10 +15,11 @@ use words::write_words;
 ghost use mathlib.Core.Path.{_≡_};
 ghost use Prim.Native.Nat.{_≤_};
 ghost use lib.ListN.{length};
-ghost use Rattle.save_words.specs.Told.{fieldsOf, lengthFrom, WroteTold, SaveTold, RestoreTold, ToNewTold, ToOldTold};
+ghost use Rattle.save_words.specs.Told.{fieldsFrom, lengthFrom};
+ghost use Rattle.save_words.specs.Told.{WroteTold, SaveTold, RestoreTold, ToNewTold, ToOldTold};
 
 // The fields' length in words: block size, start, region, requested, usable and plugged size.
-pub const FIELDS_WORDS: usize = 6;
+const FIELDS_WORDS: usize = 6;
 
 // A text's length in words.
 const LENGTH_WORDS: usize = 1;
@@ -25,7 +27,7 @@ const LENGTH_WORDS: usize = 1;
 // The fields that words begin with.
 fn fields_of(words: &[u64]) -> Fields
     requires { ⌜ 6 ≤ length (now words) ⌝ }
-    ensures { λ r. ⌜ r ≡ fieldsOf (now (words .entry)) ⌝ }
+    ensures { λ r. ⌜ r ≡ fieldsFrom (now (words .entry)) ⌝ }
 {
     Fields {
         block: words[0],
@@ -53,7 +55,10 @@ fn tell_wrote(w: Wrote, length: &mut [u64]) -> u64
 
 // How long a device's text is. 18, 12, 7, 11, 18.
 pub fn tell_save_length(words: &[u64], bitmap: &[u8], length: &mut [u64]) -> u64
-    ensures { λ r. ⌜ WroteTold (lengthFrom (now (words .entry)) (now (bitmap .entry)) (now (length .entry))) (now (length .entry)) (now (length .exit)) r ⌝ }
+    ensures { λ r. ⌜
+        WroteTold (lengthFrom (now (words .entry)) (now (bitmap .entry)) (now (length .entry)))
+        (now (length .entry)) (now (length .exit)) r
+        ⌝ }
 {
     if length.len() < LENGTH_WORDS {
         return 18;
@@ -67,7 +72,10 @@ pub fn tell_save_length(words: &[u64], bitmap: &[u8], length: &mut [u64]) -> u64
 
 // Saves a device. 18, 12, 7, 11, 18.
 pub fn tell_save(words: &[u64], bitmap: &[u8], text: &mut [u8], length: &mut [u64]) -> u64
-    ensures { λ r. ⌜ SaveTold (now (words .entry)) (now (bitmap .entry)) (now (text .entry)) (now (text .exit)) (now (length .entry)) (now (length .exit)) r ⌝ }
+    ensures { λ r. ⌜
+        SaveTold (now (words .entry)) (now (bitmap .entry)) (now (text .entry)) (now (text .exit))
+        (now (length .entry)) (now (length .exit)) r
+        ⌝ }
 {
     if length.len() < LENGTH_WORDS {
         return 18;
@@ -81,7 +89,10 @@ pub fn tell_save(words: &[u64], bitmap: &[u8], text: &mut [u8], length: &mut [u6
 
 // Restores a state onto a device. 12, 7, 11, 19, 18.
 pub fn tell_restore(words: &mut [u64], bitmap: &mut [u8], text: &[u8]) -> u64
-    ensures { λ r. ⌜ RestoreTold (now (text .entry)) (now (words .entry)) (now (words .exit)) (now (bitmap .entry)) (now (bitmap .exit)) r ⌝ }
+    ensures { λ r. ⌜
+        RestoreTold (now (text .entry)) (now (words .entry)) (now (words .exit))
+        (now (bitmap .entry)) (now (bitmap .exit)) r
+        ⌝ }
 {
     let Decoded::Is(d) = decode(&words[..]) else {
         return 12;

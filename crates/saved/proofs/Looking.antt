@@ -1,3 +1,4 @@
+-- SPDX-License-Identifier: Apache-2.0 AND BSD-3-Clause
 -- What is told of a text, from what `save::check` answers.
 use Prim.Native.Nat.{ℕ}
 use mathlib.Core.Path.{_≡_}

@@ -1,3 +1,4 @@
+-- SPDX-License-Identifier: Apache-2.0 AND BSD-3-Clause
 -- What is told of a text.
 use Prim.Native.Nat.{ℕ}
 use mathlib.Core.Bool.{Bool}
@@ -9,6 +10,6 @@ use Rattle.saved.specs.declared.Wrong.{Wrong}
 use Rattle.saved.specs.declared.Wrong.the-variants as wrong
 
 -- R15.17: nothing is wrong exactly with the text of a state; else the number is that of the refusal, 19 for a later form and 18
-abbrev pub Tells : List ℕ → Wrong → Type 0
-Tells s wrong.Nothing = (f : Fields) × (bs : List Bool) × Says s f bs
-Tells s (wrong.Is number found) = Refuses s number
+abbrev pub TellsWrong : List ℕ → Wrong → Type 0
+TellsWrong s wrong.Nothing = (f : Fields) × (bs : List Bool) × Says s f bs
+TellsWrong s (wrong.Is number found) = Refuses s number

@@ -1,6 +1,6 @@
 // SPDX-License-Identifier: Apache-2.0 AND BSD-3-Clause
-// Where a text or old bytes can first no longer be those of a state, and why. This explains, and decides nothing: whether they are
-// refused, and as which number, the crates `save` and `old_form` say.
+// Where a text or old bytes can first no longer be those of a state, and why. This explains, and decides nothing:
+// whether they are refused, and as which number, the crates `save` and `old_form` say.
 use super::saying::behind;
 use forms::Place;
 use forms::scan_at;
@@ -80,7 +80,8 @@ pub struct Found {
 // The number of each of the first six lines, by the line.
 type Numbers = [u64; 7];
 
-// What was read before a line: its number, the numbers of the first six, where a run may begin, and how many blocks the runs have.
+// What was read before a line: its number, the numbers of the first six, where a run may begin, and how many blocks
+// the runs have.
 struct Seen {
     line: u64,
     v: Numbers,

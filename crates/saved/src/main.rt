@@ -1,6 +1,7 @@
 // SPDX-License-Identifier: Apache-2.0 AND BSD-3-Clause
-// Save records on the standard input, for a person on call: a text becomes old bytes, or is only checked, and old bytes become a text.
-// What is wrong is one line on the standard error: the number that it is refused as, where, and why. Then nothing else is written.
+// Save records on the standard input, for a person on call: a text becomes old bytes, or is only checked, and old
+// bytes become a text. What is wrong is one line on the standard error: the number that it is refused as, where, and
+// why. Then nothing else is written.
 use finding::Found;
 use finding::first_of;
 use finding::wrong_byte;
@@ -20,7 +21,7 @@ use saying::first_bytes;
 use saying::put_why;
 use text::put;
 use units::MemTool;
-ghost use Rattle.saved.specs.Telling.{Tells};
+ghost use Rattle.saved.specs.Telling.{TellsWrong};
 
 mod finding; // where it is wrong, and why
 mod saying; // the same in words
@@ -33,7 +34,7 @@ pub enum Wrong {
 
 // What is wrong with a text. `save::check` decides.
 fn look(s: &[u8]) -> Wrong
-    ensures { λ r. ⌜ Tells (now (s .entry)) r ⌝ }
+    ensures { λ r. ⌜ TellsWrong (now (s .entry)) r ⌝ }
 {
     let checked = save::check(s);
     match checked {
@@ -197,7 +198,8 @@ fn run(asked: Asked, input: &mut [u8], scratch: &mut [u8], out: &mut [u8]) {
 fn usage() {
     io::write_all(
         STDERR_FILENO,
-        b"usage: bin/saved [--check] [FILE], or bin/saved --old start=N region=N requested=N usable=N plugged=N [FILE]\n",
+        b"usage: bin/saved [--check] [FILE], or \
+        bin/saved --old start=N region=N requested=N usable=N plugged=N [FILE]\n",
     );
 }
 

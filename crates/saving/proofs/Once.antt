@@ -12,7 +12,7 @@ use Rattle.save.proofs.Once.{holds-once, takes-once}
 use Rattle.saving.specs.declared.Restored.{Restored}
 use Rattle.saving.specs.declared.Restored.the-variants.{Device as Laid, Refused}
 use Rattle.saving.specs.Saving.{fieldsIn, Saves}
-use Rattle.saving.specs.Restoring.{restoredTo, Fits, Restores}
+use Rattle.saving.specs.Restoring.{restoredTo, Fits, RestoresText}
 
 pub saves-once : (d : Device) (bitmap before xs ys : List ℕ) (a b : Wrote) → Saves d bitmap before xs a → Saves d bitmap before ys b → (a ≡ b) × (xs ≡ ys)
 saves-once d bitmap before xs ys a b x y =
@@ -21,7 +21,7 @@ saves-once d bitmap before xs ys a b x y =
 
 -- the bytes of a bitmap are below 256, as its type says
 pub restores-once : (d : Device) (s before xs ys : List ℕ) (a b : Restored) → ((i : ℕ) → getD xs i 0 < 256) → ((i : ℕ) → getD ys i 0 < 256)
-    → Restores d s before xs a → Restores d s before ys b → (a ≡ b) × (xs ≡ ys)
+    → RestoresText d s before xs a → RestoresText d s before ys b → (a ≡ b) × (xs ≡ ys)
 restores-once d s before xs ys (Laid d′) (Laid e′) p q x y =
     let o = takes-once (isShort (fieldsIn d) before) (Fits d before) s (x .fields) (y .fields) (x .bs) (y .bs) (x .taken) (y .taken) in (
       ap Laid (x .device ∙ ap (λ (f : Fields). restoredTo f d) (o .0) ∙ sym (y .device)),

@@ -20,14 +20,14 @@ use Rattle.record.proofs.Laws.{Parts, parts, whole, shaped-is}
 use Rattle.save.specs.declared.Fields.{Fields}
 use Rattle.save.specs.declared.Wrote.{Wrote}
 use Rattle.save.specs.declared.Wrote.the-variants.{Text, Refused}
-use Rattle.save.specs.Text.{textOf, configOf, shapeOk, allOf, validOf, State, Says}
+use Rattle.save.specs.Text.{textOf, configWith, shapeOk, allOf, validOf, IsState, Says}
 use Rattle.save.specs.Writing.{blocksFor, isShort, validIn, textIn, wroteOf, writtenOn}
-use Rattle.save.specs.Reading.{Holds}
+use Rattle.save.specs.Reading.{HoldsBlocks}
 use Rattle.save.proofs.Text.{valid-shape, state-block, fields-are, one-text}
 use Rattle.saving.specs.declared.Restored.{Restored}
 use Rattle.saving.specs.declared.Restored.the-variants.{Device as Laid, Refused as Unlaid}
 use Rattle.saving.specs.Saving.{fieldsIn, entryRefusal, savedOf, Saves}
-use Rattle.saving.specs.Restoring.{restoredTo, TakenOn, Restores}
+use Rattle.saving.specs.Restoring.{restoredTo, TakenOn, RestoresText}
 use Rattle.saving.proofs.Turns.{entry-shaped, same-start, same-region, as-many}
 
 -- ---- saved
@@ -66,7 +66,7 @@ went d bitmap room n e =
     (λ v. other {k = 18} (e ∙ rw (p, s, v)))))
     (λ p. other {k = entryRefusal d} (e ∙ rw p))
 
-state-in : (f : Fields) (bitmap : List ℕ) → isShort f bitmap ≡ false → validIn f bitmap ≡ true → State f (blocksFor f bitmap)
+state-in : (f : Fields) (bitmap : List ℕ) → isShort f bitmap ≡ false → validIn f bitmap ≡ true → IsState f (blocksFor f bitmap)
 state-in f bitmap long valid =
     let b = blocks-length bitmap in
     let l = length-take (allOf f) (blocks bitmap) in
@@ -89,7 +89,7 @@ saved-says d bitmap before after n s =
 -- ---- restored
 
 pub is-laid : (d : Device) (text bitmap bitmap′ : List ℕ) (f : Fields) (bs : List Bool) → entryRefusal d ≡ 0 → TakenOn d text bitmap f bs
-    → (r : Restored) → Restores d text bitmap bitmap′ r → (r ≡ Laid (restoredTo f d)) × Holds bs bitmap bitmap′
+    → (r : Restored) → RestoresText d text bitmap bitmap′ r → (r ≡ Laid (restoredTo f d)) × HoldsBlocks bs bitmap bitmap′
 is-laid d text bitmap bitmap′ f bs z t (Laid d′) h =
     let o = one-text text (h .fields) f (h .bs) bs (h .taken .says) (t .says) in
     (ap Laid (h .device ∙ ap (λ (x : Fields). restoredTo x d) (o .0)), rw (o .1) at (h .bitmap))
@@ -104,9 +104,9 @@ idle-ok (Create first last) b region several plugged e = let z : _≡_ {A = ℕ}
 idle-ok (Discard first count status) b region several plugged e = let z : _≡_ {A = ℕ} 0 1 = cc in absurd (omega arith)
 idle-ok (DiscardOne block status) b region several plugged e = let z : _≡_ {A = ℕ} 0 1 = cc in absurd (omega arith)
 
-form-parts : (f : Fields) → shapeOk f ≡ true → Parts (ofConfig (configOf f))
+form-parts : (f : Fields) → shapeOk f ≡ true → Parts (ofConfig (configWith f))
 unfolding configShapedOf
-form-parts f e = parts (ofConfig (configOf f)) e
+form-parts f e = parts (ofConfig (configWith f)) e
 
 module _ (d : Device) (text bitmap bitmap′ : List ℕ) (f : Fields) (bs : List Bool) (z : entryRefusal d ≡ 0) (t : TakenOn d text bitmap f bs) where
   same-block : f .block ≡ d .config .«block_size»
@@ -133,7 +133,7 @@ module _ (d : Device) (text bitmap bitmap′ : List ℕ) (f : Fields) (bs : List
   unfolding entryRefusal
   still-admitted = let s = still-shaped in let i = entry-shaped d z .1 in rw (s, i)
 
-  module _ (u : d .config .«usable_region_size» ≡ f .usable) (h : Holds bs bitmap bitmap′) where
+  module _ (u : d .config .«usable_region_size» ≡ f .usable) (h : HoldsBlocks bs bitmap bitmap′) where
     same-fields : fieldsIn (restoredTo f d) ≡ f
     same-fields =
         fields-are (fieldsIn (restoredTo f d)) f (sym same-block) (sym (same-start d (blocks bitmap) f (t .fits)))

@@ -11,7 +11,7 @@ use Rattle.record.specs.declared.Device.{Device}
 use Rattle.record.specs.Changes.{requestedTo, pluggedTo}
 use Rattle.save.specs.declared.Fields.{Fields}
 use Rattle.save.specs.Writing.{isShort}
-use Rattle.save.specs.Reading.{Holds, Takes, refusalOf}
+use Rattle.save.specs.Reading.{HoldsBlocks, Takes, refusalOf}
 use Rattle.saving.specs.declared.Restored.{Restored}
 use Rattle.saving.specs.declared.Restored.the-variants.{Device as Laid, Refused}
 use Rattle.saving.specs.Saving.{fieldsIn, entryRefusal}
@@ -46,7 +46,7 @@ pub record Restoring (d : Device) (s before after : List ℕ) (d′ : Device) : 
   pub admitted : entryRefusal d ≡ 0
   pub taken : TakenOn d s before fields bs
   pub device : d′ ≡ restoredTo fields d
-  pub bitmap : Holds bs before after
+  pub bitmap : HoldsBlocks bs before after
 
 -- nothing was laid, since there is no state to lay
 pub record NotRestoring (d : Device) (s before after : List ℕ) (number : ℕ) : Type 0 where
@@ -54,6 +54,6 @@ pub record NotRestoring (d : Device) (s before after : List ℕ) (number : ℕ) 
   pub none : entryRefusal d ≡ 0 → (f : Fields) (bs : List Bool) → TakenOn d s before f bs → ⊥
   pub same : after ≡ before
 
-abbrev pub Restores : Device → (s before after : List ℕ) → Restored → Type 0
-Restores d s before after (Laid d′) = Restoring d s before after d′
-Restores d s before after (Refused number) = NotRestoring d s before after number
+abbrev pub RestoresText : Device → (s before after : List ℕ) → Restored → Type 0
+RestoresText d s before after (Laid d′) = Restoring d s before after d′
+RestoresText d s before after (Refused number) = NotRestoring d s before after number

@@ -1,5 +1,6 @@
 // SPDX-License-Identifier: Apache-2.0 AND BSD-3-Clause
-// A device's state as a save record: saved from a record and its bitmap, and restored onto a placed device that has nothing plugged.
+// A device's state as a save record: saved from a record and its bitmap, and restored onto a placed device that has
+// nothing plugged.
 use record::Device;
 use record::is_idle;
 use record::shaped;
@@ -15,7 +16,7 @@ use units::MemTool;
 ghost use mathlib.Core.Path.{_≡_};
 ghost use Rattle.bitmap.specs.Blocks.{blocks};
 ghost use Rattle.saving.specs.Saving.{entryRefusal, fieldsIn, savedLength, Saves};
-ghost use Rattle.saving.specs.Restoring.{fitsOn, restoredTo, Restores};
+ghost use Rattle.saving.specs.Restoring.{fitsOn, RestoresText};
 
 // The device with the state laid on it; or the number that the call is refused as.
 pub enum Restored {
@@ -74,8 +75,8 @@ pub fn save(d: Device, bitmap: &[u8], out: &mut [u8]) -> Wrote
     write(fields_in(d), bitmap, out)
 }
 
-// Whether a state with these fields may be laid on a device: placed, of the same start and region, with at least as much usable, and
-// nothing plugged.
+// Whether a state with these fields may be laid on a device: placed, of the same start and region, with at least as
+// much usable, and nothing plugged.
 fn fits_on(d: Device, bitmap: &[u8], f: Fields) -> bool
     ensures { λ r. ⌜ r ≡ fitsOn d (blocks (now (bitmap .entry))) f ⌝ }
 {
@@ -96,7 +97,7 @@ fn fits_on(d: Device, bitmap: &[u8], f: Fields) -> bool
 
 // Restores a state: its bits, requested and plugged size are laid on a device. 12, 7, 11, 19, 18.
 pub fn restore(d: Device, bitmap: &mut [u8], s: &[u8]) -> Restored
-    ensures { λ r. ⌜ Restores d (now (s .entry)) (now (bitmap .entry)) (now (bitmap .exit)) r ⌝ }
+    ensures { λ r. ⌜ RestoresText d (now (s .entry)) (now (bitmap .entry)) (now (bitmap .exit)) r ⌝ }
 {
     let number = entry_refusal(d);
     if number != 0 {

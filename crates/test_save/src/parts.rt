@@ -4,7 +4,8 @@ use bitmap::set_range;
 use forms::put_form;
 use save::Fields;
 
-// The numbers of a row, in their order, and 0 where there are no more. Where there are fields they come first, then three runs of blocks.
+// The numbers of a row, in their order, and 0 where there are no more. Where there are fields they come first, then
+// three runs of blocks.
 pub type Row = [u64; 17];
 
 // What a byte is that a call may not touch: no text and no old byte has it.

@@ -1,7 +1,6 @@
 -- SPDX-License-Identifier: Apache-2.0 AND BSD-3-Clause
 -- `old_form::unpack` meets its contract.
 use Prim.Native.Nat.{_-_, _≤_}
-use mathlib.Core.Path.{refl}
 use native.Mathlib.Omega.{arith}
 use Rattle.bitmap.specs.Blocks.{blocks}
 use Rattle.old_form.proofs.Turns.{Unpacking, unpack-start, unpack-long, unpack-turn, unpack-end}

@@ -2,7 +2,6 @@
 -- `runs::count_from` meets its contract.
 use Prim.Native.Nat.{min}
 use mathlib.Core.Path.{ap, sym, _∙_}
-use native.Mathlib.Omega.{arith}
 use Rattle.bitmap.specs.Blocks.{blocks}
 use Rattle.bitmap.proofs.Laws.{blocks-length}
 use Rattle.runs.proofs.Turns.{stop-after, room-after, row-stops, row-ends}

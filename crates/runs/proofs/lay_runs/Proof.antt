@@ -1,7 +1,6 @@
 -- SPDX-License-Identifier: Apache-2.0 AND BSD-3-Clause
 -- `runs::lay_runs` meets its contract. The invariant: what is right for the text that is left is right for the whole (`Setting`).
 use Prim.Native.Nat.{_-_}
-use native.Mathlib.Omega.{arith}
 use borrow.Author.Needs.{needs}
 use lib.ListN.{length}
 use Rattle.runs.proofs.Lines.{Setting, setting-start, set-none, set-end, set-less, set-turn}

@@ -1,3 +1,4 @@
+-- SPDX-License-Identifier: Apache-2.0 AND BSD-3-Clause
 -- `saved::look` meets its contract: what is told is what `save::check` answers.
 use Rattle.saved.proofs.Looking.{accepted, refused}
 use borrow.Author.Needs.{needs}

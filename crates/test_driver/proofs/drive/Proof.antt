@@ -1,3 +1,4 @@
+-- SPDX-License-Identifier: Apache-2.0 AND BSD-3-Clause
 -- `test_driver::drive` is safe and ends: buffer and bitmap keep their lengths, and the measure is how many plugs are left.
 use Prim.Native.Nat.{_-_}
 use mathlib.Core.Path.{_≡_}

@@ -1,3 +1,4 @@
+-- SPDX-License-Identifier: Apache-2.0 AND BSD-3-Clause
 -- `test_driver::write_request` is safe: at most 26 bytes are lent.
 use mathlib.Core.Path.{sym}
 use native.Mathlib.Omega.{arith}

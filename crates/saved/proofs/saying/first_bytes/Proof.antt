@@ -1,3 +1,4 @@
+-- SPDX-License-Identifier: Apache-2.0 AND BSD-3-Clause
 -- `saved::saying::first_bytes` is safe.
 use lib.Seq.{length-take-le}
 use mathlib.Core.Path.{sym}

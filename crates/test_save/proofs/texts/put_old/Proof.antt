@@ -1,3 +1,4 @@
+-- SPDX-License-Identifier: Apache-2.0 AND BSD-3-Clause
 -- `test_save::texts::put_old` is safe and ends: the buffer keeps its length, and the measure is how many bytes are left.
 use borrow.Author.Needs.{needs}
 use Prim.Native.Nat.{_-_}
