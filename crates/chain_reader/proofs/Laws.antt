@@ -8,10 +8,10 @@ use Rattle.descriptors.specs.declared.Link.{Link}
 use Rattle.descriptors.specs.declared.Link.the-variants.{Is, Missing}
 use Rattle.descriptors.specs.Standard.{hasNext}
 use Rattle.descriptors.specs.Descriptors.{linkAt, linkAfter}
-use Rattle.chain_reader.specs.Reader.{indexAfter, linkBehind}
+use Rattle.chain_reader.specs.Reader.{readerIndex, linkBehind}
 
 -- the descriptor at the index after a link is the descriptor behind it, and there is none at 128
-pub link-behind : (mem : List ℕ) (base descriptors : ℕ) (link : Link) → linkAt mem base descriptors (indexAfter link) ≡ linkBehind mem base descriptors link
-unfolding indexAfter linkBehind linkAfter linkAt
+pub link-behind : (mem : List ℕ) (base descriptors : ℕ) (link : Link) → linkAt mem base descriptors (readerIndex link) ≡ linkBehind mem base descriptors link
+unfolding readerIndex linkBehind linkAfter linkAt
 link-behind mem base descriptors Missing = refl
 link-behind mem base descriptors (Is d) = by-test (hasNext d) (λ t. simp t) (λ t. simp t)

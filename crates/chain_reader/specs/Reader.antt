@@ -9,9 +9,9 @@ use Rattle.descriptors.specs.Standard.{hasNext}
 use Rattle.descriptors.specs.Descriptors.{linkAt, linkAfter}
 
 -- R9.3: the descriptor of index 128 is missing, and past the end a reader stands there
-unfoldable pub indexAfter : Link → ℕ
-indexAfter Missing = 128
-indexAfter (Is d) = cond (hasNext d) (d .next) 128
+unfoldable pub readerIndex : Link → ℕ
+readerIndex Missing = 128
+readerIndex (Is d) = cond (hasNext d) (d .next) 128
 
 -- the descriptor after a link
 unfoldable pub linkBehind : (mem : List ℕ) (base descriptors : ℕ) → Link → Link

@@ -8,14 +8,14 @@ use units::GuestAddr;
 ghost use mathlib.Core.Path.{_≡_};
 ghost use Rattle.descriptors.specs.Descriptors.{linkAt};
 ghost use Rattle.chain.specs.Chain.{parsed};
-ghost use Rattle.chain_reader.specs.Reader.{indexAfter, secondLink};
+ghost use Rattle.chain_reader.specs.Reader.{readerIndex, secondLink};
 
 // An index at which no descriptor is.
 const NO_INDEX: u16 = 128;
 
 // The index that follows an index.
 fn index_after(mem: &[u8], base: GuestAddr, descriptors: GuestAddr, index: u16) -> u16
-    ensures { λ r. ⌜ r ≡ indexAfter (linkAt (now (mem .entry)) (base .0) (descriptors .0) index) ⌝ }
+    ensures { λ r. ⌜ r ≡ readerIndex (linkAt (now (mem .entry)) (base .0) (descriptors .0) index) ⌝ }
 {
     let Link::Is(current) = link_at(mem, base, descriptors, index) else {
         return NO_INDEX;
@@ -74,7 +74,7 @@ impl<'a> ChainReader<'a> {
     pub fn advanced(self) -> ChainReader<'a>
         ensures { λ r. ⌜
             (r .mem ≡ self .entry .mem) × (r .base ≡ self .entry .base) × (r .descriptors ≡ self .entry .descriptors)
-            × (r .index ≡ indexAfter (linkAt (now (self .entry .mem)) (self .entry .base .0)
+            × (r .index ≡ readerIndex (linkAt (now (self .entry .mem)) (self .entry .base .0)
             (self .entry .descriptors .0) (self .entry .index)))
             ⌝ }
     {

@@ -14,7 +14,7 @@ use Rattle.text.specs.Decimal.{decimal}
 use Rattle.text.specs.Reading.{Got, got, nothing, isDigit, digitOf, wordOf}
 use Rattle.text.proofs.Laws.{word-written, word-read}
 use Rattle.forms.specs.Forms.{isHole, holes, filledFrom}
-use Rattle.forms.specs.Scanning.{Part, part, none, partNumbers, pushPart, holePart, bytePart, partOf, placed, ScannedAt}
+use Rattle.forms.specs.Scanning.{Part, part, none, partNumbers, pushPart, holePart, bytePart, partOf, partAt, ScannedAt}
 use Rattle.forms.specs.declared.Place.{Place}
 use Rattle.forms.specs.declared.Place.the-variants as place
 use Rattle.forms.proofs.Laws.{Words, taken, taken-all, stored-at, opens, apart}
@@ -133,7 +133,7 @@ module _ (form s l : List ℕ) {before after : List ℕ} {r : Place} (o : Scanne
   pub part-found : (n : ℕ) → r ≡ place.At n → FoundAt form s l before after n
   part-found n e =
       let w = partOf (length before) form l in
-      let q : partOf (length before) form l ≡ part (partNumbers w) (drop n s) = o .answer ∙ ap (λ (p : Place). placed s p (partNumbers w)) e in
+      let q : partOf (length before) form l ≡ part (partNumbers w) (drop n s) = o .answer ∙ ap (λ (p : Place). partAt s p (partNumbers w)) e in
       let f = part-filled (length before) form l (partNumbers w) (drop n s) q in
       let t : partNumbers w ≡ taken 0 (holes form) (partNumbers w) =
       rw (← f .count) (sym (take-length (partNumbers w)) ∙ taken-all 0 (length (partNumbers w)) (partNumbers w) (omega arith)) in
@@ -145,14 +145,14 @@ module _ (form s l : List ℕ) {before after : List ℕ} {r : Place} (o : Scanne
 
   pub part-nowhere : r ≡ place.Nowhere → (us end : List ℕ) → partOf (length before) form l ≡ part us end → ⊥
   part-nowhere e us end q =
-      missing (sym (o .answer ∙ ap (λ (p : Place). placed s p (partNumbers (partOf (length before) form l))) e) ∙ q)
+      missing (sym (o .answer ∙ ap (λ (p : Place). partAt s p (partNumbers (partOf (length before) form l))) e) ∙ q)
 
 -- ---- one outcome
 
 pub scanned-at-once : (before s : List ℕ) (w : Part) (p q : Place) (xs ys : List ℕ) → ScannedAt before s w p xs → ScannedAt before s w q ys → (p ≡ q) × (xs ≡ ys)
 scanned-at-once before s w p q xs ys a b = (same p q (sym (a .answer) ∙ b .answer) (a .inside) (b .inside), a .values ∙ sym (b .values))
   where
-    same : (p q : Place) → placed s p (partNumbers w) ≡ placed s q (partNumbers w) → ((n : ℕ) → p ≡ place.At n → n ≤ length s) → ((n : ℕ) → q ≡ place.At n → n ≤ length s) → p ≡ q
+    same : (p q : Place) → partAt s p (partNumbers w) ≡ partAt s q (partNumbers w) → ((n : ℕ) → p ≡ place.At n → n ≤ length s) → ((n : ℕ) → q ≡ place.At n → n ≤ length s) → p ≡ q
     same (place.At m) (place.At n) e i j =
         let d : drop m s ≡ drop n s = cc in
         let k = i m refl in

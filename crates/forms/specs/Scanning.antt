@@ -89,13 +89,13 @@ partOf room (t ∷ ts) s =
     (bytePart t s (λ rest. partOf room ts rest))
 
 -- what the code's answer says of the text s, with the numbers that were read
-abbrev pub placed : List ℕ → Place → List ℕ → Part
-placed s (At n) vs = part vs (drop n s)
-placed s Nowhere vs = none vs
+abbrev pub partAt : List ℕ → Place → List ℕ → Part
+partAt s (At n) vs = part vs (drop n s)
+partAt s Nowhere vs = none vs
 
 -- the answer says whether the text starts with a filled form, and the one position of s from which on just the rest is left; the
 -- values as for `Scanned`
 pub record ScannedAt (before s : List ℕ) (w : Part) (r : Place) (after : List ℕ) : Type 0 where
-  pub answer : w ≡ placed s r (partNumbers w)
+  pub answer : w ≡ partAt s r (partNumbers w)
   pub inside : (n : ℕ) → r ≡ At n → n ≤ length s
   pub values : after ≡ sets before 0 (partNumbers w)

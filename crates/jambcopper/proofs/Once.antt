@@ -17,7 +17,7 @@ use Rattle.queue_words.specs.declared.DecodedQueue.{DecodedQueue}
 use Rattle.queue_words.specs.declared.DecodedQueue.the-variants.{Is as IsQueue, NoQueue}
 use Rattle.queue_words.specs.Words.{decodedQueueOf}
 use Rattle.jambcopper.specs.Exports.{MadeIn, Handed, handed, Told, Foreign, Called, Exported}
-use Rattle.jambcopper.specs.Queue.{QueueMadeIn, QueueHanded, queueHanded, QueueCall, QueueTold, QueueForeign, QueueCalled, QueueExported}
+use Rattle.jambcopper.specs.Queue.{QueueMadeIn, QueueHanded, queueHanded, QueueStep, QueueTold, QueueForeign, QueueCalled, QueueExported}
 
 pub made-in-once : (words : List ℕ) (m : Made) (n n′ : ℕ) (words′ words″ : List ℕ) → MadeIn words m n words′ → MadeIn words m n′ words″ → (n ≡ n′) × (words′ ≡ words″)
 made-in-once words m n n′ words′ words″ p q = (p .numbered ∙ sym (q .numbered), p .recorded ∙ sym (q .recorded))
@@ -76,7 +76,7 @@ module _ (entry exit exit′ : QueueHanded) (n n′ : ℕ)
       let others = foreign-once (entry .others) (exit .others) (exit′ .others) n n′ b b′ (p .others) (q .others) in
       (same-queue-handed exit exit′ (p .queued ∙ sym (q .queued)) (others .0), others .1)
 
-  queue-called-once : (r : Decoded) (x : DecodedQueue) (call : QueueCall) (base : ℕ)
+  queue-called-once : (r : Decoded) (x : DecodedQueue) (call : QueueStep) (base : ℕ)
       → QueueCalled r x call base entry exit n → QueueCalled r x call base entry exit′ n′ → (exit ≡ exit′) × (n ≡ n′)
   unfolding QueueCalled
   queue-called-once (Is d) (IsQueue q) call base p p′ =
@@ -84,6 +84,6 @@ module _ (entry exit exit′ : QueueHanded) (n n′ : ℕ)
   queue-called-once (Is d) NoQueue call base p p′ = queue-foreign-once p p′
   queue-called-once NoRecord x call base p p′ = queue-foreign-once p p′
 
-  pub queue-exported-once : (call : QueueCall) (base : ℕ) → QueueExported call base entry exit n → QueueExported call base entry exit′ n′ → (exit ≡ exit′) × (n ≡ n′)
+  pub queue-exported-once : (call : QueueStep) (base : ℕ) → QueueExported call base entry exit n → QueueExported call base entry exit′ n′ → (exit ≡ exit′) × (n ≡ n′)
   queue-exported-once call base p q =
       queue-called-once (decodedOf (entry .others .words)) (decodedQueueOf (entry .queue)) call base p q

@@ -31,7 +31,7 @@ use Rattle.queue_words.specs.declared.DecodedQueue.the-variants.{Is as IsQueue,
 use Rattle.queue_words.specs.Words.{queueWords, decodedQueueOf, endingWords}
 use Rattle.queue_words.proofs.Laws.{decoded-long as queue-long, decoded-encodes as queue-encodes, ending-told}
 use Rattle.jambcopper.specs.Exports.{handed, Told, Called, Exported}
-use Rattle.jambcopper.specs.Queue.{QueueMadeIn, queueHanded, QueueCall, QueueCalled, QueueExported}
+use Rattle.jambcopper.specs.Queue.{QueueMadeIn, queueHanded, QueueStep, QueueCalled, QueueExported}
 
 -- ---- an answer's nine words
 nine : (a : Answer) → length (answerWords a) ≡ 9
@@ -50,7 +50,7 @@ put-whole xs ys e =
     let sum : 0 + length ys ≡ length ys = omega arith in
     put-fits xs 0 ys (omega arith) ∙ rw (sum, none) (append-nil ys)
 
-module _ (call : QueueCall) (base : ℕ) (words queue : List ℕ) (r : Decoded) (e : r ≡ decodedOf words) (d : Device) (f : r ≡ Is d)
+module _ (call : QueueStep) (base : ℕ) (words queue : List ℕ) (r : Decoded) (e : r ≡ decodedOf words) (d : Device) (f : r ≡ Is d)
     (x : DecodedQueue) (h : x ≡ decodedQueueOf queue) (q : Queue) (i : x ≡ IsQueue q) where
   is : decodedOf words ≡ Is d
   is = sym e ∙ f
@@ -126,7 +126,7 @@ module _ (call : QueueCall) (base : ℕ) (words queue : List ℕ) (r : Decoded) 
         })
 
 -- no record: only the answer is written
-pub no-record : (call : QueueCall) (base : ℕ) (words queue : List ℕ) (r : Decoded) → r ≡ decodedOf words → r ≡ NoRecord
+pub no-record : (call : QueueStep) (base : ℕ) (words queue : List ℕ) (r : Decoded) → r ≡ decodedOf words → r ≡ NoRecord
     → (answer answer′ : List ℕ) (l : Lent) (number : ℕ)
     → (number ≡ 12) × (answer′ ≡ put answer 0 (answerWords (Refused 12)))
     → QueueExported call base (queueHanded queue (handed words answer l)) (queueHanded queue (handed words answer′ l)) number
@@ -136,7 +136,7 @@ no-record call base words queue r e f answer answer′ l number t =
     rw is (record { others = record { numbered = t .0; told = t .1; recorded = refl; untouched = refl }; queued = refl })
 
 -- a record and no queue: so too
-pub no-queue : (call : QueueCall) (base : ℕ) (words queue : List ℕ) (r : Decoded) → r ≡ decodedOf words → (d : Device) → r ≡ Is d
+pub no-queue : (call : QueueStep) (base : ℕ) (words queue : List ℕ) (r : Decoded) → r ≡ decodedOf words → (d : Device) → r ≡ Is d
     → (x : DecodedQueue) → x ≡ decodedQueueOf queue → x ≡ NoQueue
     → (answer answer′ : List ℕ) (l : Lent) (number : ℕ)
     → (number ≡ 12) × (answer′ ≡ put answer 0 (answerWords (Refused 12)))

@@ -47,7 +47,7 @@ abbrev pub queueHanded : (queue : List ℕ) → Handed → QueueHanded
 queueHanded queue others = record { queue = queue; others = others }
 
 -- a call on a queue, on the world and the guest memory that it finds
-abbrev pub QueueCall : Type 0
+abbrev pub QueueStep : Type 0
 QueueCall = World → Queue → Guest → QueueOutcome
 
 -- the call's outcome: its number, and all that it leaves; the next call goes on from the outcome's record and queue
@@ -66,13 +66,13 @@ pub record QueueForeign (entry exit : QueueHanded) (number : ℕ) : Type 0 where
   pub queued : exit .queue ≡ entry .queue
 
 -- a call on what the words mean
-unfoldable pub QueueCalled : Decoded → DecodedQueue → QueueCall → (base : ℕ) (entry exit : QueueHanded) → ℕ → Type 0
+unfoldable pub QueueCalled : Decoded → DecodedQueue → QueueStep → (base : ℕ) (entry exit : QueueHanded) → ℕ → Type 0
 QueueCalled (Is d) (IsQueue q) call base entry exit number =
     QueueTold (call (on d (entry .others .slices)) q (guestIn (entry .others .slices) base)) entry exit number
 QueueCalled (Is d) NoQueue call base entry exit number = QueueForeign entry exit number
 QueueCalled NoRecord r call base entry exit number = QueueForeign entry exit number
 
 -- the call, on what was handed in and the guest memory from `base` on, tells what the queue's definition says
-abbrev pub QueueExported : QueueCall → (base : ℕ) (entry exit : QueueHanded) → ℕ → Type 0
+abbrev pub QueueExported : QueueStep → (base : ℕ) (entry exit : QueueHanded) → ℕ → Type 0
 QueueExported call base entry exit number =
     QueueCalled (decodedOf (entry .others .words)) (decodedQueueOf (entry .queue)) call base entry exit number

@@ -29,11 +29,11 @@ use Rattle.history.specs.Reached.{Reached, from-making}
 use Rattle.history.proofs.Cases.{by-cond}
 use Rattle.history.proofs.Demand3.{demand-3, reached-after}
 use Rattle.history.proofs.Newly.{made-fresh}
-use Rattle.linked.specs.Runs.{Use, callOf, Held, leaves, One, Run, heldAfter, callsOf, Making, madeBy, Makes, first, Means, inHand, Steps, Follows, Linked}
+use Rattle.linked.specs.Runs.{Use, callOf, Held, leaves, One, Run, heldAfter, callsOf, Making, madeBy, Makes, first, Means, inHand, UseSteps, Follows, Linked}
 use Rattle.linked.proofs.Steps.{Tells, in-hand, one-goes}
 
 -- ---- a call on what is held is a step of the world in hand
-pub steps-on : (h : Held) (w : World) → Means h w → (u : Use) → One h u → Steps h u
+pub steps-on : (h : Held) (w : World) → Means h w → (u : Use) → One h u → UseSteps h u
 steps-on h w m u one =
     let g = one-goes h w m u one in
     let t : Tells (inHand h) u = rw (in-hand h w m) (g .0) in

@@ -21,7 +21,7 @@ use Rattle.history.specs.Refusals.{lentBytes}
 use Rattle.history.proofs.Shaped.{clash}
 use Rattle.history.proofs.Refusals.{refused-changes-nothing}
 use Rattle.linked.specs.Runs.{Function, «jambcopper_place», «jambcopper_set_requested_size», «jambcopper_request», «jambcopper_host_answer», «jambcopper_read_config», «jambcopper_write_config», callBy, callOf}
-use Rattle.linked.specs.Refused.{lendsBytes, Untouched, RefusedExportChangesNothing}
+use Rattle.linked.specs.Refused.{lendsBytes, UseUntouched, RefusedExportChangesNothing}
 
 -- an answer whose number is not 0 is a refusal with it
 pub refused-with : (a : Answer) → (numberOf a ≡ 0 → ⊥) → a ≡ Refused (numberOf a)
@@ -46,7 +46,7 @@ pub refused-export-changes-nothing : RefusedExportChangesNothing
 unfolding Called
 refused-export-changes-nothing u low low′ p refused not-10 = go (decodedOf (u .before .words)) refl p
   where
-    go : (r : Decoded) → decodedOf (u .before .words) ≡ r → Called r (λ (d : Device). step (worldOf d (u .before .bitmap) (u .before .table)) (callOf u)) (u .before) (u .after) (u .number) → Untouched u
+    go : (r : Decoded) → decodedOf (u .before .words) ≡ r → Called r (λ (d : Device). step (worldOf d (u .before .bitmap) (u .before .table)) (callOf u)) (u .before) (u .after) (u .number) → UseUntouched u
     go (Is d) is t =
         let w = worldOf d (u .before .bitmap) (u .before .table) in
         let a = step w (callOf u) .answer in

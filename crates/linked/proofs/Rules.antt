@@ -19,13 +19,13 @@ use Rattle.history.proofs.Whole.{whole-or-not-at-all}
 use Rattle.history.proofs.HostCalls.{each-asked-answered, pending-stays, asks-what-is-due}
 use Rattle.history.proofs.Questions.{asks-for-pending, only-unplugs-discard, only-open-unplugs-discard}
 use Rattle.history.proofs.Refusals.{refused-changes-nothing, ten-is-creation-failed}
-use Rattle.linked.specs.Runs.{Use, callOf, Held, leaves, heldAfter, callsOf, Means, Steps, first, inHand}
+use Rattle.linked.specs.Runs.{Use, callOf, Held, leaves, heldAfter, callsOf, Means, UseSteps, first, inHand}
 use Rattle.linked.specs.Rules.{shows, OfEveryCall, storyInHand, AfterEveryRun, RulesInHand}
 use Rattle.linked.proofs.Steps.{in-hand}
 use Rattle.linked.proofs.Linked.{is-fresh, follows-making, linked}
 
 -- what a call shows is what the definition's step ends in
-shows-step : (h : Held) (u : Use) → Steps h u → step (inHand h) (callOf u) ≡ shows h u
+shows-step : (h : Held) (u : Use) → UseSteps h u → step (inHand h) (callOf u) ≡ shows h u
 shows-step h u s = let o = step (inHand h) (callOf u) in ends (o .world) (inHand (leaves h u)) (o .bytes) (u .after .bytes) (sym (s .goes-on)) (sym (s .left))
   where
     ends : (w v : World) (bytes bytes′ : List ℕ) → w ≡ v → bytes ≡ bytes′
@@ -33,7 +33,7 @@ shows-step h u s = let o = step (inHand h) (callOf u) in ends (o .world) (inHand
     ends w v bytes bytes′ p q = rw (p, q)
 
 -- so a rule of every world holds of a call that is a step, and a rule of every run wherever one has led
-pub rule-of-call : (P : World → Call → Outcome → Type 0) → FromEveryWorld P → (h : Held) (u : Use) → Steps h u → P (inHand h) (callOf u) (shows h u)
+pub rule-of-call : (P : World → Call → Outcome → Type 0) → FromEveryWorld P → (h : Held) (u : Use) → UseSteps h u → P (inHand h) (callOf u) (shows h u)
 rule-of-call P rule h u s = rw (shows-step h u s) at (rule (inHand h) (callOf u))
 
 pub rule-in-hand : (P : Story → Call → Type 0) → InEveryRun P → (h : Held) (s : Story) → Means h (s .world) → Reached s → (c : Call) → P (storyInHand h s) c

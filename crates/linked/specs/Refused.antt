@@ -19,11 +19,11 @@ lendsBytes («jambcopper_host_answer» base ok host) = true
 lendsBytes («jambcopper_read_config» offset) = true
 lendsBytes («jambcopper_write_config» offset) = true
 
-pub record Untouched (u : Use) : Type 0 where
+pub record UseUntouched (u : Use) : Type 0 where
   pub same-words : u .after .words ≡ u .before .words
   pub same-bitmap : u .after .bitmap ≡ u .before .bitmap
   pub same-table : u .after .table ≡ u .before .table
   pub same-bytes : lendsBytes (u .function) ≡ true → u .after .bytes ≡ u .before .bytes
 
 abbrev pub RefusedExportChangesNothing : Type 0
-RefusedExportChangesNothing = (u : Use) → AreBytes (u .before .bitmap) → AreBytes (u .after .bitmap) → Promised u → (u .number ≡ 0 → ⊥) → (u .number ≡ 10 → ⊥) → Untouched u
+RefusedExportChangesNothing = (u : Use) → AreBytes (u .before .bitmap) → AreBytes (u .after .bitmap) → Promised u → (u .number ≡ 0 → ⊥) → (u .number ≡ 10 → ⊥) → UseUntouched u

@@ -148,7 +148,7 @@ abbrev pub inHand : Held → World
 inHand h = worldOf (recordOf (h .words)) (h .bitmap) (h .table)
 
 -- a call on what is held is the definition's step of the world that is held: it tells the step's answer, by its number and by the answer's words; it leaves the step's bytes in guest memory or in a config buffer; and the world that is held then is the step's
-pub record Steps (h : Held) (u : Use) : Type 0 where
+pub record UseSteps (h : Held) (u : Use) : Type 0 where
   pub numbered : u .number ≡ numberOf (step (inHand h) (callOf u) .answer)
   pub told : u .after .answer ≡ put (u .before .answer) 0 (answerWords (step (inHand h) (callOf u) .answer))
   pub left : u .after .bytes ≡ step (inHand h) (callOf u) .bytes
@@ -159,7 +159,7 @@ pub record Follows (h : Held) (s : Story) : Type 0 where
   -- what is held means the world that the definition's run of the same calls leads to
   pub means : (us : List Use) → Run h us → Means (heldAfter h us) (after s (callsOf us) .world)
   -- and any further call is its next step
-  pub steps : (us : List Use) → Run h us → (u : Use) → One (heldAfter h us) u → Steps (heldAfter h us) u
+  pub steps : (us : List Use) → Run h us → (u : Use) → One (heldAfter h us) u → UseSteps (heldAfter h us) u
   -- demand 3 holds of the world that is held, and of the events of the definition's run
   pub demand-3 : (us : List Use) → Run h us → Told (inHand (heldAfter h us)) (after s (callsOf us) .events)
 

@@ -15,7 +15,7 @@ use Rattle.save.specs.declared.Wrote.{Wrote}
 use Rattle.save.specs.declared.Wrote.the-variants.{Text, Refused}
 use Rattle.save.specs.declared.Got.{Got}
 use Rattle.save.specs.declared.Got.the-variants as got
-use Rattle.save.specs.Text.{textOf, shapeOk, allOf, validOf, IsState, Says}
+use Rattle.save.specs.Text.{stateText, shapeOk, allOf, validOf, IsState, Says}
 use Rattle.save.specs.Writing.{writtenOn}
 use Rattle.save.specs.Reading.{noRoom}
 use Rattle.save.proofs.Text.{valid-shape, one-text}
@@ -88,15 +88,15 @@ moved-state f old scratch room n e = go (noRoom scratch) refl
     go false p = good _ refl (e ∙ rw p)
 
 -- a state's old bytes are moved to its text, where there is room
-pub state-moved : (f : Fields) (bs : List Bool) (scratch : List ℕ) (room : ℕ) → IsState f bs → noRoom scratch ≡ false → length (textOf 2 f bs) ≤ room
-    → movedOf f (oldOf bs) scratch room ≡ Text (length (textOf 2 f bs))
+pub state-moved : (f : Fields) (bs : List Bool) (scratch : List ℕ) (room : ℕ) → IsState f bs → noRoom scratch ≡ false → length (stateText 2 f bs) ≤ room
+    → movedOf f (oldOf bs) scratch room ≡ Text (length (stateText 2 f bs))
 unfolding movedOf oldOk
 state-moved f bs scratch room st long fits =
     let b = bits-old bs in
     let s = valid-shape st in
     let l : length (oldOf bs) ≡ allOf f = old-length bs ∙ st .all in
     let v = st .valid in
-    rw (long, b, s, eq-eqb (length (oldOf bs)) (allOf f) l, is-old bs, v, le-leb (length (textOf 2 f bs)) room fits)
+    rw (long, b, s, eq-eqb (length (oldOf bs)) (allOf f) l, is-old bs, v, le-leb (length (stateText 2 f bs)) room fits)
 
 -- the text that stands first in a buffer
 pub first-of : (text out : List ℕ) → length text ≤ length out → take (length text) (sets out 0 text) ≡ text
@@ -132,8 +132,8 @@ new-old-new s scratch scratch′ old old′ f o work work′ out out′ r long r
     let st = o .1 .says .state in
     let text = o .1 .says .text in
     let bytes : take (allOf f) old′ ≡ oldOf (o .0) = ap (take (allOf f)) (o .3) ∙ take-at (oldOf (o .0)) (drop (length (o .0)) old) (allOf f) (old-length (o .0) ∙ st .all) in
-    let same : length (textOf 2 f (o .0)) ≡ length s = ap length text in
+    let same : length (stateText 2 f (o .0)) ≡ length s = ap length text in
     let answer : r ≡ Text (length s) = m .answer ∙ ap (λ (x : List ℕ). movedOf f x work (length out)) bytes ∙ state-moved f (o .0) work (length out) st long (omega arith) ∙ ap Text same in
-    let new : newText f (take (allOf f) old′) ≡ s = ap (newText f) bytes ∙ ap (textOf 2 f) (bits-old (o .0)) ∙ text in
+    let new : newText f (take (allOf f) old′) ≡ s = ap (newText f) bytes ∙ ap (stateText 2 f) (bits-old (o .0)) ∙ text in
     let put : out′ ≡ sets out 0 s = m .buffer ∙ ap (λ (x : Wrote). writtenOn x (newText f (take (allOf f) old′)) out) answer ∙ ap (sets out 0) new in
     (answer, ap (take (length s)) put ∙ first-of s out room)

@@ -18,7 +18,7 @@ use Rattle.save.specs.declared.Wrote.{Wrote}
 use Rattle.save.specs.declared.Wrote.the-variants.{Refused}
 use Rattle.save.specs.declared.Got.{Got}
 use Rattle.save.specs.declared.Got.the-variants as got
-use Rattle.save.specs.Text.{textOf, shapeOk, allOf}
+use Rattle.save.specs.Text.{stateText, shapeOk, allOf}
 use Rattle.save.specs.Writing.{blocksFor, isShort, wroteOf, writtenOn, Writes}
 use Rattle.save.specs.Reading.{HoldsBlocks, noRoom, ReadsState}
 use Rattle.save.proofs.Text.{in-blocks, shape-is}
@@ -224,7 +224,7 @@ module _ (f : Fields) (old scratch out : List ℕ) where
               let answer : x ≡ movedOf f old scratch (length out) = y .answer ∙ rw (short, bits, l, k) in
               record {
                 answer = answer;
-                buffer = y .buffer ∙ ap (λ (b : List Bool). writtenOn x (textOf 2 f b) out) bits;
+                buffer = y .buffer ∙ ap (λ (b : List Bool). writtenOn x (stateText 2 f b) out) bits;
                 packed = λ _. h;
                 untouched = λ p. let z : true ≡ false = rw (l, k) at p in let u : _≡_ {A = ℕ} 0 1 = cc in absurd (omega arith);
               }

@@ -11,7 +11,7 @@ use Rattle.save.specs.declared.Wrote.{Wrote}
 use Rattle.save.specs.declared.Wrote.the-variants.{Text, Refused}
 use Rattle.save.specs.declared.Got.{Got}
 use Rattle.save.specs.declared.Got.the-variants as got
-use Rattle.save.specs.Text.{textOf, shapeOk, allOf, validOf}
+use Rattle.save.specs.Text.{stateText, shapeOk, allOf, validOf}
 use Rattle.save.specs.Writing.{writtenOn}
 use Rattle.save.specs.Reading.{HoldsBlocks, Takes, NotTaken, AtMost, noRoom}
 use Rattle.old_form.specs.Old.{oldOf, isOld, bitsOf}
@@ -23,7 +23,7 @@ unfoldable pub oldOk : Fields → List ℕ → Bool
 oldOk f old = shapeOk f && (eqb (length old) (allOf f) && isOld old)
 
 abbrev pub newText : Fields → List ℕ → List ℕ
-newText f old = textOf 2 f (bitsOf old)
+newText f old = stateText 2 f (bitsOf old)
 
 -- R15.8: 11 for a short scratch; 18 for what is no state, and where there is no room for its text
 unfoldable pub movedOf : Fields → (old scratch : List ℕ) → (room : ℕ) → Wrote

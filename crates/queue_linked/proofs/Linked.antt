@@ -25,11 +25,11 @@ use Rattle.history.specs.Reached.{from-making}
 use Rattle.linked.specs.Runs.{callBy as deviceCallBy, leaves, Making, Makes, Means, inHand}
 use Rattle.linked.proofs.Steps.{in-hand, one-goes}
 use Rattle.linked.proofs.Linked.{is-fresh, made-decodes, at-first, linked}
-use Rattle.queue_runs.specs.Runs.{callOf as callOfBeside, QueueCall, PastIt, Writing, queueStep, QueueStory, nextStory, afterAll, New, opened, QueueReached, on-new-queue}
+use Rattle.queue_runs.specs.Runs.{besideCall as callOfBeside, QueueCall, PastIt, Writing, queueStep, QueueStory, nextStory, afterAll, New, opened, QueueReached, on-new-queue}
 use Rattle.queue_runs.proofs.Calls.{reached-after-all}
 use Rattle.queue_runs.proofs.Rules.{demand-3-on-queue}
 use Rattle.queue_linked.specs.Runs.{Side, «jambcopper_place», «jambcopper_set_requested_size», «jambcopper_read_config», «jambcopper_write_config», QueueFunction, «jambcopper_serve», «jambcopper_serve_answer», Past}
-use Rattle.queue_linked.specs.Runs.{QueueUse, functionOf, useOf, besideBy, callBy, callOf, QueueHeld, OneBy, One, leavesBy, leavesQueue, Run, heldAfter, callsOf, QueueMaking, queueBy, QueueMakes, begins, QueueMeans, Tells, QueueLinked}
+use Rattle.queue_linked.specs.Runs.{QueueUse, functionOf, useOf, besideBy, callBy, callOf, QueueHeld, OneBy, One, leavesBy, leavesQueue, Run, heldAfter, callsOf, QueueMaking, madeQueue, QueueMakes, begins, QueueMeans, Tells, QueueLinked}
 use Rattle.queue_linked.proofs.Steps.{Goes, serve-goes, answer-goes}
 
 -- a function that goes past the queue is the same call of the device to both
@@ -82,11 +82,11 @@ module _ (m : Making) (words : List ℕ) (makes : Makes m words) (k : QueueMakin
       by-test (leb 6 (length (k .words))) (λ t. t)
       (λ t. let z : 0 ≡ 12 = rw t at (queue-makes .numbered) in absurd (omega arith))
 
-  queue-decodes : decodedQueueOf queue ≡ IsQueue (queueBy k)
+  queue-decodes : decodedQueueOf queue ≡ IsQueue (madeQueue k)
   unfolding isQueue queueWords
   queue-decodes =
-      let is : queue ≡ put (k .words) 0 (queueWords (queueBy k)) = rw room at (queue-makes .queued) in
-      ap decodedQueueOf is ∙ encoded-decodes (queueBy k) (k .words) refl (leb-true 6 (length (k .words)) room)
+      let is : queue ≡ put (k .words) 0 (queueWords (madeQueue k)) = rw room at (queue-makes .queued) in
+      ap decodedQueueOf is ∙ encoded-decodes (madeQueue k) (k .words) refl (leb-true 6 (length (k .words)) room)
 
   pub queue-linked : QueueLinked m words k queue
   queue-linked =
@@ -94,7 +94,7 @@ module _ (m : Making) (words : List ℕ) (makes : Makes m words) (k : QueueMakin
       let d = l .device in
       let e = l .is-made in
       let fresh = is-fresh m words makes d e in
-      let q = queueBy k in
+      let q = madeQueue k in
       let new : New q = record { none-out = refl; available-first = refl; used-first = refl } in
       let s₀ = opened (begun d) q in
       let reached : QueueReached s₀ = on-new-queue (from-making fresh) (ap isIdle (fresh .waits-for-nothing)) new in

@@ -29,7 +29,7 @@ use Rattle.queue_runs.specs.Runs.{QueueCall, TakeNext, Host, PastIt, queueStep,
 use Rattle.queue_runs.specs.Heads.{bytesTo}
 use Rattle.queue_runs.specs.Standard.{onGuest}
 use Rattle.queue_runs.proofs.Refused.{refused-takes-none, refused-moves-nothing}
-use Rattle.queue_linked.specs.Refused.{Untouched, RefusedQueueExportChangesNothing}
+use Rattle.queue_linked.specs.Refused.{QueueUntouched, RefusedQueueExportChangesNothing}
 
 refused-of : (t : QueueAnswer) → (queueNumberOf t ≡ 0 → ⊥) → t ≡ Of (Refused (queueNumberOf t))
 refused-of Empty h = absurd (h refl)
@@ -41,7 +41,7 @@ guest-bytes (TakeNext g) e = refl
 guest-bytes (Host g ok host) e = refl
 guest-bytes (PastIt b) e = clash e refl
 
-foreign : (b a : QueueLent) (n : ℕ) → QueueForeign b a n → Untouched b a
+foreign : (b a : QueueLent) (n : ℕ) → QueueForeign b a n → QueueUntouched b a
 foreign b a n f =
     record {
       same-words = f .others .recorded;
@@ -56,7 +56,7 @@ unfolding QueueCalled
 refused-queue-export-changes-nothing c guest b a n lends low low′ p refused not-10 = go (decodedOf (b .others .words)) (decodedQueueOf (b .queue)) refl refl p
   where
     go : (r : Decoded) (s : DecodedQueue) → decodedOf (b .others .words) ≡ r → decodedQueueOf (b .queue) ≡ s
-        → QueueCalled r s (λ (d : Device) (q : Queue). queueStep (worldOf d (b .others .bitmap) (b .others .table)) q c) b a n → Untouched b a
+        → QueueCalled r s (λ (d : Device) (q : Queue). queueStep (worldOf d (b .others .bitmap) (b .others .table)) q c) b a n → QueueUntouched b a
     go (Is d) (IsQueue q) is queue-is t =
         let w = worldOf d (b .others .bitmap) (b .others .table) in
         let o = queueStep w q c in

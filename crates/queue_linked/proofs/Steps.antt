@@ -36,7 +36,7 @@ use Rattle.history.proofs.Shaped.{clash}
 use Rattle.linked.specs.Runs.{Held, inUse, holding, Means}
 use Rattle.linked.proofs.Tables.{lengths-kept, with, not-ready, not-0, answer-early}
 use Rattle.linked.proofs.Steps.{not-in-use}
-use Rattle.queue_runs.specs.Runs.{QueueCall, TakeNext, Host, queueStep, callsOf}
+use Rattle.queue_runs.specs.Runs.{QueueCall, TakeNext, Host, queueStep, deviceCalls}
 use Rattle.queue_runs.specs.Rules.{AsCalls, isPlacing}
 use Rattle.queue_runs.proofs.Calls.{none-or-one}
 use Rattle.queue_runs.proofs.Rules.{kinds}
@@ -50,7 +50,7 @@ rows-kept w (call ∷ []) o other a = rw (a .same-world) (lengths-kept w call (o
 rows-kept w (call ∷ more ∷ calls) o other a = absurd a
 
 same-rows : (w : World) (q : Queue) (c : QueueCall) → isPlacing c ≡ false → length (queueStep w q c .world .rows) ≡ length (w .rows)
-same-rows w q c other = rows-kept w (callsOf w q c) (queueStep w q c) (λ call e. kinds w q c call e .1 ∙ other) (none-or-one w q c)
+same-rows w q c other = rows-kept w (deviceCalls w q c) (queueStep w q c) (λ call e. kinds w q c call e .1 ∙ other) (none-or-one w q c)
 
 -- ---- before placing: both outcomes tell the same, and leave the queue and their worlds as they were
 record Stay (w w′ : World) (o o′ : QueueOutcome) : Type 0 where

@@ -8,7 +8,7 @@ use Rattle.queue_runs.specs.Runs.{QueueCall, lentTo}
 use Rattle.queue_runs.specs.Standard.{onGuest}
 use Rattle.queue_linked.specs.Runs.{OnQueue}
 
-pub record Untouched (b a : QueueLent) : Type 0 where
+pub record QueueUntouched (b a : QueueLent) : Type 0 where
   pub same-words : a .others .words ≡ b .others .words
   pub same-queue : a .queue ≡ b .queue
   pub same-bitmap : a .others .bitmap ≡ b .others .bitmap
@@ -18,4 +18,4 @@ pub record Untouched (b a : QueueLent) : Type 0 where
 -- jambcopper_serve and jambcopper_serve_answer, on the guest memory that they are lent
 abbrev pub RefusedQueueExportChangesNothing : Type 0
 RefusedQueueExportChangesNothing = (c : QueueCall) → onGuest c ≡ true → (b a : QueueLent) (n : ℕ) → lentTo c .mem ≡ b .others .bytes → AreBytes (b .others .bitmap) → AreBytes (a .others .bitmap)
-    → OnQueue c b a n → (n ≡ 0 → ⊥) → (n ≡ 10 → ⊥) → Untouched b a
+    → OnQueue c b a n → (n ≡ 0 → ⊥) → (n ≡ 10 → ⊥) → QueueUntouched b a

@@ -119,11 +119,11 @@ pub record QueueMaking : Type 0 where
   pub available : ℕ
   pub used : ℕ
 
-abbrev pub queueBy : QueueMaking → Queue
-queueBy k = newQueue (k .descriptors) (k .available) (k .used)
+abbrev pub madeQueue : QueueMaking → Queue
+madeQueue k = newQueue (k .descriptors) (k .available) (k .used)
 
 abbrev pub QueueMakes : QueueMaking → (words′ : List ℕ) → Type 0
-QueueMakes k words′ = QueueMadeIn (k .words) (queueBy k) 0 words′
+QueueMakes k words′ = QueueMadeIn (k .words) (madeQueue k) 0 words′
 
 abbrev pub begins : (words queue : List ℕ) → QueueHeld
 begins words queue = record { device = first words; queue = queue }
@@ -145,8 +145,8 @@ pub record QueueLinked (m : Making) (words : List ℕ) (k : QueueMaking) (queue 
   pub device : Device
   pub is-made : madeBy m ≡ MadeDevice device
   -- what is held means where the definition's run of the same calls stands
-  pub means : (us : List QueueUse) → Run (begins words queue) us → let s = afterAll (opened (begun device) (queueBy k)) (callsOf us) in QueueMeans (heldAfter (begins words queue) us) (s .world) (s .queue)
+  pub means : (us : List QueueUse) → Run (begins words queue) us → let s = afterAll (opened (begun device) (madeQueue k)) (callsOf us) in QueueMeans (heldAfter (begins words queue) us) (s .world) (s .queue)
   -- any further call tells what its next step tells
-  pub tells : (us : List QueueUse) → Run (begins words queue) us → (u : QueueUse) → One (heldAfter (begins words queue) us) u → let s = afterAll (opened (begun device) (queueBy k)) (callsOf us) in Tells (s .world) (s .queue) u
+  pub tells : (us : List QueueUse) → Run (begins words queue) us → (u : QueueUse) → One (heldAfter (begins words queue) us) u → let s = afterAll (opened (begun device) (madeQueue k)) (callsOf us) in Tells (s .world) (s .queue) u
   -- demand 3 holds of the world that is held, and of the events of the definition's run
-  pub demand-3 : (us : List QueueUse) → Run (begins words queue) us → let s = afterAll (opened (begun device) (queueBy k)) (callsOf us) in Told (inHand (heldAfter (begins words queue) us .device)) (s .story .events)
+  pub demand-3 : (us : List QueueUse) → Run (begins words queue) us → let s = afterAll (opened (begun device) (madeQueue k)) (callsOf us) in Told (inHand (heldAfter (begins words queue) us .device)) (s .story .events)

@@ -17,7 +17,7 @@ use Rattle.queue.specs.Queue.{QueueOutcome, takes, nextOf, answerRefusal, answe
 use Rattle.history.specs.History.{Story, next, after}
 use Rattle.history.specs.Reached.{by-restore}
 use Rattle.history.proofs.Demand3.{reached-after}
-use Rattle.queue_runs.specs.Runs.{QueueCall, TakeNext, Host, PastIt, queueStep, requestsOf, callsOf, QueueStory, nextStory, afterAll, QueueReached, on-new-queue, on-call, on-restore, FromEveryQueue}
+use Rattle.queue_runs.specs.Runs.{QueueCall, TakeNext, Host, PastIt, queueStep, requestsOf, deviceCalls, QueueStory, nextStory, afterAll, QueueReached, on-new-queue, on-call, on-restore, FromEveryQueue}
 use Rattle.queue_runs.specs.Rules.{AsCalls, NoneOrOne, allCalls, RunsTheDevice, LiftsRules}
 
 module _ (w : World) where
@@ -33,7 +33,7 @@ module _ (w : World) where
   heard c (Head h) q base = record { same-world = refl; same-answer = refl }
 
 pub none-or-one : FromEveryQueue NoneOrOne
-unfolding queueStep callsOf unlessRefused AsCalls
+unfolding queueStep deviceCalls unlessRefused AsCalls
 none-or-one w q (TakeNext g) = taken w (nextOf w q g) q g
 none-or-one w q (Host g ok host) =
     by-test (eqb (answerRefusal (w .device) q (length (w .blocks)) (length (w .rows)) g) 0)
@@ -51,7 +51,7 @@ pub same-after : (s : QueueStory) (cs : List QueueCall) → afterAll s cs .story
 unfolding afterAll allCalls after nextStory
 same-after s [] = refl
 same-after s (c ∷ cs) =
-    same-after (nextStory s c) cs ∙ sym (after-both (s .story) (callsOf (s .world) (s .queue) c) (allCalls (nextStory s c) cs))
+    same-after (nextStory s c) cs ∙ sym (after-both (s .story) (deviceCalls (s .world) (s .queue) c) (allCalls (nextStory s c) cs))
 
 -- the world that the calls of the device leave is that of the call
 leaves-world : (s : Story) (calls : List Call) (o : QueueOutcome) → AsCalls (s .world) calls o → after s calls .world ≡ o .world
@@ -63,7 +63,7 @@ leaves-world s (call ∷ more ∷ calls) o a = absurd a
 next-world : (s : QueueStory) (c : QueueCall) → s .story .world ≡ s .world → nextStory s c .story .world ≡ nextStory s c .world
 unfolding nextStory
 next-world s c e =
-    leaves-world (s .story) (callsOf (s .world) (s .queue) c) (queueStep (s .world) (s .queue) c)
+    leaves-world (s .story) (deviceCalls (s .world) (s .queue) c) (queueStep (s .world) (s .queue) c)
     (rw e (none-or-one (s .world) (s .queue) c))
 
 pub same-worlds : (s : QueueStory) (cs : List QueueCall) → s .story .world ≡ s .world → afterAll s cs .story .world ≡ afterAll s cs .world
@@ -77,7 +77,7 @@ runs-the-device s (on-new-queue r idle new) = record { reached = r; same-world =
 runs-the-device s (on-call {s = before} r c) =
     let h = runs-the-device before r in
     record {
-      reached = reached-after (before .story) (h .reached) (callsOf (before .world) (before .queue) c);
+      reached = reached-after (before .story) (h .reached) (deviceCalls (before .world) (before .queue) c);
       same-world = next-world before c (h .same-world);
     }
 runs-the-device s (on-restore {s = before} {requested} {plugs} r l) =

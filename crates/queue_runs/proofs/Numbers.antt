@@ -28,7 +28,7 @@ use Rattle.history.specs.Rules.{Never12 as DeviceNever12}
 use Rattle.history.proofs.KeepsShape.{is-shaped}
 use Rattle.history.proofs.Sizes.{never-12 as device-never-12}
 use Rattle.history.proofs.Cases.{by-cond}
-use Rattle.queue_runs.specs.Runs.{callOf, QueueCall, TakeNext, Host, PastIt, queueStep, QueueStory, QueueReached, InEveryQueueRun}
+use Rattle.queue_runs.specs.Runs.{besideCall, QueueCall, TakeNext, Host, PastIt, queueStep, QueueStory, QueueReached, InEveryQueueRun}
 use Rattle.queue_runs.specs.Heads.{isOut, NoneWhilePending, Never12}
 use Rattle.queue_runs.proofs.Calls.{runs-the-device, lifts-rules}
 use Rattle.queue_runs.proofs.Open.{out-while-open}
@@ -108,7 +108,7 @@ module _ (w : World) (q : Queue) (shaped : shapedOf (w .device) ≡ true) (fine 
       by-cond (λ (o : QueueOutcome). o .answer ≡ Of (Refused 12) → ⊥) (eqb (answerRefusal (w .device) q (length (w .blocks)) (length (w .rows)) g) 0) _ _
       (λ _. heard-not-12 g ok host (q .taken))
       (λ _ e. let same : answerRefusal (w .device) q (length (w .blocks)) (length (w .rows)) g ≡ 12 = cc in out-not-12 (q .taken) g (rw fine at same))
-  not-12 (PastIt b) = λ e. device (callOf b) cc
+  not-12 (PastIt b) = λ e. device (besideCall b) cc
 
   -- 7, where the host is asked
   seven : (g : Guest) → isIdle (w .device .pending) ≡ false → queueStep w q (TakeNext g) .answer ≡ Of (Refused 7)

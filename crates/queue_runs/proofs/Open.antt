@@ -25,7 +25,7 @@ use Rattle.queue.specs.declared.Ending.the-variants.{Stays, Out, Used}
 use Rattle.queue.specs.Queue.{QueueOutcome, tookHead, discarding, endingOf, queueBy, takes, answerRefusal, answers, unlessRefused}
 use Rattle.history.proofs.Shaped.{clash}
 use Rattle.history.proofs.Cases.{by-cond}
-use Rattle.queue_runs.specs.Runs.{Beside, Placing, Sizing, Reading, Writing, callOf, QueueCall, TakeNext, Host, PastIt, queueStep, nextStory, on-new-queue, on-call, on-restore, InEveryQueueRun}
+use Rattle.queue_runs.specs.Runs.{Beside, Placing, Sizing, Reading, Writing, besideCall, QueueCall, TakeNext, Host, PastIt, queueStep, nextStory, on-new-queue, on-call, on-restore, InEveryQueueRun}
 use Rattle.queue_runs.proofs.Cases.{next-cases}
 use Rattle.history.specs.History.{Event}
 use Rattle.history.proofs.Calls.{Endings, each-call}
@@ -137,8 +137,8 @@ module _ (w : World) where
           let z : discarding (w .device .pending) ≡ true = rw e at (sym h) in
           rw (still-out head e (endingOf (step w c .answer))) (sym (rw z at (device-opens c)))
 
-      beside-kept : (b : Beside) → discarding (step w (callOf b) .world .device .pending) ≡ discarding (w .device .pending)
-      unfolding callOf opensBy
+      beside-kept : (b : Beside) → discarding (step w (besideCall b) .world .device .pending) ≡ discarding (w .device .pending)
+      unfolding besideCall opensBy
       beside-kept (Placing at size slots bs rows) = device-opens (Place at size slots bs rows)
       beside-kept (Sizing mib) = device-opens (SetRequestedSize mib)
       beside-kept (Reading offset buffer) = device-opens (ReadConfig offset buffer)

@@ -24,7 +24,7 @@ use Rattle.queue.specs.Queue.{QueueOutcome, discarding, queueOk, tookHead, queu
 use Rattle.history.specs.Refusals.{lentBytes}
 use Rattle.history.proofs.Refusals.{refused-changes-nothing, ten-is-creation-failed}
 use Rattle.history.proofs.Cases.{by-cond}
-use Rattle.queue_runs.specs.Runs.{Beside, Placing, Sizing, Reading, Writing, callOf, QueueCall, TakeNext, Host, PastIt, queueStep, endingTold, takenBy, usedBy, newlyTaken, newlyReported, FromEveryQueue}
+use Rattle.queue_runs.specs.Runs.{Beside, Placing, Sizing, Reading, Writing, besideCall, QueueCall, TakeNext, Host, PastIt, queueStep, endingTold, takenBy, usedBy, newlyTaken, newlyReported, FromEveryQueue}
 use Rattle.queue_runs.specs.Heads.{TakesNone, besideBytes, bytesTo, RefusedTakesNone, RefusedMovesNothing, EmptyMovesNothing}
 
 -- ---- what a call that is refused leaves, by the device's own
@@ -64,8 +64,8 @@ module _ (w : World) (q : Queue) where
       record { same-queue = refl; same-bytes = refused-bytes w call n f; same-world = λ k. refused-changes-nothing w call n f k .0 }
   heard-refused g ok host (Head h) = about-refused h (g .base) q (HostAnswer g ok host)
 
-  same-lent : (b : Beside) → lentBytes (callOf b) ≡ besideBytes b
-  unfolding lentBytes callOf besideBytes
+  same-lent : (b : Beside) → lentBytes (besideCall b) ≡ besideBytes b
+  unfolding lentBytes besideCall besideBytes
   same-lent (Placing at size slots blocks rows) = refl
   same-lent (Sizing mib) = refl
   same-lent (Reading offset buffer) = refl
@@ -79,8 +79,8 @@ module _ (w : World) (q : Queue) where
       (λ _. heard-refused g ok host (q .taken))
       (λ _ n e. record { same-queue = refl; same-bytes = refl; same-world = λ _. refl })
   unmoved (PastIt b) = λ n e.
-      let f : step w (callOf b) .answer ≡ Refused n = cc in
-      record { same-queue = refl; same-bytes = refused-bytes w (callOf b) n f ∙ same-lent b; same-world = λ k. refused-changes-nothing w (callOf b) n f k .0 }
+      let f : step w (besideCall b) .answer ≡ Refused n = cc in
+      record { same-queue = refl; same-bytes = refused-bytes w (besideCall b) n f ∙ same-lent b; same-world = λ k. refused-changes-nothing w (besideCall b) n f k .0 }
 
 -- ---- no head is taken, none is reported
 none-of-refused : (q : Queue) (c : QueueCall) (n : ℕ) → (newlyTaken q c (Of (Refused n)) ≡ []) × (newlyReported q c (Of (Refused n)) ≡ [])

@@ -25,7 +25,7 @@ use Rattle.history.proofs.SizeChange.{size-change-touches-nothing}
 use Rattle.history.proofs.Whole.{whole-or-not-at-all}
 use Rattle.history.proofs.HostCalls.{each-asked-answered, asks-what-is-due}
 use Rattle.history.proofs.Questions.{only-open-unplugs-discard}
-use Rattle.queue_runs.specs.Runs.{Beside, Placing, Sizing, Reading, Writing, callOf, QueueCall, TakeNext, Host, PastIt, queueStep, requestsOf, callsOf, nextStory, InEveryQueueRun, FromEveryQueue}
+use Rattle.queue_runs.specs.Runs.{Beside, Placing, Sizing, Reading, Writing, besideCall, QueueCall, TakeNext, Host, PastIt, queueStep, requestsOf, deviceCalls, nextStory, InEveryQueueRun, FromEveryQueue}
 use Rattle.queue_runs.specs.Rules.{AsCalls, allCalls, Demand3, isSizing, isPlacing, OnlySizingMovesRequested, PlugWithinRequested, SizingTouchesNothing, UsableNeverShrinks, newEvents, WholeOrNotAtAll, EachAskedAnswered, RulesOnQueue}
 use Rattle.queue_runs.proofs.Calls.{none-or-one, same-after, same-worlds, runs-the-device, lifts-rules}
 
@@ -46,8 +46,8 @@ module _ (w : World) (q : Queue) where
   taken-is HasNone g call e = let z : _≡_ {A = ℕ} 0 1 = cc in absurd (omega arith)
   taken-is (HasRefused n) g call e = let z : _≡_ {A = ℕ} 0 1 = cc in absurd (omega arith)
 
-  pub kinds : (c : QueueCall) (call : Call) → callsOf w q c ≡ call ∷ [] → (isSizeChange call ≡ isSizing c) × (isPlace call ≡ isPlacing c)
-  unfolding callsOf isSizeChange isPlace isSizing isPlacing callOf
+  pub kinds : (c : QueueCall) (call : Call) → deviceCalls w q c ≡ call ∷ [] → (isSizeChange call ≡ isSizing c) × (isPlace call ≡ isPlacing c)
+  unfolding deviceCalls isSizeChange isPlace isSizing isPlacing besideCall
   kinds (TakeNext g) call e = taken-is (nextOf w q g) g call e
   kinds (Host g ok host) call e =
       by-test (eqb (answerRefusal (w .device) q (length (w .blocks)) (length (w .rows)) g) 0)
@@ -61,8 +61,8 @@ module _ (w : World) (q : Queue) where
   abbrev Leaves : QueueCall → (World → World → Type 0) → Type 0
   Leaves c R = R w (queueStep w q c .world)
 
-  moves : (c : QueueCall) (R : World → World → Type 0) → ((v : World) → R v v) → ((call : Call) → callsOf w q c ≡ call ∷ [] → R w (step w call .world)) → Leaves c R
-  moves c R same one = by-calls R same w (queueStep w q c) (callsOf w q c) one (none-or-one w q c)
+  moves : (c : QueueCall) (R : World → World → Type 0) → ((v : World) → R v v) → ((call : Call) → deviceCalls w q c ≡ call ∷ [] → R w (step w call .world)) → Leaves c R
+  moves c R same one = by-calls R same w (queueStep w q c) (deviceCalls w q c) one (none-or-one w q c)
 
 only-sizing : FromEveryQueue OnlySizingMovesRequested
 only-sizing w q c other =
@@ -95,7 +95,7 @@ by-events st w e o (call ∷ more ∷ calls) one a = absurd a
 whole-on-queue : InEveryQueueRun WholeOrNotAtAll
 unfolding nextStory
 whole-on-queue s r c other =
-    by-events (s .story) (s .world) (runs-the-device s r .same-world) (queueStep (s .world) (s .queue) c) (callsOf (s .world) (s .queue) c)
+    by-events (s .story) (s .world) (runs-the-device s r .same-world) (queueStep (s .world) (s .queue) c) (deviceCalls (s .world) (s .queue) c)
     (λ call e. lifts-rules DeviceWhole whole-or-not-at-all s r c call (kinds (s .world) (s .queue) c call e .1 ∙ other))
     (none-or-one (s .world) (s .queue) c)
 

@@ -32,7 +32,7 @@ use Rattle.standard.specs.Requests.{responseOf, lentBy, statusOfPending, status
 use Rattle.standard.proofs.Responses.{response-is-delivered}
 use Rattle.history.proofs.Shaped.{clash}
 use Rattle.history.proofs.Cases.{by-cond}
-use Rattle.queue_runs.specs.Runs.{QueueCall, TakeNext, Host, PastIt, queueStep, lentTo, requestsOf, callsOf, endingTold, usedBy, headOf, outOf, newlyReported, FromEveryQueue, InEveryQueueRun}
+use Rattle.queue_runs.specs.Runs.{QueueCall, TakeNext, Host, PastIt, queueStep, lentTo, requestsOf, deviceCalls, endingTold, usedBy, headOf, outOf, newlyReported, FromEveryQueue, InEveryQueueRun}
 use Rattle.queue_runs.specs.Heads.{isOut, Reports}
 use Rattle.queue_runs.specs.Standard.{onGuest, WritesOnly, UnreportedWritesNothing, Written, ReportIsWritten}
 use Rattle.queue_runs.proofs.Cases.{next-cases}
@@ -73,7 +73,7 @@ module _ (w : World) (q : Queue) (g : Guest) where
     heard-only ok host (Head h) far = about-only h q refl refl (HostAnswer g ok host) (answer-keeps w g ok host) far
 
 pub writes-only : FromEveryQueue WritesOnly
-unfolding queueStep unlessRefused callsOf lentTo onGuest
+unfolding queueStep unlessRefused deviceCalls lentTo onGuest
 writes-only w q (TakeNext g) guest i far (a, b) = taken-only w q g i a b (nextOf w q g) far
 writes-only w q (Host g ok host) guest i far (a, b) =
     by-test (eqb (answerRefusal (w .device) q (length (w .blocks)) (length (w .rows)) g) 0)
@@ -147,7 +147,7 @@ module _ (w : World) (q : Queue) (g : Guest) where
       let same : h ≡ head = cc in
       record { call = call; made = refl; lends = refl; keeps = answer-keeps w g ok host; ended = rw (← same) (about-ended h q refl refl call len e) }
 
-  whole : (c : QueueCall) → lentTo c ≡ g → (o : QueueOutcome) (head len : ℕ) → WrittenBy (callsOf w q c) (o .bytes) head len → Written w q c o head len
+  whole : (c : QueueCall) → lentTo c ≡ g → (o : QueueOutcome) (head len : ℕ) → WrittenBy (deviceCalls w q c) (o .bytes) head len → Written w q c o head len
   whole c lent o head len b =
       record {
         call = b .call;
@@ -158,7 +158,7 @@ module _ (w : World) (q : Queue) (g : Guest) where
       }
 
 pub report-is-written : FromEveryQueue ReportIsWritten
-unfolding queueStep unlessRefused callsOf lentTo newlyReported endingTold
+unfolding queueStep unlessRefused deviceCalls lentTo newlyReported endingTold
 report-is-written w q (TakeNext g) head len r =
     whole w q g (TakeNext g) refl (queueStep w q (TakeNext g)) head len
     (let there = nextHead (g .mem) (g .base) q in

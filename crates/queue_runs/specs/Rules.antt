@@ -13,7 +13,7 @@ use Rattle.history.specs.History.{Event, eventsOf, Story, Told}
 use Rattle.history.specs.Reached.{Reached}
 use Rattle.history.specs.Rules.{InEveryRun, askedIn, takenIn, waits, Whole, KeepsShape, DiscardIsCounted, AsksWhatIsDue}
 use Rattle.history.specs.Questions.{OnlyOpenUnplugsDiscard}
-use Rattle.queue_runs.specs.Runs.{Beside, Placing, Sizing, Reading, Writing, QueueCall, TakeNext, Host, PastIt, callsOf, queueStep, QueueStory, nextStory, afterAll, QueueReached, InEveryQueueRun, FromEveryQueue}
+use Rattle.queue_runs.specs.Runs.{Beside, Placing, Sizing, Reading, Writing, QueueCall, TakeNext, Host, PastIt, deviceCalls, queueStep, QueueStory, nextStory, afterAll, QueueReached, InEveryQueueRun, FromEveryQueue}
 
 -- ---- demand 2 (R18.2): a call makes none or one call of the device, leaves its world and tells its answer
 pub record IsCall (w : World) (o : QueueOutcome) (call : Call) : Type 0 where
@@ -26,7 +26,7 @@ AsCalls w (call ∷ []) o = IsCall w o call
 AsCalls w (call ∷ more ∷ calls) o = ⊥
 
 abbrev pub NoneOrOne : World → Queue → QueueCall → QueueOutcome → Type 0
-NoneOrOne w q c o = AsCalls w (callsOf w q c) o
+NoneOrOne w q c o = AsCalls w (deviceCalls w q c) o
 
 -- ---- a run on the queue is a run of the device, by the calls that `nextStory` makes of it
 pub record IsRun (s : QueueStory) : Type 0 where
@@ -85,12 +85,12 @@ newEvents s [] = []
 newEvents s (call ∷ calls) = eventsOf (s .world) (s .«open») call (step (s .world) call .answer)
 
 abbrev pub WholeOrNotAtAll : QueueStory → QueueCall → Type 0
-WholeOrNotAtAll s c = isPlacing c ≡ false → Whole (s .world) (newEvents (s .story) (callsOf (s .world) (s .queue) c)) (nextStory s c .world)
+WholeOrNotAtAll s c = isPlacing c ≡ false → Whole (s .world) (newEvents (s .story) (deviceCalls (s .world) (s .queue) c)) (nextStory s c .world)
 
 -- the calls of the device that calls on the queue make
 unfoldable pub allCalls : QueueStory → List QueueCall → List Call
 allCalls s [] = []
-allCalls s (c ∷ cs) = callsOf (s .world) (s .queue) c ++ allCalls (nextStory s c) cs
+allCalls s (c ∷ cs) = deviceCalls (s .world) (s .queue) c ++ allCalls (nextStory s c) cs
 
 -- R18.9: each question to the host has one answer before the next is asked, from any point of a run on
 abbrev pub EachAskedAnswered : Type 0

@@ -33,11 +33,11 @@ pub data Beside : Type 0 where
   Reading : (offset : ℕ) (buffer : List ℕ) → Beside
   Writing : (offset : ℕ) (buffer : List ℕ) → Beside
 
-unfoldable pub callOf : Beside → Call
-callOf (Placing at size slots blocks rows) = Place at size slots blocks rows
-callOf (Sizing mib) = SetRequestedSize mib
-callOf (Reading offset buffer) = ReadConfig offset buffer
-callOf (Writing offset buffer) = WriteConfig offset buffer
+unfoldable pub besideCall : Beside → Call
+besideCall (Placing at size slots blocks rows) = Place at size slots blocks rows
+besideCall (Sizing mib) = SetRequestedSize mib
+besideCall (Reading offset buffer) = ReadConfig offset buffer
+besideCall (Writing offset buffer) = WriteConfig offset buffer
 
 -- the guest's bytes come with each call: it may have written anything in between
 pub data QueueCall : Type 0 where
@@ -48,7 +48,7 @@ pub data QueueCall : Type 0 where
 unfoldable pub queueStep : World → Queue → QueueCall → QueueOutcome
 queueStep w q (TakeNext g) = serveNext w q g
 queueStep w q (Host g ok host) = hostAnswers w q g ok host
-queueStep w q (PastIt b) = aside q (step w (callOf b))
+queueStep w q (PastIt b) = aside q (step w (besideCall b))
 
 -- the guest memory that a call is lent
 unfoldable pub lentTo : QueueCall → Guest
@@ -62,11 +62,11 @@ requestsOf (HasHead head) q g = Request g (q .descriptors .0) head ∷ []
 requestsOf HasNone q g = []
 requestsOf (HasRefused n) q g = []
 
-unfoldable pub callsOf : World → Queue → QueueCall → List Call
-callsOf w q (TakeNext g) = requestsOf (nextOf w q g) q g
-callsOf w q (Host g ok host) =
+unfoldable pub deviceCalls : World → Queue → QueueCall → List Call
+deviceCalls w q (TakeNext g) = requestsOf (nextOf w q g) q g
+deviceCalls w q (Host g ok host) =
     cond (eqb (answerRefusal (w .device) q (length (w .blocks)) (length (w .rows)) g) 0) (HostAnswer g ok host ∷ []) []
-callsOf w q (PastIt b) = callOf b ∷ []
+deviceCalls w q (PastIt b) = besideCall b ∷ []
 
 -- ---- the heads that a call takes and reports, by what it tells
 unfoldable pub endingTold : QueueAnswer → Ending
@@ -119,7 +119,7 @@ nextStory s c =
     record {
       world = o .world;
       queue = o .queue;
-      story = after (s .story) (callsOf (s .world) (s .queue) c);
+      story = after (s .story) (deviceCalls (s .world) (s .queue) c);
       taken = s .taken ++ newlyTaken (s .queue) c (o .answer);
       reports = s .reports ++ newlyReported (s .queue) c (o .answer);
     }

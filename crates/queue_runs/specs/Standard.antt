@@ -15,7 +15,7 @@ use Rattle.step.specs.World.{World, Call}
 use Rattle.step.specs.Step.{step}
 use Rattle.queue.specs.Queue.{QueueOutcome}
 use Rattle.standard.specs.Requests.{responseOf, statusFor, ResponseTo}
-use Rattle.queue_runs.specs.Runs.{QueueCall, TakeNext, Host, PastIt, queueStep, lentTo, callsOf, newlyReported, QueueStory}
+use Rattle.queue_runs.specs.Runs.{QueueCall, TakeNext, Host, PastIt, queueStep, lentTo, deviceCalls, newlyReported, QueueStory}
 use Rattle.queue_runs.specs.Heads.{Reports}
 
 -- the calls that guest memory is lent to
@@ -27,7 +27,7 @@ onGuest (PastIt b) = false
 -- ---- Q4, R13.13: the device writes the used ring and buffers that are given to it for writing, nothing else
 -- byte i lies outside of the response that a call may give: the ten bytes at the status address of the chain that it takes, or of the request that waits for the host (by `StatusIsWritable` and `StatusIsKept` of `standard`, a buffer that the driver gave for writing)
 abbrev pub OutsideResponse : World → Queue → QueueCall → (i : ℕ) → Type 0
-OutsideResponse w q c i = (call : Call) (status : ℕ) → callsOf w q c ≡ call ∷ [] → statusFor w call ≡ some status → Apart i (status - lentTo c .base) 10
+OutsideResponse w q c i = (call : Call) (status : ℕ) → deviceCalls w q c ≡ call ∷ [] → statusFor w call ≡ some status → Apart i (status - lentTo c .base) 10
 
 -- and outside of a report: the used ring's index, and its next element. Q8: its flags, and avail_event, are left alone
 abbrev pub OutsideReport : Queue → QueueCall → (i : ℕ) → Type 0
@@ -45,7 +45,7 @@ UnreportedWritesNothing s c = let o = queueStep (s .world) (s .queue) c in
 -- ---- a head that is reported
 pub record Written (w : World) (q : Queue) (c : QueueCall) (o : QueueOutcome) (head len : ℕ) : Type 0 where
   pub call : Call
-  pub made : callsOf w q c ≡ call ∷ []
+  pub made : deviceCalls w q c ≡ call ∷ []
   -- Q6: the length counts the bytes of the response: ten or, where there is none or it could not be delivered, 0
   pub counts : (resp : VirtioMemResp) (used : ℕ) → step w call .answer ≡ Served resp used → (len ≡ used) × ResponseTo w call resp used (step w call .bytes)
   pub none-counted : responseOf (step w call .answer) ≡ none → (len ≡ 0) × (step w call .bytes ≡ lentTo c .mem)

@@ -20,7 +20,7 @@ use Rattle.save.specs.declared.Checked.{Checked}
 use Rattle.save.specs.declared.Checked.the-variants as checked
 use Rattle.runs.specs.Runs.{runsOf}
 use Rattle.runs.specs.Text.{runsText}
-use Rattle.save.specs.Text.{formLine, fieldLines, fieldsOf, textOf, Says}
+use Rattle.save.specs.Text.{formLine, fieldLines, fieldsOf, stateText, Says}
 use Rattle.save.specs.Reading.{IsRuns, laterPart, isLater, IsFields, Heads, Refuses, IsHead, Checks}
 use Rattle.save.proofs.Text.{says-form, fields-part, fields-are, state-words, state-block}
 
@@ -94,8 +94,8 @@ not-later {s} h = now-later s _ (says-form h)
 -- ---- `check`
 
 module _ (s : List ℕ) (f : Fields) (n : ℕ) (h : Heads s f n) where
-  whole-text : (bs : List Bool) → runsText (runsOf bs) ≡ drop n s → textOf 2 f bs ≡ s
-  unfolding textOf holes
+  whole-text : (bs : List Bool) → runsText (runsOf bs) ≡ drop n s → stateText 2 f bs ≡ s
+  unfolding stateText holes
   whole-text bs t =
       let a = part-read 1 formLine s (2 ∷ []) (h .rest) (h .form) .1 in
       let b = part-read 5 (fieldLines 2) (h .rest) (fieldsOf f) (drop n s) (h .fields) .1 in

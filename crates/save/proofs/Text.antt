@@ -23,7 +23,7 @@ use Rattle.runs.specs.Runs.{Run, runsOf, spread, RunsApart}
 use Rattle.runs.specs.Text.{runsText}
 use Rattle.runs.proofs.Runs.{runs-apart, comes-back}
 use Rattle.runs.proofs.Lines.{runs-open, same-runs}
-use Rattle.save.specs.Text.{formLine, fieldLines, fieldsOf, textOf, configWith, shapeOk, allOf, usedOf, validOf, IsState, Says}
+use Rattle.save.specs.Text.{formLine, fieldLines, fieldsOf, stateText, stateConfig, shapeOk, allOf, usedOf, validOf, IsState, Says}
 
 -- ---- the head
 
@@ -31,8 +31,8 @@ pub fields-open : (form : ℕ) (f : Fields) (rs : List Run) → 9 < digitOf (fil
 unfolding isDigit
 fields-open form f rs = opened-part 0 (fieldLines form) (fieldsOf f) (runsText rs) (runs-open rs) refl
 
-pub form-part : (form : ℕ) (f : Fields) (bs : List Bool) → form ≤ largest → partOf 1 formLine (textOf form f bs) ≡ part (form ∷ []) (filled (fieldLines form) (fieldsOf f) ++ runsText (runsOf bs))
-unfolding textOf holes isDigit
+pub form-part : (form : ℕ) (f : Fields) (bs : List Bool) → form ≤ largest → partOf 1 formLine (stateText form f bs) ≡ part (form ∷ []) (filled (fieldLines form) (fieldsOf f) ++ runsText (runsOf bs))
+unfolding stateText holes isDigit
 form-part form f bs h =
     rw (append-assoc (filled formLine (form ∷ [])) (filled (fieldLines form) (fieldsOf f)) (runsText (runsOf bs)))
     (part-written 1 0 formLine (form ∷ []) _ (fields-open form f (runsOf bs)) refl (omega arith) (h, tt))
@@ -52,9 +52,9 @@ fields-are f g o a b c d e =
 
 -- ---- a state
 
-pub shape-is : (f : Fields) → shapeOk f ≡ true → Shaped (ofConfig (configWith f))
+pub shape-is : (f : Fields) → shapeOk f ≡ true → Shaped (ofConfig (stateConfig f))
 unfolding configShapedOf
-shape-is f e = shaped-is (ofConfig (configWith f)) e
+shape-is f e = shaped-is (ofConfig (stateConfig f)) e
 
 -- blocks of 4 MiB
 pub in-blocks : (f : Fields) → shapeOk f ≡ true → (size : ℕ) → blocksIn (f .block) size ≡ size / 4194304
@@ -103,7 +103,7 @@ pub record Same (m n : ℕ) (f g : Fields) (bs cs : List Bool) : Type 0 where
   pub fields : f ≡ g
   pub blocks : bs ≡ cs
 
-pub one-state : (m n : ℕ) (f g : Fields) (bs cs : List Bool) → m ≤ largest → n ≤ largest → IsState f bs → IsState g cs → textOf m f bs ≡ textOf n g cs → Same m n f g bs cs
+pub one-state : (m n : ℕ) (f g : Fields) (bs cs : List Bool) → m ≤ largest → n ≤ largest → IsState f bs → IsState g cs → stateText m f bs ≡ stateText n g cs → Same m n f g bs cs
 one-state m n f g bs cs u v s t h =
     let a : part (m ∷ []) (filled (fieldLines m) (fieldsOf f) ++ runsText (runsOf bs)) ≡ part (n ∷ []) (filled (fieldLines n) (fieldsOf g) ++ runsText (runsOf cs)) =
     sym (form-part m f bs u) ∙ ap (partOf 1 formLine) h ∙ form-part n g cs v in

@@ -27,7 +27,7 @@ use Rattle.save.specs.declared.Wrote.{Wrote}
 use Rattle.save.specs.declared.Wrote.the-variants.{Text, Refused}
 use Rattle.save.specs.declared.Checked.{Checked}
 use Rattle.save.specs.declared.Checked.the-variants as checked
-use Rattle.save.specs.Text.{formLine, fieldLines, fieldsOf, headText, textOf, shapeOk, allOf, usedOf, validOf, IsState}
+use Rattle.save.specs.Text.{formLine, fieldLines, fieldsOf, headText, stateText, shapeOk, allOf, usedOf, validOf, IsState}
 use Rattle.save.specs.Writing.{blocksFor, isShort, validIn, textIn, lengthOf, wroteOf}
 use Rattle.save.specs.Reading.{Refuses, Accepts, Checks, HoldsBlocks, Takes, NotTaken, AtMost, noRoom}
 use Rattle.save.proofs.Text.{shape-is, in-blocks, state-few, state-apart, one-text}
@@ -151,7 +151,7 @@ module _ (f : Fields) (m : List ℕ) (all : ℕ) (a : all ≡ allOf f) (t : Bool
         length-fits ws = let x = runs-few in let y = runs-is in let z = head-short f ws in omega arith
 
         pub length-is : Text (head + runs) ≡ lengthOf f m
-        unfolding lengthOf textOf
+        unfolding lengthOf stateText
         length-is =
             let e = long in
             let z = passed (validIn f m) v w y in
@@ -212,7 +212,7 @@ module _ (f : Fields) (m : List ℕ) (r : Wrote) (l : r ≡ lengthOf f m) where
 
 pub text-put : (f : Fields) (m : List ℕ) (all : ℕ) → all ≡ allOf f → {before mid after : List ℕ} {to r : ℕ} → Put before 0 (headText 2 f) mid to → Put mid to (runsText (runsOf (take all (blocks m)))) after r
     → after ≡ sets before 0 (textIn f m)
-unfolding textOf
+unfolding stateText
 text-put f m all a {before} p q =
     then p q .held ∙ ap (λ (n : ℕ). sets before 0 (headText 2 f ++ runsText (runsOf (take n (blocks m))))) a
 

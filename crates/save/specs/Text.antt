@@ -35,14 +35,14 @@ abbrev pub headText : (form : ℕ) → Fields → List ℕ
 headText form f = filled formLine (form ∷ []) ++ filled (fieldLines form) (fieldsOf f)
 
 -- R15.1: the text of the fields f and the blocks bs in this form
-unfoldable pub textOf : (form : ℕ) → Fields → List Bool → List ℕ
-textOf form f bs = headText form f ++ runsText (runsOf bs)
+unfoldable pub stateText : (form : ℕ) → Fields → List Bool → List ℕ
+stateText form f bs = headText form f ++ runsText (runsOf bs)
 
 -- ---- which states have one
 
 -- a device's config with these fields
-abbrev pub configWith : Fields → VirtioMemConfig
-configWith f =
+abbrev pub stateConfig : Fields → VirtioMemConfig
+stateConfig f =
     record {
       «block_size» = f .block;
       «node_id» = 0;
@@ -55,7 +55,7 @@ configWith f =
 
 -- R3.10: the shape of a config alone
 abbrev pub shapeOk : Fields → Bool
-shapeOk f = configShapedOf (configWith f)
+shapeOk f = configShapedOf (stateConfig f)
 
 -- how many blocks the region has, and how many of them are usable
 abbrev pub allOf : Fields → ℕ
@@ -76,4 +76,4 @@ pub record IsState (f : Fields) (bs : List Bool) : Type 0 where
 -- s is the text of this state
 pub record Says (s : List ℕ) (f : Fields) (bs : List Bool) : Type 0 where
   pub state : IsState f bs
-  pub text : textOf 2 f bs ≡ s
+  pub text : stateText 2 f bs ≡ s

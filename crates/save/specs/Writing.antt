@@ -11,7 +11,7 @@ use Rattle.bitmap.specs.Blocks.{blocks}
 use Rattle.save.specs.declared.Fields.{Fields}
 use Rattle.save.specs.declared.Wrote.{Wrote}
 use Rattle.save.specs.declared.Wrote.the-variants.{Text, Refused}
-use Rattle.save.specs.Text.{textOf, validOf, allOf}
+use Rattle.save.specs.Text.{stateText, validOf, allOf}
 
 -- the region's blocks in a packed bitmap
 abbrev pub blocksFor : Fields → List ℕ → List Bool
@@ -25,7 +25,7 @@ abbrev pub validIn : Fields → List ℕ → Bool
 validIn f bitmap = validOf f (blocksFor f bitmap)
 
 abbrev pub textIn : Fields → List ℕ → List ℕ
-textIn f bitmap = textOf 2 f (blocksFor f bitmap)
+textIn f bitmap = stateText 2 f (blocksFor f bitmap)
 
 -- R15.6: 11 for a short bitmap, 18 for what is no state, and else the length of its text
 unfoldable pub lengthOf : Fields → List ℕ → Wrote

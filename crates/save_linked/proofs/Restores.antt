@@ -24,7 +24,7 @@ use Rattle.linked.specs.Runs.{callOf, Held, heldAfter, callsOf, Means}
 use Rattle.linked.proofs.Linked.{follows-from}
 use Rattle.linked.proofs.Heard.{events-heard}
 use Rattle.linked.proofs.Rules.{rule-of-call, rule-in-hand}
-use Rattle.save_linked.specs.Restores.{RestoreCalled, heldThen, startsAt, SaveLinked, RestoreIsLinked, OfEveryCallThen, AfterEveryRunThen, Untouched, RefusedRestoreChangesNothing}
+use Rattle.save_linked.specs.Restores.{RestoreCalled, heldThen, startsAt, SaveLinked, RestoreIsLinked, OfEveryCallThen, AfterEveryRunThen, RestoreUntouched, RefusedRestoreChangesNothing}
 
 -- ---- a restore that returned 0
 module _ (h : Held) (s : Story) (m : Means h (s .world)) (reached : Reached s) (text words′ bitmap′ : List ℕ) where
@@ -88,10 +88,10 @@ pub refused-restore-changes-nothing : RefusedRestoreChangesNothing
 unfolding RestoresFrom
 refused-restore-changes-nothing text words words′ bitmap bitmap′ number t refused = go (decodedOf words) t
   where
-    of : (d : Device) (a : Restored) → Kept d text bitmap bitmap′ a → number ≡ restoredNumber a → words′ ≡ restoredWords a words → Untouched words words′ bitmap bitmap′
+    of : (d : Device) (a : Restored) → Kept d text bitmap bitmap′ a → number ≡ restoredNumber a → words′ ≡ restoredWords a words → RestoreUntouched words words′ bitmap bitmap′
     of d (Laid d′) r e w = absurd (refused e)
     of d (Refused k) r e w = record { same-words = w; same-bitmap = r .same }
 
-    go : (r : Decoded) → RestoresFrom r text words words′ bitmap bitmap′ number → Untouched words words′ bitmap bitmap′
+    go : (r : Decoded) → RestoresFrom r text words words′ bitmap bitmap′ number → RestoreUntouched words words′ bitmap bitmap′
     go (Is d) l = of d (l .answer) (l .restores) (l .numbered) (l .recorded)
     go NoRecord l = record { same-words = l .recorded; same-bitmap = l .marked }

@@ -20,10 +20,10 @@ pub data Program : Held → Story → Type 0 where
       → Program (heldThen h words′ bitmap′) (startsAt (s .world) f bs)
 
 -- what it holds means where a run of `history` stands, and demand 3 holds of it
-pub record Stands (h : Held) (s : Story) : Type 0 where
+pub record ProgramStands (h : Held) (s : Story) : Type 0 where
   pub means : Means h (s .world)
   pub reached : Reached s
   pub demand-3 : Told (inHand h) (s .events)
 
 abbrev pub Demand3OfPrograms : Type 0
-Demand3OfPrograms = (h : Held) (s : Story) → Program h s → Stands h s
+Demand3OfPrograms = (h : Held) (s : Story) → Program h s → ProgramStands h s

@@ -59,10 +59,10 @@ AfterEveryRunThen P = (h′ : Held) (s : Story) (text : List ℕ) (l : SaveLinke
     → P (storyInHand (heldAfter h′ us) (after (startsAt (s .world) (l .fields) (l .bs)) (callsOf us))) (callOf u)
 
 -- ---- a refused restore changes nothing, whatever is lent to it
-pub record Untouched (words words′ bitmap bitmap′ : List ℕ) : Type 0 where
+pub record RestoreUntouched (words words′ bitmap bitmap′ : List ℕ) : Type 0 where
   pub same-words : words′ ≡ words
   pub same-bitmap : bitmap′ ≡ bitmap
 
 abbrev pub RefusedRestoreChangesNothing : Type 0
 RefusedRestoreChangesNothing = (text words words′ bitmap bitmap′ : List ℕ) (number : ℕ) → RestoreTold text words words′ bitmap bitmap′ number → (number ≡ 0 → ⊥)
-    → Untouched words words′ bitmap bitmap′
+    → RestoreUntouched words words′ bitmap bitmap′

@@ -10,7 +10,7 @@ use Rattle.units.specs.Numbers.{blocksIn}
 use Rattle.bitmap.specs.Blocks.{blocks, allAre}
 use Rattle.record.specs.declared.Device.{Device}
 use Rattle.record.specs.Shape.{configShapedOf, sizeOk, ofConfig}
-use Rattle.record.specs.Changes.{configWith, configTo}
+use Rattle.record.specs.Changes.{stateConfig, configTo}
 use Rattle.record.proofs.Laws.{Parts, parts, shaped-is}
 use Rattle.step.specs.World.{World, Call, worldOf}
 use Rattle.history.specs.History.{Event, Story, next, after, Demand3}
@@ -26,7 +26,7 @@ use Rattle.history.proofs.Good.{good-restored}
 use Rattle.runs.specs.Runs.{Run, runsOf, RunsApart, total, laidOn}
 use Rattle.runs.proofs.Spread.{runs-inside, runs-laid, runs-ones}
 use Rattle.save.specs.declared.Fields.{Fields}
-use Rattle.save.specs.Text.{configWith, shapeOk, usedOf}
+use Rattle.save.specs.Text.{stateConfig, shapeOk, usedOf}
 use Rattle.save.proofs.Text.{shape-is, in-blocks, valid-shape, valid-past, valid-plugged, state-block}
 use Rattle.saving.specs.Restoring.{Restoring}
 use Rattle.saving.proofs.Turns.{entry-shaped, is-placed, same-region, usable-enough, none-plugged, none-set, as-many, has-room, starts-clear}
@@ -55,7 +55,7 @@ stays s good w requested plugs e l = let here : CanRestore (s .world) requested 
 
 size-of : (f : Fields) → shapeOk f ≡ true → sizeOk (f .block) (f .requested) (f .region) ≡ true
 unfolding configShapedOf
-size-of f e = parts (ofConfig (configWith f)) e .requested
+size-of f e = parts (ofConfig (stateConfig f)) e .requested
 
 module _ (d d′ : Device) (text bitmap bitmap′ table : List ℕ) (r : Restoring d text bitmap bitmap′ d′) where
   is-shaped : Parts d
@@ -126,7 +126,7 @@ module _ (d d′ : Device) (text bitmap bitmap′ table : List ℕ) (r : Restori
   is-after : worldOf d′ bitmap′ table ≡ afterRestore (worldOf d bitmap table) (r .fields .requested) (plugsOf (runsOf (r .bs)))
   is-after =
       let c = d .config in
-      let laid : ℕ → Device = λ n. configTo (configWith c (c .addr .0) (c .«usable_region_size») n (r .fields .requested)) d in
+      let laid : ℕ → Device = λ n. configTo (stateConfig c (c .addr .0) (c .«usable_region_size») n (r .fields .requested)) d in
       ap (λ (x : Device). worldOf x bitmap′ table) (r .device ∙ ap laid same-plugged)
       ∙ ap (λ (bs : List Bool). record { device = laid (counted (c .«block_size») (plugsOf (runsOf (r .bs))) 0); blocks = bs; rows = worldOf d bitmap table .rows }) same-marks
 

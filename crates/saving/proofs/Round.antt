@@ -20,7 +20,7 @@ use Rattle.record.proofs.Laws.{Parts, parts, whole, shaped-is}
 use Rattle.save.specs.declared.Fields.{Fields}
 use Rattle.save.specs.declared.Wrote.{Wrote}
 use Rattle.save.specs.declared.Wrote.the-variants.{Text, Refused}
-use Rattle.save.specs.Text.{textOf, configWith, shapeOk, allOf, validOf, IsState, Says}
+use Rattle.save.specs.Text.{stateText, stateConfig, shapeOk, allOf, validOf, IsState, Says}
 use Rattle.save.specs.Writing.{blocksFor, isShort, validIn, textIn, wroteOf, writtenOn}
 use Rattle.save.specs.Reading.{HoldsBlocks}
 use Rattle.save.proofs.Text.{valid-shape, state-block, fields-are, one-text}
@@ -104,9 +104,9 @@ idle-ok (Create first last) b region several plugged e = let z : _≡_ {A = ℕ}
 idle-ok (Discard first count status) b region several plugged e = let z : _≡_ {A = ℕ} 0 1 = cc in absurd (omega arith)
 idle-ok (DiscardOne block status) b region several plugged e = let z : _≡_ {A = ℕ} 0 1 = cc in absurd (omega arith)
 
-form-parts : (f : Fields) → shapeOk f ≡ true → Parts (ofConfig (configWith f))
+form-parts : (f : Fields) → shapeOk f ≡ true → Parts (ofConfig (stateConfig f))
 unfolding configShapedOf
-form-parts f e = parts (ofConfig (configWith f)) e
+form-parts f e = parts (ofConfig (stateConfig f)) e
 
 module _ (d : Device) (text bitmap bitmap′ : List ℕ) (f : Fields) (bs : List Bool) (z : entryRefusal d ≡ 0) (t : TakenOn d text bitmap f bs) where
   same-block : f .block ≡ d .config .«block_size»
@@ -150,7 +150,7 @@ module _ (d : Device) (text bitmap bitmap′ : List ℕ) (f : Fields) (bs : List
         ∙ take-append-seam bs rest
 
     same-text : textIn (fieldsIn (restoredTo f d)) bitmap′ ≡ text
-    same-text = ap (textOf 2 (fieldsIn (restoredTo f d))) same-blocks ∙ ap (λ (g : Fields). textOf 2 g bs) same-fields ∙ t .says .text
+    same-text = ap (stateText 2 (fieldsIn (restoredTo f d))) same-blocks ∙ ap (λ (g : Fields). stateText 2 g bs) same-fields ∙ t .says .text
 
     still-valid : validIn (fieldsIn (restoredTo f d)) bitmap′ ≡ true
     still-valid = ap (validOf (fieldsIn (restoredTo f d))) same-blocks ∙ ap (λ (g : Fields). validOf g bs) same-fields ∙ t .says .state .valid

@@ -13,7 +13,7 @@ use lib.Seq.{drop-append-seam, drop-drop}
 use Rattle.units.proofs.Tests.{by-test}
 use Rattle.text.specs.declared.Number.the-variants.{At, Bad}
 use Rattle.text.specs.Decimal.{largest, spell, decimal}
-use Rattle.text.specs.Reading.{Got, got, nothing, isDigit, digitOf, more, numberOf, bounded, wordOf, answerIn, numberAt}
+use Rattle.text.specs.Reading.{Got, got, nothing, isDigit, digitOf, more, readNumber, bounded, wordOf, answerIn, numberAt}
 use Rattle.text.proofs.Turns.{is-digit, digit-most, digit-least, more-turn, more-stop}
 
 -- ---- the text of a number
@@ -91,11 +91,11 @@ digit-byte : (d : ℕ) (l : List ℕ) → d < 10 → digitOf ((48 + d) ∷ l) �
 unfolding digitOf
 digit-byte d l h = rw (is-digit (48 + d) (omega arith) (omega arith)) (omega arith)
 
-number-byte : (v : ℕ) (l : List ℕ) → 0 < v → v < 10 → numberOf ((48 + v) ∷ l) ≡ more v l
-unfolding numberOf
+number-byte : (v : ℕ) (l : List ℕ) → 0 < v → v < 10 → readNumber ((48 + v) ∷ l) ≡ more v l
+unfolding readNumber
 number-byte v l p h = rw (digit-byte v l h, le-ltb 9 v (omega arith), lt-ltb 0 v p)
 
-written-more : (k v : ℕ) (l : List ℕ) → v ≤ k → 0 < v → numberOf (decimal v ++ l) ≡ more v l
+written-more : (k v : ℕ) (l : List ℕ) → v ≤ k → 0 < v → readNumber (decimal v ++ l) ≡ more v l
 written-more zero v l f p = absurd (omega arith)
 written-more (suc k) v l f p =
     by-test (ltb v 10)
@@ -108,11 +108,11 @@ written-more (suc k) v l f p =
     (written-more k (v / 10) ((48 + v % 10) ∷ l) (omega arith) (omega arith)
     ∙ rw (more-turn (v / 10) ((48 + v % 10) ∷ l) (omega arith), b, s)))
 
-zero-written : (l : List ℕ) → 9 < digitOf l → numberOf (48 ∷ l) ≡ got 0 l
-unfolding numberOf
+zero-written : (l : List ℕ) → 9 < digitOf l → readNumber (48 ∷ l) ≡ got 0 l
+unfolding readNumber
 zero-written l h = rw (digit-byte 0 l (omega arith), lt-leb (digitOf l) 9 h)
 
-number-written : (v : ℕ) (rest : List ℕ) → 9 < digitOf rest → numberOf (decimal v ++ rest) ≡ got v rest
+number-written : (v : ℕ) (rest : List ℕ) → 9 < digitOf rest → readNumber (decimal v ++ rest) ≡ got v rest
 number-written v rest h =
     by-test (ltb 0 v)
     (λ e. written-more v v rest (omega arith) (ltb-true 0 v e) ∙ more-stop v rest h)
@@ -124,7 +124,7 @@ word-written v rest f h = rw (number-written v rest h, le-leb v largest f)
 
 -- where no digit stands, there is no number
 pub word-none : (x : ℕ) (l : List ℕ) → isDigit x ≡ false → wordOf (x ∷ l) ≡ nothing
-unfolding numberOf digitOf bounded
+unfolding readNumber digitOf bounded
 word-none x l e = rw e
 
 -- ---- a number that was read was written
@@ -152,8 +152,8 @@ more-read w (x ∷ xs) v rest p h =
 never : {v : ℕ} {rest : List ℕ} → nothing ≡ got v rest → ⊥
 never h = let z : _≡_ {A = ℕ} 0 1 = cc in omega arith
 
-number-read : (l : List ℕ) (v : ℕ) (rest : List ℕ) → numberOf l ≡ got v rest → l ≡ decimal v ++ rest
-unfolding numberOf
+number-read : (l : List ℕ) (v : ℕ) (rest : List ℕ) → readNumber l ≡ got v rest → l ≡ decimal v ++ rest
+unfolding readNumber
 number-read l v rest h =
     by-test (ltb 9 (digitOf l)) (λ e. absurd (never (rw e at h)))
     (λ e.
@@ -180,7 +180,7 @@ bounded-got (got w r) v rest h =
     (λ e. absurd (never (rw e at h)))
 
 pub word-read : (l : List ℕ) (v : ℕ) (rest : List ℕ) → wordOf l ≡ got v rest → (l ≡ decimal v ++ rest) × (v ≤ largest)
-word-read l v rest h = let b = bounded-got (numberOf l) v rest h in (number-read l v rest (b .0), b .1)
+word-read l v rest h = let b = bounded-got (readNumber l) v rest h in (number-read l v rest (b .0), b .1)
 
 -- ---- the answer at a position of s says what was got there
 

@@ -12,7 +12,7 @@ use lib.Seq.{drop-cons, drop-drop}
 use Rattle.units.proofs.Tests.{by-test, and-left, and-right}
 use Rattle.text.specs.declared.Number.the-variants.{At, Bad}
 use Rattle.text.specs.Decimal.{largest}
-use Rattle.text.specs.Reading.{got, nothing, isDigit, digitOf, more, numberOf, bounded, answerIn, numberAt}
+use Rattle.text.specs.Reading.{got, nothing, isDigit, digitOf, more, readNumber, bounded, answerIn, numberAt}
 
 -- ---- one byte
 
@@ -96,20 +96,20 @@ module _ (s : List ℕ) (i v d : ℕ) (e : d ≡ digitOf (drop i s)) where
 -- ---- `read_number`: the first digit d of a number at a position
 module _ (s : List ℕ) (at d : ℕ) (e : d ≡ digitOf (drop at s)) where
   pub no-number : 9 < d → Bad ≡ numberAt s at
-  unfolding bounded numberOf
+  unfolding bounded readNumber
   no-number h = rw (← e, lt-ltb 9 d h)
 
   pub from-digit : d ≤ 9 → 0 < d → answerIn s (bounded (more d (drop (at + 1) s))) ≡ numberAt s at
-  unfolding numberOf
+  unfolding readNumber
   from-digit h p = rw (← e, le-ltb 9 d h, lt-ltb 0 d p, drop-drop 1 at s)
 
   module _ (n : ℕ) (f : n ≡ digitOf (drop (at + 1) s)) (z : d ≤ 0) where
     pub more-zeros : n ≤ 9 → Bad ≡ numberAt s at
-    unfolding numberOf bounded
+    unfolding readNumber bounded
     more-zeros h = rw (← e, le-ltb 9 d (omega arith), le-ltb 0 d z, drop-drop 1 at s, ← f, le-leb n 9 h)
 
     pub zero-alone : 9 < n → At 0 (at + 1) ≡ numberAt s at
-    unfolding numberOf bounded
+    unfolding readNumber bounded
     zero-alone h =
         let inside = digit-inside s at d e (omega arith) in
         rw (← e, le-ltb 9 d (omega arith), le-ltb 0 d z, drop-drop 1 at s, ← f, lt-leb n 9 h) (read-once s 0 (at + 1) (omega arith))

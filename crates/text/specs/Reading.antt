@@ -29,8 +29,8 @@ more v [] = got v []
 more v (x ∷ xs) = cond (isDigit x) (more (v * 10 + (x - 48)) xs) (got v (x ∷ xs))
 
 -- a number without leading zeros: a 0 stands alone
-unfoldable pub numberOf : List ℕ → Got
-numberOf xs =
+unfoldable pub readNumber : List ℕ → Got
+readNumber xs =
     cond (ltb 9 (digitOf xs)) nothing
     (cond (ltb 0 (digitOf xs)) (more (digitOf xs) (drop 1 xs))
     (cond (leb (digitOf (drop 1 xs)) 9) nothing (got 0 (drop 1 xs))))
@@ -42,7 +42,7 @@ bounded (got v rest) = cond (leb v largest) (got v rest) nothing
 
 -- a number without leading zeros that a word holds
 abbrev pub wordOf : List ℕ → Got
-wordOf xs = bounded (numberOf xs)
+wordOf xs = bounded (readNumber xs)
 
 -- the answer for what was got from the text s: the number, and the one position of s from which on just the rest is left
 abbrev pub answerIn : List ℕ → Got → Number

@@ -37,7 +37,7 @@ use Rattle.step.specs.Step.{blockSize, region, requested, plugged, coveredBy, u
 use Rattle.trace_text.specs.declared.Op.{Op}
 use Rattle.trace_text.specs.declared.Op.the-variants.{Host, Plug, Unplug, State, UnplugAll, Size}
 use Rattle.trace_text.specs.Lines.{opInRange}
-use Rattle.trace_run.specs.Ops.{chained, laid, asked, callOf}
+use Rattle.trace_run.specs.Ops.{chained, laid, asked, opCall}
 
 -- ---- the bytes
 
@@ -187,8 +187,8 @@ module _ (w : World) (mem : List ℕ) (room : 106 ≤ length mem) where
       unless-told _ _ _ _ (rw (chain-good mem type addr blocks room t a b) (f _))
 
   -- no op of a trace is left without an answer, or with one that has no line
-  pub op-told : (op : Op) → opInRange op → Told (step w (callOf op mem))
-  unfolding callOf step serve plug setRequestedSize
+  pub op-told : (op : Op) → opInRange op → Told (step w (opCall op mem))
+  unfolding opCall step serve plug setRequestedSize
   op-told (Host ok addr) h = unless-told _ _ _ _ (host-told _ w _ ok (addr .0))
   op-told (Plug addr blocks) h = request-told 0 (addr .0) blocks (omega arith) (omega arith) (omega arith) (λ g. either (ltb (requested w) (plugged w + bytesOf (blockSize w) blocks)) _ _ (record { line = refl }) (plug-told w _ _ _ g))
   op-told (Unplug addr blocks) h = request-told 1 (addr .0) blocks (omega arith) (omega arith) (omega arith) (λ g. unplug-told w _ _ _ g)

@@ -16,7 +16,7 @@ use Rattle.step.specs.Promise.{Lent, meant, Leaves}
 use Rattle.trace_text.specs.declared.Line.{Line}
 use Rattle.trace_text.specs.declared.Line.the-variants.{First, Later, Bad}
 use Rattle.trace_text.specs.Lines.{Reads}
-use Rattle.trace_run.specs.Ops.{textOf}
+use Rattle.trace_run.specs.Ops.{answerText}
 use Rattle.trace_run.specs.declared.Run.{Run}
 use Rattle.trace_run.specs.declared.Run.the-variants.{On, Ended}
 use Rattle.trace_run.specs.declared.Shown.{Shown}
@@ -67,7 +67,7 @@ ended-comes l out r e z = record { stands = e; leaves = unchanged l; printed = r
 module _ (o : Outcome) (mem : List ℕ) {s : Answered} {run : Run} {before after : Lent} {out out′ : List ℕ} {r : Shown}
     (a : s .answer ≡ o .answer) (d : s .device ≡ o .world .device) (m : blocks (after .bitmap) ≡ o .world .blocks)
     (t : after .table ≡ written (before .table) (o .world .rows)) (l : after .bytes ≡ mem)
-    (p : Prints run (textOf (s .answer) (s .device) (after .bytes)) out r out′) where
+    (p : Prints run (answerText (s .answer) (s .device) (after .bytes)) out r out′) where
   comes : (to : Run) → run ≡ to → Comes (answeredAs to o mem) before after out out′ r
   comes to e =
       record { stands = p .stands ∙ e; leaves = record { marked = m; mapped = t; left = l }; printed = rw (a, d, l) at (p .printed) }

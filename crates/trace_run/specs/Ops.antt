@@ -45,13 +45,13 @@ abbrev pub requestOf : List ℕ → (type addr blocks : ℕ) → Call
 requestOf mem type addr blocks = Request (record { mem = asked mem type addr blocks; base = 0 }) 0 0
 
 -- the call that an op stands for
-unfoldable pub callOf : Op → List ℕ → Call
-callOf (Host ok addr) mem = HostAnswer (record { mem = mem; base = 0 }) ok (addr .0)
-callOf (Plug addr blocks) mem = requestOf mem 0 (addr .0) blocks
-callOf (Unplug addr blocks) mem = requestOf mem 1 (addr .0) blocks
-callOf (State addr blocks) mem = requestOf mem 3 (addr .0) blocks
-callOf UnplugAll mem = requestOf mem 2 0 0
-callOf (Size mib) mem = SetRequestedSize mib
+unfoldable pub opCall : Op → List ℕ → Call
+opCall (Host ok addr) mem = HostAnswer (record { mem = mem; base = 0 }) ok (addr .0)
+opCall (Plug addr blocks) mem = requestOf mem 0 (addr .0) blocks
+opCall (Unplug addr blocks) mem = requestOf mem 1 (addr .0) blocks
+opCall (State addr blocks) mem = requestOf mem 3 (addr .0) blocks
+opCall UnplugAll mem = requestOf mem 2 0 0
+opCall (Size mib) mem = SetRequestedSize mib
 
 -- the bytes that a call leaves: a size change has none, so guest memory is as it was
 unfoldable pub bytesAfter : Op → List ℕ → Outcome → List ℕ
@@ -65,7 +65,7 @@ bytesAfter (Size mib) mem o = mem
 -- an op is applied: the outcome of its call, with guest memory as it is then
 abbrev pub applied : Op → World → (mem : List ℕ) → Outcome
 applied op w mem =
-    let o = step w (callOf op mem) in
+    let o = step w (opCall op mem) in
     record { world = o .world; answer = o .answer; bytes = bytesAfter op mem o }
 
 -- what applying an op promises
@@ -73,12 +73,12 @@ abbrev pub Applies : Op → Device → (before after : Lent) → Answered → Ty
 Applies op d before after s = Gives (applied op (on d before) (before .bytes)) before after s
 
 -- the line of an answer: resp and state are read out of the response bytes
-unfoldable pub textOf : Answer → Device → List ℕ → List ℕ
-textOf (Refused n) d mem = refusalText n
-textOf (Wants (Create guest size slot)) d mem = createText guest size slot
-textOf (Wants (Discard offset size host)) d mem = discardText offset size host
-textOf Sized d mem = sizedText (d .config .«requested_size») (d .config .«usable_region_size»)
-textOf (Unserved reason) d mem = []
-textOf (Served reply) d mem =
+unfoldable pub answerText : Answer → Device → List ℕ → List ℕ
+answerText (Refused n) d mem = refusalText n
+answerText (Wants (Create guest size slot)) d mem = createText guest size slot
+answerText (Wants (Discard offset size host)) d mem = discardText offset size host
+answerText Sized d mem = sizedText (d .config .«requested_size») (d .config .«usable_region_size»)
+answerText (Unserved reason) d mem = []
+answerText (Served reply) d mem =
     responseText (value (part mem 96 2)) (value (part mem 104 2)) (d .config .«plugged_size») (d .config .«usable_region_size»)
-textOf Done d mem = []
+answerText Done d mem = []

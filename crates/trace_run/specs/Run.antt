@@ -19,7 +19,7 @@ use Rattle.trace_text.specs.declared.Line.{Line}
 use Rattle.trace_text.specs.declared.Line.the-variants.{First, Later, Bad}
 use Rattle.answer_text.specs.Texts.{refusalText}
 use Rattle.trace_text.specs.Lines.{Reads}
-use Rattle.trace_run.specs.Ops.{callOf, bytesAfter, textOf}
+use Rattle.trace_run.specs.Ops.{opCall, bytesAfter, answerText}
 use Rattle.trace_run.specs.declared.Run.{Run}
 use Rattle.trace_run.specs.declared.Run.the-variants.{Before, On, Ended}
 use Rattle.trace_run.specs.declared.Shown.{Shown}
@@ -48,7 +48,7 @@ answeredAs run o mem =
     record {
       run = run;
       left = record { blocks = o .world .blocks; rows = o .world .rows; bytes = mem };
-      printed = asLine (textOf (o .answer) (o .world .device) mem);
+      printed = asLine (answerText (o .answer) (o .world .device) mem);
     }
 
 -- ---- the first line
@@ -59,8 +59,8 @@ countedFrom slot zero = []
 countedFrom slot (suc count) = slot ∷ countedFrom (suc slot) count
 
 -- the device is placed at `addr`, all of its region, with a slot for each map region
-abbrev pub placeOf : Device → FirstLine → Meant → Call
-placeOf d f m =
+abbrev pub placeCall : Device → FirstLine → Meant → Call
+placeCall d f m =
     let region = d .config .«region_size» in
     Place (f .addr .0) region (countedFrom (f .slot) (mapRegions region (d .several))) (m .blocks) (m .rows)
 
@@ -79,23 +79,23 @@ placedOn o mem = answeredAs (placedAs (o .answer) (o .world .device)) o mem
 
 unfoldable pub begunOn : Made → FirstLine → Meant → Turn
 begunOn (NotMade n) f m = refusedAs Ended n m
-begunOn (MadeDevice d) f m = placedOn (step (worldOn d m) (placeOf d f m)) (m .bytes)
+begunOn (MadeDevice d) f m = placedOn (step (worldOn d m) (placeCall d f m)) (m .bytes)
 
 -- the first line makes the device, and places it
-abbrev pub begun : FirstLine → Meant → Turn
-begun f m = begunOn (made (f .«capacity_mib») (f .«requested_mib») (f .multi) (f .node) (f .boot)) f m
+abbrev pub begunBy : FirstLine → Meant → Turn
+begunBy f m = begunOn (made (f .«capacity_mib») (f .«requested_mib») (f .multi) (f .node) (f .boot)) f m
 
 -- ---- every line
 
 -- a later line is an op on the device, and the run goes on whatever its answer
 abbrev pub goneOn : Device → Op → Meant → Turn
 goneOn d op m =
-    let o = step (worldOn d m) (callOf op (m .bytes)) in
+    let o = step (worldOn d m) (opCall op (m .bytes)) in
     answeredAs (On (o .world .device)) o (bytesAfter op (m .bytes) o)
 
 -- R12.5: a line where another is due is a bad line. R12.8: a bad first line ends the run, and after a bad later one it goes on. Nothing comes of a line after the end
 unfoldable pub turn : Run → Line → Meant → Turn
-turn Before (First f) m = begun f m
+turn Before (First f) m = begunBy f m
 turn Before (Later op) m = refusedAs Ended 13 m
 turn Before Bad m = refusedAs Ended 13 m
 turn (On d) (First f) m = refusedAs (On d) 13 m

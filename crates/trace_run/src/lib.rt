@@ -30,14 +30,14 @@ use units::map_regions;
 ghost use mathlib.Core.Path.{_≡_};
 ghost use Rattle.text.specs.Putting.{Put};
 ghost use Rattle.step.specs.Promise.{lent, Steps};
-ghost use Rattle.trace_run.specs.Ops.{chained, asked, requestOf, textOf, Applies};
+ghost use Rattle.trace_run.specs.Ops.{chained, asked, requestOf, answerText, Applies};
 ghost use mathlib.Core.Bool.{true};
 ghost use Prim.Native.Nat.{_+_, _≤_};
 ghost use lib.ListN.{length, take};
 ghost use Rattle.record.specs.Shape.{shapedOf};
 ghost use Rattle.making.specs.declared.Made.the-variants as made;
 ghost use Rattle.answer_text.specs.Texts.{refusalText};
-ghost use Rattle.trace_run.specs.Run.{countedFrom, placedAs, begunOn, begun, goneOn, turn};
+ghost use Rattle.trace_run.specs.Run.{countedFrom, placedAs, begunOn, begunBy, goneOn, turn};
 ghost use Rattle.trace_run.specs.Run.{Prints, ComesTo, Serves, SlotFits};
 
 // Where a run stands: before its first line, on a device, or ended.
@@ -118,7 +118,7 @@ fn apply(d: Device, bitmap: &mut [u8], table: &mut [u64], mem: &mut [u8], op: Op
 // Puts the line of an answer at the start of a buffer, and answers its length; no line has more than 200 bytes.
 fn put_answer(out: &mut [u8], s: Answered, mem: &[u8]) -> usize
     ensures { λ r. ⌜
-        Put (now (out .entry)) 0 (textOf (s .answer) (s .device) (now (mem .entry))) (now (out .exit)) r
+        Put (now (out .entry)) 0 (answerText (s .answer) (s .device) (now (mem .entry))) (now (out .exit)) r
         ⌝ }
 {
     let answer = s.answer;
@@ -159,7 +159,7 @@ fn refuse(run: Run, out: &mut [u8], number: u64) -> Shown
 // Prints an answer.
 fn answer(run: Run, s: Answered, mem: &[u8], out: &mut [u8]) -> Shown
     ensures { λ r. ⌜
-        Prints run (textOf (s .answer) (s .device) (now (mem .entry))) (now (out .entry)) r (now (out .exit))
+        Prints run (answerText (s .answer) (s .device) (now (mem .entry))) (now (out .entry)) r (now (out .exit))
         ⌝ }
 {
     let end = put_answer(out, s, mem);
@@ -233,7 +233,7 @@ fn begin(
 ) -> Shown
     requires { ⌜ first .slot ≤ 4294966000 ⌝ }
     ensures { λ r. ⌜
-        ComesTo (begun first)
+        ComesTo (begunBy first)
         (lent (now (bitmap .entry)) (now (table .entry)) (now (mem .entry)))
         (lent (now (bitmap .exit)) (now (table .exit)) (now (mem .entry)))
         (now (out .entry)) (now (out .exit)) r

@@ -21,7 +21,7 @@ use Rattle.words.specs.declared.Call.{Call}
 use Rattle.words.specs.declared.Call.the-variants.{Known, Unknown}
 use Rattle.words.specs.declared.Decoded.{Decoded}
 use Rattle.words.specs.declared.Decoded.the-variants.{Is, NoRecord}
-use Rattle.words.specs.Record.{bit, word, pendingWords, wordsOf, pendingOf, pendingFits, callOf, isRecord, recordOf, decodedOf, afterRequest, afterAnswer}
+use Rattle.words.specs.Record.{bit, word, pendingWords, wordsOf, pendingOf, pendingFits, pendingCall, isRecord, recordOf, decodedOf, afterRequest, afterAnswer}
 
 -- ---- words one at a time
 
@@ -96,14 +96,14 @@ abbrev is-known : Call → Bool
 is-known (Known p) = true
 is-known Unknown = false
 
-pub known : (k a b c : ℕ) (p : Pending) → callOf k a b c ≡ Known p → (pendingFits k a b c ≡ true) × (pendingOf k a b c ≡ p)
-unfolding callOf
+pub known : (k a b c : ℕ) (p : Pending) → pendingCall k a b c ≡ Known p → (pendingFits k a b c ≡ true) × (pendingOf k a b c ≡ p)
+unfolding pendingCall
 known k a b c p h =
     by-test (pendingFits k a b c) (λ t. let g : Known (pendingOf k a b c) ≡ Known p = simp t at h in (t, ap (call p) g))
     (λ t. let g : Unknown ≡ Known p = simp t at h in let z : false ≡ true = ap is-known g in absurd (let y : _≡_ {A = ℕ} 0 1 = cc in omega arith))
 
-pub unknown : (k a b c : ℕ) → callOf k a b c ≡ Unknown → pendingFits k a b c ≡ false
-unfolding callOf
+pub unknown : (k a b c : ℕ) → pendingCall k a b c ≡ Unknown → pendingFits k a b c ≡ false
+unfolding pendingCall
 unknown k a b c h =
     by-test (pendingFits k a b c)
     (λ t. let g : Known (pendingOf k a b c) ≡ Unknown = simp t at h in let z : true ≡ false = ap is-known g in absurd (let y : _≡_ {A = ℕ} 0 1 = cc in omega arith))

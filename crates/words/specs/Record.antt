@@ -74,8 +74,8 @@ pendingFits kind first second status =
     false)))
 
 -- the call that four words mean, where they fit
-unfoldable pub callOf : (kind first second status : ℕ) → Call
-callOf kind first second status =
+unfoldable pub pendingCall : (kind first second status : ℕ) → Call
+pendingCall kind first second status =
     cond (pendingFits kind first second status) (Known (pendingOf kind first second status)) Unknown
 
 -- the word at a place

@@ -9,7 +9,7 @@ ghost use Prim.Native.Nat.{_≤_};
 ghost use lib.ListN.{length};
 ghost use Rattle.little_endian.specs.Bytes.{put};
 ghost use Rattle.words.specs.declared.Decoded.the-variants.{Is};
-ghost use Rattle.words.specs.Record.{bit, callOf, decodedOf, wordsOf, pendingWords, afterRequest, afterAnswer};
+ghost use Rattle.words.specs.Record.{bit, pendingCall, decodedOf, wordsOf, pendingWords, afterRequest, afterAnswer};
 
 // A record's length in words.
 pub const RECORD_WORDS: usize = 15;
@@ -34,7 +34,7 @@ fn bit(flag: bool) -> u64
 
 // The pending call that four words mean: a known kind, and 0 in each word that the kind has no use for.
 fn call_of(kind: u64, first: u64, second: u64, status: u64) -> Call
-    ensures { λ r. ⌜ r ≡ callOf kind first second status ⌝ }
+    ensures { λ r. ⌜ r ≡ pendingCall kind first second status ⌝ }
 {
     if (kind == 0) & ((first == 0) & ((second == 0) & (status == 0))) {
         return Call::Known(Pending::Nothing);

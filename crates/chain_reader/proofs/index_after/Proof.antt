@@ -1,7 +1,7 @@
 -- SPDX-License-Identifier: Apache-2.0 AND BSD-3-Clause
 -- `chain_reader::index_after` meets its contract: each return is the case of `indexAfter` that the tests led to.
 use borrow.Author.Needs.{needs}
-use Rattle.chain_reader.specs.Reader.{indexAfter}
+use Rattle.chain_reader.specs.Reader.{readerIndex}
 use Rattle.chain_reader.proofs.index_after.Statement.{statement}
 use Rattle.chain_reader.proofs.index_after.Tie as tie
 
@@ -15,20 +15,20 @@ enum-told : tie.Need-enum-told
 enum-told c = search needs
 
 returns : tie.Need-returns
-unfolding indexAfter
+unfolding readerIndex
 returns c = simp (← c .before .before .link-at .ensures, c .enum-told .given .1)
 
 has-next-requires : tie.Need-has-next-requires
 has-next-requires c κs = search needs
 
 returns-2 : tie.Need-returns-2
-unfolding indexAfter
+unfolding readerIndex
 returns-2 c =
     let f = c .before .before in
     simp (← f .before .before .before .link-at .ensures, f .before .current .given .1, ← c .before .has-next .ensures, c .if1 .taken)
 
 returns-3 : tie.Need-returns-3
-unfolding indexAfter
+unfolding readerIndex
 returns-3 c =
     let f = c .before .before in
     simp (← f .before .before .before .link-at .ensures, f .before .current .given .1, ← c .before .has-next .ensures, c .if1 .left)

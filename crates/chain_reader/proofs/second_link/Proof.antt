@@ -37,7 +37,7 @@ use denote.Triple.Walked.{says, Stays, stay-none, stay-none-slice, walkOf, goes-
 use denote.Exit.{yes}
 use denote.Triple.Clauses.{ensured, lasts}
 use Rattle.descriptors.specs.Descriptors.{linkAt}
-use Rattle.chain_reader.specs.Reader.{indexAfter, secondLink}
+use Rattle.chain_reader.specs.Reader.{readerIndex, secondLink}
 use Rattle.chain_reader.proofs.Laws.{link-behind}
 use Rattle.units.specs.declared.GuestAddr.{GuestAddr}
 use Rattle.units.proofs.GuestAddr as G
@@ -109,7 +109,7 @@ module _ {M : Type 1} (𝓤 : URA M) (H : Heap 𝓤) (A : Atoms 𝓤) (W : Given
   to-on r u = (((κ, tt), (q, tt), tt, (r, tt), (u ∷ [], tt)), tt)
 
   abbrev Moved : ChainReader → ChainReader → Type 0
-  Moved r r′ = (r′ .mem ≡ r .mem) × (r′ .base ≡ r .base) × (r′ .descriptors ≡ r .descriptors) × (r′ .index ≡ indexAfter (linkAt (now (r .mem)) (r .base .0) (r .descriptors .0) (r .index)))
+  Moved r r′ = (r′ .mem ≡ r .mem) × (r′ .base ≡ r .base) × (r′ .descriptors ≡ r .descriptors) × (r′ .index ≡ readerIndex (linkAt (now (r .mem)) (r .base .0) (r .descriptors .0) (r .index)))
 
   on-said : (r r′ : ChainReader) → ent 𝓤 (ensured 𝓤 H A on.ended (on.clauses 𝓤 H A mem run) (κ, tt) (r, tt) tt r′) (fact 𝓤 (Moved r r′))
   on-said r r′ = exE 𝓤 _ (λ ws. snd∗ 𝓤 (sem 𝓤 H A (lasts on.ended (κ, tt) (r, tt) ws)) (fact 𝓤 (Moved r r′)))
@@ -119,7 +119,7 @@ module _ {M : Type 1} (𝓤 : URA M) (H : Heap 𝓤) (A : Atoms 𝓤) (W : Given
   unfolding secondLink
   second r r′ t e m l =
       l ∙ (λ i. linkAt (now (m .0 i)) (m .1 i .0) (m .2 i .0) (m .3 i))
-      ∙ (λ i. linkAt (now (e .0 i)) (e .1 i .0) (e .2 i .0) (indexAfter (linkAt (now (e .0 i)) (e .1 i .0) (e .2 i .0) (e .3 i))))
+      ∙ (λ i. linkAt (now (e .0 i)) (e .1 i .0) (e .2 i .0) (readerIndex (linkAt (now (e .0 i)) (e .1 i .0) (e .2 i .0) (e .3 i))))
       ∙ link-behind (now s) (base .0) (descriptors .0) (linkAt (now s) (base .0) (descriptors .0) n)
 
   -- the call of `current`, at the reader r with the machine value u

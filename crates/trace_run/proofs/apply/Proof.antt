@@ -1,6 +1,6 @@
 -- `trace_run::apply` meets its contract: each op is one call, and its promise is the call's.
 use mathlib.Core.Path.{refl}
-use Rattle.trace_run.specs.Ops.{callOf, bytesAfter}
+use Rattle.trace_run.specs.Ops.{opCall, bytesAfter}
 use borrow.Author.Needs.{needs}
 use Rattle.trace_run.proofs.apply.Statement.{statement}
 use Rattle.trace_run.proofs.apply.Tie as tie
@@ -51,7 +51,7 @@ same-length-3 : tie.Need-same-length-3
 same-length-3 c = search needs
 
 returns : tie.Need-returns
-unfolding callOf bytesAfter
+unfolding opCall bytesAfter
 returns c =
     let m = c .before .before .before .before .before .before .host-answer .ensures in
     rw (c .before .before .before .before .before .before .before .before .before .before .before .op .given .1)
@@ -67,7 +67,7 @@ same-length-6 : tie.Need-same-length-6
 same-length-6 c = search needs
 
 returns-2 : tie.Need-returns-2
-unfolding callOf bytesAfter
+unfolding opCall bytesAfter
 returns-2 c =
     let m = c .before .before .before .before .guest-asks .ensures in
     rw (c .before .before .before .before .before .before .before .before .before .op2 .given .1)
@@ -83,7 +83,7 @@ same-length-9 : tie.Need-same-length-9
 same-length-9 c = search needs
 
 returns-3 : tie.Need-returns-3
-unfolding callOf bytesAfter
+unfolding opCall bytesAfter
 returns-3 c =
     let m = c .before .before .before .before .guest-asks2 .ensures in
     rw (c .before .before .before .before .before .before .before .before .before .op3 .given .1)
@@ -99,7 +99,7 @@ same-length-12 : tie.Need-same-length-12
 same-length-12 c = search needs
 
 returns-4 : tie.Need-returns-4
-unfolding callOf bytesAfter
+unfolding opCall bytesAfter
 returns-4 c =
     let m = c .before .before .before .before .guest-asks3 .ensures in
     rw (c .before .before .before .before .before .before .before .before .before .op4 .given .1)
@@ -115,7 +115,7 @@ same-length-15 : tie.Need-same-length-15
 same-length-15 c = search needs
 
 returns-5 : tie.Need-returns-5
-unfolding callOf bytesAfter
+unfolding opCall bytesAfter
 returns-5 c =
     let m = c .before .before .before .before .guest-asks4 .ensures in
     rw (c .before .before .before .before .before .before .before .before .enum-told .given .1)
@@ -128,7 +128,7 @@ same-length-17 : tie.Need-same-length-17
 same-length-17 c = search needs
 
 returns-6 : tie.Need-returns-6
-unfolding callOf bytesAfter
+unfolding opCall bytesAfter
 returns-6 c =
     let m = c .set-requested-size .ensures in
     rw (c .before .before .before .before .op5 .given .1)

@@ -2,7 +2,7 @@
 use mathlib.Core.Path.{refl}
 use Rattle.step.specs.World.{worldOf}
 use Rattle.step.specs.Step.{step}
-use Rattle.trace_run.specs.Ops.{callOf}
+use Rattle.trace_run.specs.Ops.{opCall}
 use Rattle.trace_run.proofs.Laws.{applied-comes}
 use borrow.Author.Needs.{needs}
 use Rattle.trace_run.proofs.go_on.Statement.{statement}
@@ -30,7 +30,7 @@ returns : tie.Need-returns
 returns c =
     let a = c .before .before .before .before .before .before .before .before .before .before .before .before .before .before .before .before .before .before .before .before .args in
     let m = c .before .before .before .before .before .before .before .before .before .before .before .before .apply .ensures in
-    applied-comes (step (worldOf (a .d) (a .bitmap .now) (a .table .now)) (callOf (a .op) (a .mem .now))) _
+    applied-comes (step (worldOf (a .d) (a .bitmap .now) (a .table .now)) (opCall (a .op) (a .mem .now))) _
     (m .answered) (m .recorded) (m .leaves .marked) (m .leaves .mapped) (m .leaves .left) (c .before .before .answer .ensures) refl
 
 pub go-on-spec : {M : Type 1} → statement M

@@ -2,7 +2,7 @@
 use borrow.Author.Needs.{needs}
 use mathlib.Core.Path.{refl}
 use native.Mathlib.Omega.{arith}
-use Rattle.trace_run.specs.Ops.{textOf}
+use Rattle.trace_run.specs.Ops.{answerText}
 use Rattle.trace_run.proofs.put_answer.Statement.{statement}
 use Rattle.trace_run.proofs.put_answer.Tie as tie
 
@@ -55,43 +55,43 @@ same-length : tie.Need-same-length
 same-length c = search needs
 
 returns : tie.Need-returns
-unfolding textOf
+unfolding answerText
 returns c = rw (c .before .before .before .before .before .answer .given .1) (c .before .before .put-refusal .ensures)
 
 same-length-2 : tie.Need-same-length-2
 same-length-2 c = search needs
 
 returns-2 : tie.Need-returns-2
-unfolding textOf
+unfolding answerText
 returns-2 c = rw (c .before .before .before .before .before .before .before .before .answer2 .given .1, c .before .before .before .before .before .call .given .1) (c .before .before .put-create .ensures)
 
 same-length-3 : tie.Need-same-length-3
 same-length-3 c = search needs
 
 returns-3 : tie.Need-returns-3
-unfolding textOf
+unfolding answerText
 returns-3 c = rw (c .before .before .before .before .before .before .before .before .answer2 .given .1, c .before .before .before .before .before .call2 .given .1) (c .before .before .put-discard .ensures)
 
 same-length-4 : tie.Need-same-length-4
 same-length-4 c = search needs
 
 returns-4 : tie.Need-returns-4
-unfolding textOf
+unfolding answerText
 returns-4 c = rw (c .before .before .before .before .enum-told .given .1) (c .before .before .put-sized .ensures)
 
 same-length-5 : tie.Need-same-length-5
 same-length-5 c = search needs
 
 returns-5 : tie.Need-returns-5
-unfolding textOf
+unfolding answerText
 returns-5 c = rw (c .before .before .before .before .before .before .enum-told2 .given .1, ← c .before .before .before .before .read-u16 .ensures, ← c .before .before .before .read-u162 .ensures) (c .before .before .put-response .ensures)
 
 returns-6 : tie.Need-returns-6
-unfolding textOf
+unfolding answerText
 returns-6 c = rw (c .enum-told3 .given .1) (record { held = refl; next = omega arith })
 
 returns-7 : tie.Need-returns-7
-unfolding textOf
+unfolding answerText
 returns-7 c = rw (c .enum-told4 .given .1) (record { held = refl; next = omega arith })
 
 pub put-answer-spec : {M : Type 1} → statement M

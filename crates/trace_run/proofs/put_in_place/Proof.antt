@@ -7,7 +7,7 @@ use Rattle.record.proofs.Laws.{shaped-is}
 use Rattle.step.specs.World.{worldOf}
 use Rattle.step.specs.Step.{step}
 use Rattle.step.specs.Promise.{lent, meant}
-use Rattle.trace_run.specs.Run.{countedFrom, placeOf, begunOn}
+use Rattle.trace_run.specs.Run.{countedFrom, placeCall, begunOn}
 use Rattle.trace_run.proofs.Laws.{counted-take, placed-comes}
 use borrow.Author.Needs.{needs}
 use Rattle.trace_run.proofs.put_in_place.Statement.{statement}
@@ -63,7 +63,7 @@ returns c =
     let counted = k .before .before .count-slots .ensures in
     let up = ap (take (k .map-regions .result)) counted ∙ counted-take _ 512 _ (omega arith) ∙ ap (countedFrom (a .first .slot)) rows in
     let m = rw up at (c .before .before .before .before .before .before .before .before .before .place .ensures) in
-    placed-comes (step (worldOf (a .d) (a .bitmap .now) (a .table .now)) (placeOf (a .d) (a .first) (meant (lent (a .bitmap .now) (a .table .now) (a .mem .now))))) _
+    placed-comes (step (worldOf (a .d) (a .bitmap .now) (a .table .now)) (placeCall (a .d) (a .first) (meant (lent (a .bitmap .now) (a .table .now) (a .mem .now))))) _
     (m .answered) (m .recorded) (m .leaves .marked) (m .leaves .mapped) refl (c .before .before .answer .ensures) (c .before .before .before .before .after-placing .ensures)
 
 pub put-in-place-spec : {M : Type 1} → statement M

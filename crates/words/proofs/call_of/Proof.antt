@@ -8,13 +8,13 @@ use borrow.Author.Tests.{eqb-true, ne-eqb}
 use Rattle.units.proofs.Tests.{and-left, and-right}
 use Rattle.record.specs.declared.Pending.the-variants.{Nothing}
 use Rattle.words.specs.declared.Call.the-variants.{Known}
-use Rattle.words.specs.Record.{pendingOf, pendingFits, callOf}
+use Rattle.words.specs.Record.{pendingOf, pendingFits, pendingCall}
 use Rattle.words.proofs.call_of.Statement.{statement}
 use Rattle.words.proofs.call_of.Tie as tie
 
 -- four words that are 0
-nothing : (k a b c : ℕ) → (eqb k 0 && (eqb a 0 && (eqb b 0 && eqb c 0))) ≡ true → Known Nothing ≡ callOf k a b c
-unfolding callOf pendingFits pendingOf
+nothing : (k a b c : ℕ) → (eqb k 0 && (eqb a 0 && (eqb b 0 && eqb c 0))) ≡ true → Known Nothing ≡ pendingCall k a b c
+unfolding pendingCall pendingFits pendingOf
 nothing k a b c h =
     let i = and-right (eqb k 0) _ h in
     let j = and-right (eqb a 0) _ i in
@@ -29,27 +29,27 @@ returns : tie.Need-returns
 returns c = nothing _ _ _ _ (c .if1 .taken)
 
 returns-2 : tie.Need-returns-2
-unfolding callOf pendingFits pendingOf
+unfolding pendingCall pendingFits pendingOf
 returns-2 c = rw (c .before .match .keys1) (simp (ne-eqb _ _ (c .if2 .taken)))
 
 returns-3 : tie.Need-returns-3
-unfolding callOf pendingFits pendingOf
+unfolding pendingCall pendingFits pendingOf
 returns-3 c = rw (c .before .match .keys3) (simp (ne-eqb _ _ (c .if3 .taken)))
 
 returns-4 : tie.Need-returns-4
-unfolding callOf pendingFits pendingOf
+unfolding pendingCall pendingFits pendingOf
 returns-4 c = rw (c .before .match .keys1, c .if2 .left)
 
 returns-5 : tie.Need-returns-5
-unfolding callOf pendingFits pendingOf
+unfolding pendingCall pendingFits pendingOf
 returns-5 c = rw (c .match .keys2)
 
 returns-6 : tie.Need-returns-6
-unfolding callOf pendingFits pendingOf
+unfolding pendingCall pendingFits pendingOf
 returns-6 c = rw (c .before .match .keys3, c .if3 .left)
 
 returns-7 : tie.Need-returns-7
-unfolding callOf pendingFits pendingOf
+unfolding pendingCall pendingFits pendingOf
 returns-7 c =
     let no = c .match .rest in
     let a = c .before .before .args in

@@ -39,7 +39,7 @@ use denote.Triple.Walked.{says, Stays, stay-none, walkOf, goes-none, Walks, ends
 use denote.Exit.{yes}
 use denote.Triple.Clauses.{ensured, lasts}
 use Rattle.descriptors.specs.Descriptors.{linkAt}
-use Rattle.chain_reader.specs.Reader.{indexAfter}
+use Rattle.chain_reader.specs.Reader.{readerIndex}
 use Rattle.chain_reader.specs.declared.ChainReader.{ChainReader}
 use Rattle.chain_reader.proofs.Walk.{B, D, L, Own, rval, parts, fvals, twice, apart}
 use Rattle.chain_reader.proofs.ChainReader as T
@@ -63,7 +63,7 @@ module _ {M : Type 1} (𝓤 : URA M) (H : Heap 𝓤) (A : Atoms 𝓤) (mem : Mem
 
 module _ {M : Type 1} (𝓤 : URA M) (H : Heap 𝓤) (A : Atoms 𝓤) (W : Given 𝓤 H A) (mem : Memory → SProp 𝓤) (run : Routine → Fun 𝓤) (κ : Lft) (q : Share) (d : ChainReader) where
   abbrev next : ℕ
-  next = indexAfter (linkAt (now (d .mem)) (d .base .0) (d .descriptors .0) (d .index))
+  next = readerIndex (linkAt (now (d .mem)) (d .base .0) (d .descriptors .0) (d .index))
 
   abbrev Post : Val → SProp 𝓤
   Post = walkOf 𝓤 H A f.ended stayed (f.clauses 𝓤 H A mem run) .post (((κ, tt), (q, tt), tt, (d, tt), (rval d ∷ [], tt)), tt)
