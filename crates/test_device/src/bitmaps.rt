@@ -1,4 +1,6 @@
-// The bitmap: calls on three bytes and on those that are lent, and sweeps over the counts 0 to 24 of the ranges from one block on.
+// SPDX-License-Identifier: Apache-2.0 AND BSD-3-Clause
+// The bitmap: calls on three bytes and on those that are lent, and sweeps over the counts 0 to 24 of the ranges from
+// one block on.
 use super::lines::Numbers;
 use super::lines::small;
 use super::show::end;
@@ -120,7 +122,8 @@ fn read(first: usize, count: usize, bytes: [u8; 3]) {
     number(b" ", bitmap::count_set(&bytes, first, count) as u64);
 }
 
-// Puts a range of the lent bytes, and tells how many blocks are plugged then, the lowest, and the lowest from another on.
+// Puts a range of the lent bytes, and tells how many blocks are plugged then, the lowest, and the lowest from another
+// on.
 fn put_lent(bitmap: &mut [u8], first: usize, count: usize, plugged: bool, from: usize) {
     bitmap::set_range(bitmap, first, count, plugged);
     number(

@@ -1,3 +1,4 @@
+// SPDX-License-Identifier: Apache-2.0 AND BSD-3-Clause
 // Raw descriptors, and what the chain makes of them, by itself and through a reader that holds the memory.
 use super::lines::Numbers;
 use super::lines::front;
@@ -94,7 +95,8 @@ fn deliver(name: &[u8], base: u64, status: u64) {
     show(&mem);
 }
 
-// The request or the reason, and the second descriptor, by a reader that holds the memory, which is at 4096 with its table.
+// The request or the reason, and the second descriptor, by a reader that holds the memory, which is at 4096 with its
+// table.
 fn show_read(mem: &[u8], head: u16) {
     number(b"head ", head as u64);
     let parsed = parse_chain(mem, GuestAddr(4096), GuestAddr(4096), head);

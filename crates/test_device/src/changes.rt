@@ -1,3 +1,4 @@
+// SPDX-License-Identifier: Apache-2.0 AND BSD-3-Clause
 // The tests (b), (c) and (d), and the state of a range.
 use super::lines::Numbers;
 use super::show::end;

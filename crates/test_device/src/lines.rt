@@ -1,3 +1,4 @@
+// SPDX-License-Identifier: Apache-2.0 AND BSD-3-Clause
 // Parts of a text, and the numbers of a line.
 
 // Where a byte stands first from a place on, or the text's end.

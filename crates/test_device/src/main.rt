@@ -1,13 +1,14 @@
-// Values on both sides of the edges, as tables: each line of data/ is a call of a part of the device, and what it prints is held
-// to the file stdout, whose lines were worked out by other means than this code.
+// SPDX-License-Identifier: Apache-2.0 AND BSD-3-Clause
+// Values on both sides of the edges, as tables: each line of data/ is a call of a part of the device, and what it
+// prints is held to the file stdout, whose lines were worked out by other means than this code.
 //
-// A line is NAME: COMMAND, or a COMMAND that is its own name. The first letter of a command says what it is, and its numbers count;
-// its words are for the reader. A command with a capital says what the calls stand on, and prints nothing. A line without a command
-// is printed by its name. A wrong letter shows as a line that stdout has not.
+// A line is NAME: COMMAND, or a COMMAND that is its own name. The first letter of a command says what it is, and its
+// numbers count; its words are for the reader. A command with a capital says what the calls stand on, and prints
+// nothing. A line without a command is printed by its name. A wrong letter shows as a line that stdout has not.
 //
-// bitmaps.txt asks the bitmap; chains.txt the chain; changes.txt the range test, the plug and unplug decision and the state;
-// placings.txt making, placing and size changes; servings.txt requests, discards and the config; values.txt the numbers, the
-// record's shape and the usable size.
+// bitmaps.txt asks the bitmap; chains.txt the chain; changes.txt the range test, the plug and unplug decision and the
+// state; placings.txt making, placing and size changes; servings.txt requests, discards and the config; values.txt the
+// numbers, the record's shape and the usable size.
 use lines::Numbers;
 use scene::Scene;
 

@@ -1,3 +1,4 @@
+// SPDX-License-Identifier: Apache-2.0 AND BSD-3-Clause
 // Making, placing, size changes and the answers to creations: each with its answer and the record then.
 use super::lines::Numbers;
 use super::lines::small;
@@ -49,7 +50,7 @@ fn show_answer(answer: Answer) {
         Answer::Wants(call) => show_call(call),
         Answer::Sized => word(b"sized"),
         Answer::Unserved(_) => word(b"unserved"),
-        Answer::Served(_, _) => word(b"served"),
+        Answer::Served(_) => word(b"served"),
         Answer::Done => word(b"done"),
     }
 }

@@ -1,4 +1,6 @@
-// What the calls of a file stand on: a device, how much of the bitmap and of the map table is lent to them, and guest memory.
+// SPDX-License-Identifier: Apache-2.0 AND BSD-3-Clause
+// What the calls of a file stand on: a device, how much of the bitmap and of the map table is lent to them, and guest
+// memory.
 use super::lines::Numbers;
 use super::lines::small;
 use making::Made;
@@ -182,8 +184,8 @@ fn device_command(scene: Scene, kind: u8, v: Numbers) -> Scene {
     }
 }
 
-// The commands that say what the calls stand on: blocks of the bitmap, a word of the map table, a slot, how much is lent, a
-// record, what is pending, and a device that was made.
+// The commands that say what the calls stand on: blocks of the bitmap, a word of the map table, a slot, how much is
+// lent, a record, what is pending, and a device that was made.
 pub fn command(
     scene: Scene,
     kind: u8,

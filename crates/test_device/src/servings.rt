@@ -1,3 +1,4 @@
+// SPDX-License-Identifier: Apache-2.0 AND BSD-3-Clause
 // Requests and discard answers: each with its answer and all that it leaves. Reads of the config.
 use super::lines::Numbers;
 use super::scene::Scene;
@@ -7,6 +8,7 @@ use super::show::print;
 use super::show::word;
 use record::HostCall;
 use step::Answer;
+use step::Reply;
 use units::GuestAddr;
 use units::HostAddr;
 
@@ -31,18 +33,21 @@ fn show_call(call: HostCall) {
     }
 }
 
+fn show_reply(reply: Reply) {
+    let resp = reply.response;
+    print(
+        b"resp=# state=# length=#",
+        &[resp.resp_type as u64, resp.state as u64, reply.used as u64],
+    );
+}
+
 fn show_answer(answer: Answer) {
     match answer {
         Answer::Refused(n) => number(b"refuse=", n),
         Answer::Wants(call) => show_call(call),
         Answer::Sized => word(b"sized"),
         Answer::Unserved(reason) => number(b"length=0 reason=", reason),
-        Answer::Served(resp, length) => {
-            print(
-                b"resp=# state=# length=#",
-                &[resp.resp_type as u64, resp.state as u64, length as u64],
-            );
-        }
+        Answer::Served(reply) => show_reply(reply),
         Answer::Done => word(b"done"),
     }
 }
@@ -59,7 +64,8 @@ fn show_left(plugged: u64, bitmap: &[u8], mem: &[u8]) {
     );
 }
 
-// Guest memory from 4096 on: a chain of two descriptors, a request at 64, and ones everywhere else, at 96 too, where the response goes.
+// Guest memory from 4096 on: a chain of two descriptors, a request at 64, and ones everywhere else, at 96 too, where
+// the response goes.
 fn laid(req_type: u64, addr: u64, blocks: u64, status: u64) -> [u8; 112] {
     let mut mem: [u8; 112] = [255; 112];
     little_endian::write_u64(&mut mem, 0, 4160);

@@ -1,3 +1,4 @@
+// SPDX-License-Identifier: Apache-2.0 AND BSD-3-Clause
 // What a line prints.
 use super::lines::front;
 use libc::STDOUT_FILENO;

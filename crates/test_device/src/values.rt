@@ -1,4 +1,6 @@
-// The numbers of the device at their limits, the shape of a record, and the usable size with its creation: a name and what comes of it.
+// SPDX-License-Identifier: Apache-2.0 AND BSD-3-Clause
+// The numbers of the device at their limits, the shape of a record, and the usable size with its creation: a name and
+// what comes of it.
 use super::lines::Numbers;
 use super::show::end;
 use super::show::number;

@@ -1,3 +1,4 @@
+// SPDX-License-Identifier: Apache-2.0 AND BSD-3-Clause
 // The calls.
 use super::memory::first_unseen;
 use super::scene::AVAILABLE;
@@ -37,6 +38,7 @@ use record::HostCall;
 use rings::Queue;
 use rings::Taken;
 use step::Answer;
+use step::Reply;
 use units::GuestAddr;
 use units::HostAddr;
 use words::Decoded;
@@ -156,19 +158,24 @@ fn told_call(scene: Scene, call: HostCall) -> Scene {
     }
 }
 
+fn told_reply(scene: Scene, reply: Reply) -> Scene {
+    let resp = reply.response;
+    told(
+        scene,
+        SERVED,
+        resp.resp_type as u64,
+        resp.state as u64,
+        reply.used as u64,
+    )
+}
+
 fn told_answer(scene: Scene, answer: Answer) -> Scene {
     match answer {
         Answer::Refused(number) => told(scene, REFUSED, number, 0, 0),
         Answer::Wants(call) => told_call(scene, call),
         Answer::Sized => told(scene, SIZED, scene[USABLE], scene[PLACED], scene[HOST]),
         Answer::Unserved(reason) => told(scene, UNSERVED, reason, 0, 0),
-        Answer::Served(resp, length) => told(
-            scene,
-            SERVED,
-            resp.resp_type as u64,
-            resp.state as u64,
-            length as u64,
-        ),
+        Answer::Served(reply) => told_reply(scene, reply),
         Answer::Done => told(scene, DONE, 0, 0, 0),
     }
 }

@@ -1,3 +1,4 @@
+// SPDX-License-Identifier: Apache-2.0 AND BSD-3-Clause
 // Calls on scenes of their own, with faults: a row has 1 at the number of each refusal that there is a reason for.
 use super::calls::Call;
 use super::calls::make;
@@ -18,8 +19,8 @@ use super::scene::TAKEN;
 use super::scene::TO;
 use super::scene::fresh;
 
-// Block 0 is plugged. With faults the plugged size is no multiple of the block size, the bitmap is a byte short, and the memory ends
-// a byte before the used ring does.
+// Block 0 is plugged. With faults the plugged size is no multiple of the block size, the bitmap is a byte short, and
+// the memory ends a byte before the used ring does.
 fn faulty(shape: u64, short: u64, outside: u64) -> Scene {
     let mut s = fresh();
     s[BLOCKS] = 1;

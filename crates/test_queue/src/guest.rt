@@ -1,3 +1,4 @@
+// SPDX-License-Identifier: Apache-2.0 AND BSD-3-Clause
 // What the guest writes: descriptors, requests and the available ring.
 use super::memory::clear;
 use super::memory::put_u16;

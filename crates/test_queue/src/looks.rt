@@ -1,3 +1,4 @@
+// SPDX-License-Identifier: Apache-2.0 AND BSD-3-Clause
 // Looks at what a call left.
 use super::memory::get_u16;
 use super::memory::get_u64;

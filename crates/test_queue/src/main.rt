@@ -1,12 +1,14 @@
-// Calls on the queue, as a table. Each row of data/queue.txt is a command and, behind an arrow, the answer that the rules (R13)
-// give, worked out by hand. A row that gets another answer is printed with it, and so is a row that is no command. A line with a
-// colon is a heading. The first lines are forms, each behind its key: of a command, its first letter, or of an answer.
+// SPDX-License-Identifier: Apache-2.0 AND BSD-3-Clause
+// Calls on the queue, as a table. Each row of data/queue.txt is a command and, behind an arrow, the answer that
+// documents 01 and 02 give, worked out by hand. A row that gets another answer is printed with it, and so is a row that
+// is no command. A line with a colon is a heading. The first lines are forms, each behind its key: of a command, its
+// first letter, or of an answer.
 //
-// A command with a capital says what the calls stand on, and has no answer. `serve` takes the next head, and `host` is the host's
-// answer; `taking` and `answering` are the same with faults, and `make` is many requests; the others look at what a call left.
-// A call that is refused, or finds no head, is to change nothing of the record, the queue, the blocks, the map table's row and the
-// memory, or its answer is `changed`. What any other call writes into the memory has to be looked at before the next: a byte that
-// no row looked at is printed too.
+// A command with a capital says what the calls stand on, and has no answer. `serve` takes the next head, and `host` is
+// the host's answer; `taking` and `answering` are the same with faults, and `make` is many requests; the others look at
+// what a call left. A call that is refused, or finds no head, is to change nothing of the record, the queue, the
+// blocks, the map table's row and the memory, or its answer is `changed`. What any other call writes into the memory
+// has to be looked at before the next: a byte that no row looked at is printed too.
 use calls::Call;
 use little_endian::from;
 use memory::first_unseen;

@@ -1,5 +1,7 @@
-// Requests one after the other, each looked at when its head is reported. Request n has the head 0, 2 or 4, by n modulo 3, so that
-// an entry of the rings, n modulo 128, never gets the same head twice in a row; the head 4 is no request, and its length is 0.
+// SPDX-License-Identifier: Apache-2.0 AND BSD-3-Clause
+// Requests one after the other, each looked at when its head is reported. Request n has the head 0, 2 or 4, by n modulo
+// 3, so that an entry of the rings, n modulo 128, never gets the same head twice in a row; the head 4 is no request,
+// and its length is 0.
 use super::calls::Call;
 use super::calls::made;
 use super::guest::offer;

@@ -1,5 +1,6 @@
-// What the calls stand on, as words: the record's 15 and the queue's 6 as the library has them, the row of the map table, the blocks,
-// what is lent, and what the last command told.
+// SPDX-License-Identifier: Apache-2.0 AND BSD-3-Clause
+// What the calls stand on, as words: the record's 15 and the queue's 6 as the library has them, the row of the map
+// table, the blocks, what is lent, and what the last command told.
 use std::num::wrapping_sub_u64;
 
 pub type Scene = [u64; 36];
@@ -55,7 +56,8 @@ pub const HOST: usize = 23;
 // Blocks 0 to 63, a bit each.
 pub const BLOCKS: usize = 24;
 
-// The bytes FROM to TO of the memory are lent, the first of them at BASE. A guest address stands SHIFT on in the memory, modulo 2^64.
+// The bytes FROM to TO of the memory are lent, the first of them at BASE. A guest address stands SHIFT on in the
+// memory, modulo 2^64.
 pub const BASE: usize = 25;
 
 pub const FROM: usize = 26;
@@ -110,8 +112,9 @@ pub const RESPONSE: u8 = b'+';
 
 pub const REQUESTS: u8 = b'-';
 
-// A device of 256 MiB at 4 GiB with one region, placed and mapped: 16 MiB are requested, all is usable and nothing is plugged. Memory
-// of 4096 bytes at 4096: the descriptors at its start, the available ring at 6144, the used ring at 6656 and room from 7686 on.
+// A device of 256 MiB at 4 GiB with one region, placed and mapped: 16 MiB are requested, all is usable and nothing is
+// plugged. Memory of 4096 bytes at 4096: the descriptors at its start, the available ring at 6144, the used ring at
+// 6656 and room from 7686 on.
 pub fn fresh() -> Scene {
     let mut s = [0u64; 36];
     s[BLOCK_SIZE] = 4194304;

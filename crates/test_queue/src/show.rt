@@ -1,3 +1,4 @@
+// SPDX-License-Identifier: Apache-2.0 AND BSD-3-Clause
 // What is printed.
 use super::scene::BLOCKS;
 use super::scene::FIRST;
@@ -21,7 +22,8 @@ pub fn number(name: &[u8], n: u64) {
     io::print_decimal(STDOUT_FILENO, n);
 }
 
-// The numbers of what was told and, of a call, how it left the queue and the blocks: an unserved chain has one, all others three.
+// The numbers of what was told and, of a call, how it left the queue and the blocks: an unserved chain has one, all
+// others three.
 fn numbers_of(s: Scene) -> [u64; 8] {
     if s[TOLD] == UNSERVED as u64 {
         return [

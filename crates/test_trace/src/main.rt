@@ -1,17 +1,20 @@
-// Runs traces whose answers are known, and compares. A file of data/ has a block for each trace: its lines, a line `--`, its
-// answers, and an empty line. In an answer `*` stands for any value of a field.
+// SPDX-License-Identifier: Apache-2.0 AND BSD-3-Clause
+// Runs traces whose answers are known, and compares. A file of data/ has a block for each trace: its lines, a line
+// `--`, its answers, and an empty line. In an answer `*` stands for any value of a field.
 //
-// traces.txt has what mem.rs answers: first to the whole example and the edges W1 to W11, then to random traces, each up to
-// the first unplug-all that is refused. parts.txt has plugs in one request and the same in parts, with what mem.rs answers
-// (R16). amended.txt goes on behind a refused unplug-all, where the rules depart from mem.rs: its answers were worked out by a
-// model of the rules. recorded.txt has requests that Linux's driver made in a guest of QEMU, and the fields of QEMU's answers
-// that may be compared. edges.txt has the edges of a line's form: its answers were read against R12.
+// traces.txt has what mem.rs answers: first to document 01's example and its edges W1 to W11, then to random traces,
+// each up to the first unplug-all that is refused. parts.txt has plugs in one request and the same in parts, with what
+// mem.rs answers (request 10/12). amended.txt goes on behind a refused unplug-all, where document 02 departs from
+// mem.rs: its answers were worked out by a model of both documents. recorded.txt has requests that Linux's driver made
+// in a guest of QEMU, and the fields of QEMU's answers that may be compared. edges.txt has the edges of a line's form:
+// its answers were read against document 01.
 use libc::STDOUT_FILENO;
 use trace_run::Run;
 use trace_run::first_bytes;
 use trace_run::serve;
 
-// Where the lines of a block stand: the run, the bytes of a line, the bytes of the answers, and whether `--` has been read.
+// Where the lines of a block stand: the run, the bytes of a line, the bytes of the answers, and whether `--` has been
+// read.
 struct State {
     run: Run,
     filled: usize,
@@ -25,8 +28,8 @@ struct Ran {
     answered: usize,
 }
 
-// Where the comparison stands: where the known line and the run's line start, at which byte of the run's it is, whether the known
-// line has a byte yet, whether the lines are the same so far, and whether all before them were.
+// Where the comparison stands: where the known line and the run's line start, at which byte of the run's it is, whether
+// the known line has a byte yet, whether the lines are the same so far, and whether all before them were.
 struct Cursor {
     known: usize,
     given: usize,

@@ -1,3 +1,4 @@
+-- SPDX-License-Identifier: Apache-2.0 AND BSD-3-Clause
 -- `test_device::run_lines` is safe and ends: the slices keep their lengths, and the measure is what is left of the text.
 use Prim.Native.Nat.{_-_}
 use native.Mathlib.Omega.{arith}

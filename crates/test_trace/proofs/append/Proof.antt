@@ -1,3 +1,4 @@
+-- SPDX-License-Identifier: Apache-2.0 AND BSD-3-Clause
 -- `test_trace::append` is safe and ends: invariant: the answers keep their room. The measure is what is left of what was printed.
 --
 use Prim.Native.Nat.{_-_}

@@ -1,3 +1,4 @@
+-- SPDX-License-Identifier: Apache-2.0 AND BSD-3-Clause
 -- `test_trace::run_lines` is safe and ends: invariant: the slices keep their lengths. The measure is what is left of the text.
 --
 use Prim.Native.Nat.{_-_}

@@ -1,3 +1,4 @@
+-- SPDX-License-Identifier: Apache-2.0 AND BSD-3-Clause
 -- `test_device::lines::front` is safe: the front is as long as was asked, where the text is longer.
 use mathlib.Core.Path.{sym}
 use native.Mathlib.Omega.{arith}

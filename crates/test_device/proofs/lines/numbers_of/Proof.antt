@@ -1,3 +1,4 @@
+-- SPDX-License-Identifier: Apache-2.0 AND BSD-3-Clause
 -- `test_device::lines::numbers_of` is safe and ends: the measure is what is left of the line.
 use Prim.Native.Nat.{_-_}
 use lib.ListN.{length}

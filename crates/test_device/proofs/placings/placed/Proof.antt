@@ -1,3 +1,4 @@
+-- SPDX-License-Identifier: Apache-2.0 AND BSD-3-Clause
 -- `test_device::placings::placed` is safe: there are so many slots.
 use mathlib.Core.Path.{sym}
 use native.Mathlib.Omega.{arith}

@@ -1,3 +1,4 @@
+-- SPDX-License-Identifier: Apache-2.0 AND BSD-3-Clause
 -- `test_queue::memory::first_unseen` is safe and ends: the measure is how many bytes are left.
 use Prim.Native.Nat.{_-_}
 use borrow.Author.Needs.{needs}
