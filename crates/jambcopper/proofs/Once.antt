@@ -5,7 +5,7 @@ use mathlib.Core.List.{List}
 use lib.ListN.{getD}
 use Rattle.step.specs.World.{Outcome, Call}
 use Rattle.step.specs.Step.{step}
-use Rattle.step.specs.Promise.{Lent, on, guestIn, leftBy}
+use Rattle.step.specs.Promise.{Lent, on, leftBy}
 use Rattle.step.proofs.Once.{leaves-once}
 use Rattle.rings.specs.declared.Queue.{Queue}
 use Rattle.queue.specs.Queue.{QueueOutcome, leftByQueue}
@@ -76,14 +76,14 @@ module _ (entry exit exit′ : QueueHanded) (n n′ : ℕ)
       let others = foreign-once (entry .others) (exit .others) (exit′ .others) n n′ b b′ (p .others) (q .others) in
       (same-queue-handed exit exit′ (p .queued ∙ sym (q .queued)) (others .0), others .1)
 
-  queue-called-once : (r : Decoded) (x : DecodedQueue) (call : QueueStep) (base : ℕ)
-      → QueueCalled r x call base entry exit n → QueueCalled r x call base entry exit′ n′ → (exit ≡ exit′) × (n ≡ n′)
+  queue-called-once : (r : Decoded) (x : DecodedQueue) (call : QueueStep)
+      → QueueCalled r x call entry exit n → QueueCalled r x call entry exit′ n′ → (exit ≡ exit′) × (n ≡ n′)
   unfolding QueueCalled
-  queue-called-once (Is d) (IsQueue q) call base p p′ =
-      queue-told-once (call (on d (entry .others .slices)) q (guestIn (entry .others .slices) base)) p p′
-  queue-called-once (Is d) NoQueue call base p p′ = queue-foreign-once p p′
-  queue-called-once NoRecord x call base p p′ = queue-foreign-once p p′
+  queue-called-once (Is d) (IsQueue q) call p p′ =
+      queue-told-once (call (entry .others .slices) (on d (entry .others .slices)) q) p p′
+  queue-called-once (Is d) NoQueue call p p′ = queue-foreign-once p p′
+  queue-called-once NoRecord x call p p′ = queue-foreign-once p p′
 
-  pub queue-exported-once : (call : QueueStep) (base : ℕ) → QueueExported call base entry exit n → QueueExported call base entry exit′ n′ → (exit ≡ exit′) × (n ≡ n′)
-  queue-exported-once call base p q =
-      queue-called-once (decodedOf (entry .others .words)) (decodedQueueOf (entry .queue)) call base p q
+  pub queue-exported-once : (call : QueueStep) → QueueExported call entry exit n → QueueExported call entry exit′ n′ → (exit ≡ exit′) × (n ≡ n′)
+  queue-exported-once call p q =
+      queue-called-once (decodedOf (entry .others .words)) (decodedQueueOf (entry .queue)) call p q

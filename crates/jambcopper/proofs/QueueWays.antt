@@ -16,7 +16,7 @@ use Rattle.step.specs.declared.Answer.{Answer}
 use Rattle.step.specs.declared.Answer.the-variants.{Refused, Wants, Sized, Unserved, Served, Done}
 use Rattle.step.specs.World.{Outcome, Call}
 use Rattle.step.specs.Step.{step}
-use Rattle.step.specs.Promise.{Lent, lent, on, guestIn}
+use Rattle.step.specs.Promise.{Lent, lent, on}
 use Rattle.step.specs.Answers.{answerWords}
 use Rattle.step.proofs.Lengths.{Short}
 use Rattle.queue.specs.declared.QueueAnswer.{QueueAnswer}
@@ -50,7 +50,7 @@ put-whole xs ys e =
     let sum : 0 + length ys ≡ length ys = omega arith in
     put-fits xs 0 ys (omega arith) ∙ rw (sum, none) (append-nil ys)
 
-module _ (call : QueueStep) (base : ℕ) (words queue : List ℕ) (r : Decoded) (e : r ≡ decodedOf words) (d : Device) (f : r ≡ Is d)
+module _ (call : QueueStep) (words queue : List ℕ) (r : Decoded) (e : r ≡ decodedOf words) (d : Device) (f : r ≡ Is d)
     (x : DecodedQueue) (h : x ≡ decodedQueueOf queue) (q : Queue) (i : x ≡ IsQueue q) where
   is : decodedOf words ≡ Is d
   is = sym e ∙ f
@@ -60,9 +60,9 @@ module _ (call : QueueStep) (base : ℕ) (words queue : List ℕ) (r : Decoded) 
 
   -- a call that takes no head and changes nothing: only the answer is written
   pub unmoved-told : (t : QueueAnswer) (answer answer′ : List ℕ) (l : Lent) (number : ℕ)
-      → call (on d l) q (guestIn l base) ≡ unmoved t (on d l) q (l .bytes)
+      → call l (on d l) q ≡ unmoved t (on d l) q (l .bytes)
       → (number ≡ queueNumberOf t) × (answer′ ≡ put answer 0 (queueAnswerWords t))
-      → QueueExported call base (queueHanded queue (handed words answer l)) (queueHanded queue (handed words answer′ l)) number
+      → QueueExported call (queueHanded queue (handed words answer l)) (queueHanded queue (handed words answer′ l)) number
   unfolding QueueCalled
   unmoved-told t answer answer′ l number same told =
       rw (is, is-queue, same)
@@ -87,8 +87,8 @@ module _ (call : QueueStep) (base : ℕ) (words queue : List ℕ) (r : Decoded) 
     tells = rw is at kept
 
     -- that is about no head: its answer is the call's
-    pub aside-told : call (on d before) q (guestIn before base) ≡ aside q outcome
-        → QueueExported call base (queueHanded queue (handed words told before)) (queueHanded queue (handed words′ told′ after)) number
+    pub aside-told : call before (on d before) q ≡ aside q outcome
+        → QueueExported call (queueHanded queue (handed words told before)) (queueHanded queue (handed words′ told′ after)) number
     unfolding QueueCalled
     aside-told same =
         rw (is, is-queue, same)
@@ -103,13 +103,13 @@ module _ (call : QueueStep) (base : ℕ) (words queue : List ℕ) (r : Decoded) 
         })
 
     -- that is about a head: its ending is read from its nine words, which are passed on
-    pub about-told : length told ≡ 9 → Short (outcome .answer) → (head : ℕ) (was out : Queue)
-        → call (on d before) q (guestIn before base) ≡ about head base was out outcome
+    pub about-told : length told ≡ 9 → Short (outcome .answer) → (head base : ℕ) (was out : Queue)
+        → call before (on d before) q ≡ about head base was out outcome
         → (ending : Ending) → ending ≡ endingWords told′ → (now : Queue) (queue′ answer answer′ bytes′ : List ℕ) → Settles ending head base was out (after .bytes) now bytes′
         → (queue′ ≡ put queue 0 (queueWords now)) × (6 ≤ length queue → decodedQueueOf queue′ ≡ IsQueue now) → answer′ ≡ put answer 0 told′
-        → QueueExported call base (queueHanded queue (handed words answer before)) (queueHanded queue′ (handed words′ answer′ (lent (after .bitmap) (after .table) bytes′))) number
+        → QueueExported call (queueHanded queue (handed words answer before)) (queueHanded queue′ (handed words′ answer′ (lent (after .bitmap) (after .table) bytes′))) number
     unfolding QueueCalled
-    about-told room short head was out same ending ending-is now queue′ answer answer′ bytes′ settled written passed =
+    about-told room short head base was out same ending ending-is now queue′ answer answer′ bytes′ settled written passed =
         let a = outcome .answer in
         let said : told′ ≡ answerWords a = tells .told ∙ put-whole told (answerWords a) (room ∙ sym (nine a)) in
         let ends : ending ≡ endingOf a = ending-is ∙ ap endingWords said ∙ ending-told a short in
@@ -126,23 +126,23 @@ module _ (call : QueueStep) (base : ℕ) (words queue : List ℕ) (r : Decoded) 
         })
 
 -- no record: only the answer is written
-pub no-record : (call : QueueStep) (base : ℕ) (words queue : List ℕ) (r : Decoded) → r ≡ decodedOf words → r ≡ NoRecord
+pub no-record : (call : QueueStep) (words queue : List ℕ) (r : Decoded) → r ≡ decodedOf words → r ≡ NoRecord
     → (answer answer′ : List ℕ) (l : Lent) (number : ℕ)
     → (number ≡ 12) × (answer′ ≡ put answer 0 (answerWords (Refused 12)))
-    → QueueExported call base (queueHanded queue (handed words answer l)) (queueHanded queue (handed words answer′ l)) number
+    → QueueExported call (queueHanded queue (handed words answer l)) (queueHanded queue (handed words answer′ l)) number
 unfolding QueueCalled
-no-record call base words queue r e f answer answer′ l number t =
+no-record call words queue r e f answer answer′ l number t =
     let is : decodedOf words ≡ NoRecord = sym e ∙ f in
     rw is (record { others = record { numbered = t .0; told = t .1; recorded = refl; untouched = refl }; queued = refl })
 
 -- a record and no queue: so too
-pub no-queue : (call : QueueStep) (base : ℕ) (words queue : List ℕ) (r : Decoded) → r ≡ decodedOf words → (d : Device) → r ≡ Is d
+pub no-queue : (call : QueueStep) (words queue : List ℕ) (r : Decoded) → r ≡ decodedOf words → (d : Device) → r ≡ Is d
     → (x : DecodedQueue) → x ≡ decodedQueueOf queue → x ≡ NoQueue
     → (answer answer′ : List ℕ) (l : Lent) (number : ℕ)
     → (number ≡ 12) × (answer′ ≡ put answer 0 (answerWords (Refused 12)))
-    → QueueExported call base (queueHanded queue (handed words answer l)) (queueHanded queue (handed words answer′ l)) number
+    → QueueExported call (queueHanded queue (handed words answer l)) (queueHanded queue (handed words answer′ l)) number
 unfolding QueueCalled
-no-queue call base words queue r e d f x h i answer answer′ l number t =
+no-queue call words queue r e d f x h i answer answer′ l number t =
     let is : decodedOf words ≡ Is d = sym e ∙ f in
     let is-none : decodedQueueOf queue ≡ NoQueue = sym h ∙ i in
     rw (is, is-none) (record { others = record { numbered = t .0; told = t .1; recorded = refl; untouched = refl }; queued = refl })

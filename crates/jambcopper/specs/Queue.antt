@@ -1,22 +1,22 @@
 -- What an exported call on a queue leaves in the slices that it was lent: what the queue's call ends in, as words.
 use Prim.Native.Nat.{ℕ}
 use mathlib.Core.Path.{_≡_}
-use mathlib.Core.Bool.{cond}
+use mathlib.Core.Bool.{Bool, cond}
 use mathlib.Core.List.{List}
 use lib.Dec.{leb}
 use lib.ListN.{length}
 use Rattle.little_endian.specs.Bytes.{put}
 use Rattle.rings.specs.declared.Queue.{Queue}
 use Rattle.rings.specs.declared.Taken.the-variants.{Nothing}
-use Rattle.queue.specs.Queue.{QueueOutcome, queueAnswerWords, queueNumberOf, leftByQueue}
+use Rattle.queue.specs.Queue.{QueueOutcome, serveNext, hostAnswers, queueAnswerWords, queueNumberOf, leftByQueue}
 use Rattle.words.specs.declared.Decoded.{Decoded}
 use Rattle.words.specs.declared.Decoded.the-variants.{Is, NoRecord}
 use Rattle.words.specs.Record.{wordsOf, decodedOf}
 use Rattle.queue_words.specs.declared.DecodedQueue.{DecodedQueue}
 use Rattle.queue_words.specs.declared.DecodedQueue.the-variants.{Is as IsQueue, NoQueue}
 use Rattle.queue_words.specs.Words.{queueWords, decodedQueueOf}
-use Rattle.step.specs.World.{World, Guest}
-use Rattle.step.specs.Promise.{on, guestIn, Leaves}
+use Rattle.step.specs.World.{World}
+use Rattle.step.specs.Promise.{Lent, on, guestIn, Leaves}
 use Rattle.jambcopper.specs.Exports.{Handed, Foreign}
 
 -- ---- making
@@ -46,9 +46,15 @@ pub record QueueHanded : Type 0 where
 abbrev pub queueHanded : (queue : List ℕ) → Handed → QueueHanded
 queueHanded queue others = record { queue = queue; others = others }
 
--- a call on a queue, on the world and the guest memory that it finds
+-- a call on a queue, of what is lent: from a world and a queue to its outcome
 abbrev pub QueueStep : Type 0
-QueueCall = World → Queue → Guest → QueueOutcome
+QueueStep = Lent → World → Queue → QueueOutcome
+
+abbrev pub serveOn : (base : ℕ) → QueueStep
+serveOn base l w q = serveNext w q (guestIn l base)
+
+abbrev pub serveAnswerOn : (base : ℕ) (ok : Bool) (host : ℕ) → QueueStep
+serveAnswerOn base ok host l w q = hostAnswers w q (guestIn l base) ok host
 
 -- the call's outcome: its number, and all that it leaves; the next call goes on from the outcome's record and queue
 pub record QueueTold (o : QueueOutcome) (entry exit : QueueHanded) (number : ℕ) : Type 0 where
@@ -66,13 +72,13 @@ pub record QueueForeign (entry exit : QueueHanded) (number : ℕ) : Type 0 where
   pub queued : exit .queue ≡ entry .queue
 
 -- a call on what the words mean
-unfoldable pub QueueCalled : Decoded → DecodedQueue → QueueStep → (base : ℕ) (entry exit : QueueHanded) → ℕ → Type 0
-QueueCalled (Is d) (IsQueue q) call base entry exit number =
-    QueueTold (call (on d (entry .others .slices)) q (guestIn (entry .others .slices) base)) entry exit number
-QueueCalled (Is d) NoQueue call base entry exit number = QueueForeign entry exit number
-QueueCalled NoRecord r call base entry exit number = QueueForeign entry exit number
+unfoldable pub QueueCalled : Decoded → DecodedQueue → QueueStep → (entry exit : QueueHanded) → ℕ → Type 0
+QueueCalled (Is d) (IsQueue q) call entry exit number =
+    QueueTold (call (entry .others .slices) (on d (entry .others .slices)) q) entry exit number
+QueueCalled (Is d) NoQueue call entry exit number = QueueForeign entry exit number
+QueueCalled NoRecord r call entry exit number = QueueForeign entry exit number
 
--- the call, on what was handed in and the guest memory from `base` on, tells what the queue's definition says
-abbrev pub QueueExported : QueueStep → (base : ℕ) (entry exit : QueueHanded) → ℕ → Type 0
-QueueExported call base entry exit number =
-    QueueCalled (decodedOf (entry .others .words)) (decodedQueueOf (entry .queue)) call base entry exit number
+-- the call, on what was handed in, tells what the queue's definition says
+abbrev pub QueueExported : QueueStep → (entry exit : QueueHanded) → ℕ → Type 0
+QueueExported call entry exit number =
+    QueueCalled (decodedOf (entry .others .words)) (decodedQueueOf (entry .queue)) call entry exit number

@@ -51,12 +51,11 @@ ghost use mathlib.Core.List.{[]};
 ghost use Rattle.bitmap.specs.Blocks.{blocks};
 ghost use Rattle.making.specs.Made.{made};
 ghost use Rattle.step.specs.Promise.{lent, placeOn, resizeOn, requestOn, answerOn, readOn, writeOn};
-ghost use Rattle.queue.specs.Queue.{serveNext, hostAnswers};
 ghost use Rattle.driver.specs.Text.{Wrote};
 ghost use Rattle.driver_words.specs.Told.{ResponseTold, ConfigTold, PlanTold};
 ghost use Rattle.save_words.specs.Told.{lengthFrom, WroteTold, SaveTold, RestoreTold, ToNewTold, ToOldTold};
 ghost use Rattle.jambcopper.specs.Exports.{nodeOf, MadeIn, handed, Exported};
-ghost use Rattle.jambcopper.specs.Queue.{newQueue, QueueMadeIn, queueHanded, QueueExported};
+ghost use Rattle.jambcopper.specs.Queue.{newQueue, QueueMadeIn, queueHanded, serveOn, serveAnswerOn, QueueExported};
 
 // The node of a device, as the enum of its constructor has it.
 fn node_of(node_given: bool, node: u16) -> Node
@@ -258,7 +257,7 @@ pub extern "C" fn jambcopper_serve(
     answer: &mut [u64],
 ) -> u64
     ensures { λ r. ⌜
-        QueueExported serveNext base
+        QueueExported (serveOn base)
         (queueHanded (now (queue .entry)) (handed (now (words .entry)) (now (answer .entry))
         (lent (now (bitmap .entry)) (now (table .entry)) (now (mem .entry)))))
         (queueHanded (now (queue .exit)) (handed (now (words .exit)) (now (answer .exit))
@@ -309,7 +308,7 @@ pub extern "C" fn jambcopper_serve_answer(
     answer: &mut [u64],
 ) -> u64
     ensures { λ r. ⌜
-        QueueExported (λ w q g. hostAnswers w q g ok host) base
+        QueueExported (serveAnswerOn base ok host)
         (queueHanded (now (queue .entry)) (handed (now (words .entry)) (now (answer .entry))
         (lent (now (bitmap .entry)) (now (table .entry)) (now (mem .entry)))))
         (queueHanded (now (queue .exit)) (handed (now (words .exit)) (now (answer .exit))

@@ -5,7 +5,8 @@ use denote.Ref.{now}
 use denote.Triple.Clauses.{AtExit}
 use borrow.Fn.Kinds.{Dens, resT, endedOf}
 use Rattle.making.specs.Made.{made}
-use Rattle.jambcopper.specs.Exports.{nodeOf, MadeIn, lent}
+use Rattle.step.specs.Promise.{lent}
+use Rattle.jambcopper.specs.Exports.{nodeOf, MadeIn, handed}
 use Rattle.jambcopper.proofs.jambcopper_make.Kinds.{ps as make-ps, r as make-r}
 use Rattle.jambcopper.proofs.jambcopper_make.Reads.{Learnt as Make-learnt}
 use Rattle.jambcopper.proofs.jambcopper_place.Kinds.{ps as place-ps, r as place-r}
@@ -31,8 +32,8 @@ pub place-promises : (κs : Lfts 5) (a : Dens κs place-ps) (z : resT place-r κ
     → Promised
     (record {
       function = «jambcopper_place» (a .1 .1 .1 .0) (a .1 .1 .1 .1 .0) (now (a .1 .1 .1 .1 .1 .0));
-      before = lent (now (a .0)) (now (a .1 .1 .1 .1 .1 .1 .0)) (now (a .1 .0)) (now (a .1 .1 .0)) [];
-      after = lent (now (e .0)) (now (e .1 .1 .1 .1 .1 .1 .0)) (now (e .1 .0)) (now (e .1 .1 .0)) [];
+      before = handed (now (a .0)) (now (a .1 .1 .1 .1 .1 .1 .0)) (lent (now (a .1 .0)) (now (a .1 .1 .0)) []);
+      after = handed (now (e .0)) (now (e .1 .1 .1 .1 .1 .1 .0)) (lent (now (e .1 .0)) (now (e .1 .1 .0)) []);
       number = z;
     })
 unfolding callBy
@@ -42,8 +43,8 @@ pub size-promises : (κs : Lfts 4) (a : Dens κs size-ps) (z : resT size-r κs .
     → Promised
     (record {
       function = «jambcopper_set_requested_size» (a .1 .1 .1 .0);
-      before = lent (now (a .0)) (now (a .1 .1 .1 .1 .0)) (now (a .1 .0)) (now (a .1 .1 .0)) [];
-      after = lent (now (e .0)) (now (e .1 .1 .1 .1 .0)) (now (a .1 .0)) (now (a .1 .1 .0)) [];
+      before = handed (now (a .0)) (now (a .1 .1 .1 .1 .0)) (lent (now (a .1 .0)) (now (a .1 .1 .0)) []);
+      after = handed (now (e .0)) (now (e .1 .1 .1 .1 .0)) (lent (now (a .1 .0)) (now (a .1 .1 .0)) []);
       number = z;
     })
 unfolding callBy
@@ -53,8 +54,8 @@ pub request-promises : (κs : Lfts 5) (a : Dens κs request-ps) (z : resT reques
     → Promised
     (record {
       function = «jambcopper_request» (a .1 .1 .1 .1 .0) (a .1 .1 .1 .1 .1 .0) (a .1 .1 .1 .1 .1 .1 .0);
-      before = lent (now (a .0)) (now (a .1 .1 .1 .1 .1 .1 .1 .0)) (now (a .1 .0)) (now (a .1 .1 .0)) (now (a .1 .1 .1 .0));
-      after = lent (now (e .0)) (now (e .1 .1 .1 .1 .1 .1 .1 .0)) (now (e .1 .0)) (now (a .1 .1 .0)) (now (e .1 .1 .1 .0));
+      before = handed (now (a .0)) (now (a .1 .1 .1 .1 .1 .1 .1 .0)) (lent (now (a .1 .0)) (now (a .1 .1 .0)) (now (a .1 .1 .1 .0)));
+      after = handed (now (e .0)) (now (e .1 .1 .1 .1 .1 .1 .1 .0)) (lent (now (e .1 .0)) (now (a .1 .1 .0)) (now (e .1 .1 .1 .0)));
       number = z;
     })
 unfolding callBy
@@ -64,8 +65,8 @@ pub answer-promises : (κs : Lfts 5) (a : Dens κs answer-ps) (z : resT answer-r
     → Promised
     (record {
       function = «jambcopper_host_answer» (a .1 .1 .1 .1 .0) (a .1 .1 .1 .1 .1 .0) (a .1 .1 .1 .1 .1 .1 .0);
-      before = lent (now (a .0)) (now (a .1 .1 .1 .1 .1 .1 .1 .0)) (now (a .1 .0)) (now (a .1 .1 .0)) (now (a .1 .1 .1 .0));
-      after = lent (now (e .0)) (now (e .1 .1 .1 .1 .1 .1 .1 .0)) (now (e .1 .0)) (now (e .1 .1 .0)) (now (e .1 .1 .1 .0));
+      before = handed (now (a .0)) (now (a .1 .1 .1 .1 .1 .1 .1 .0)) (lent (now (a .1 .0)) (now (a .1 .1 .0)) (now (a .1 .1 .1 .0)));
+      after = handed (now (e .0)) (now (e .1 .1 .1 .1 .1 .1 .1 .0)) (lent (now (e .1 .0)) (now (e .1 .1 .0)) (now (e .1 .1 .1 .0)));
       number = z;
     })
 unfolding callBy
@@ -76,8 +77,8 @@ pub read-promises : (κs : Lfts 2) (a : Dens κs read-ps) (z : resT read-r κs .
     → Promised
     (record {
       function = «jambcopper_read_config» (a .1 .0);
-      before = lent (now (a .0)) [] [] [] (now (a .1 .1 .0));
-      after = lent (now (a .0)) [] [] [] (now (e .1 .1 .0));
+      before = handed (now (a .0)) [] (lent [] [] (now (a .1 .1 .0)));
+      after = handed (now (a .0)) [] (lent [] [] (now (e .1 .1 .0)));
       number = z;
     })
 unfolding callBy
@@ -87,8 +88,8 @@ pub write-promises : (κs : Lfts 2) (a : Dens κs write-ps) (z : resT write-r κ
     → Promised
     (record {
       function = «jambcopper_write_config» (a .1 .0);
-      before = lent (now (a .0)) [] [] [] (now (a .1 .1 .0));
-      after = lent (now (a .0)) [] [] [] (now (a .1 .1 .0));
+      before = handed (now (a .0)) [] (lent [] [] (now (a .1 .1 .0)));
+      after = handed (now (a .0)) [] (lent [] [] (now (a .1 .1 .0)));
       number = z;
     })
 unfolding callBy

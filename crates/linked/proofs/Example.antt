@@ -21,8 +21,9 @@ use Rattle.step.specs.Step.{tablesFit, readyRefusal, unplacedRefusal, pendingRe
 use Rattle.making.specs.Made.{made}
 use Rattle.words.specs.Record.{wordsOf, pendingOf, pendingFits, isRecord, recordOf, decodedOf}
 use Rattle.making.specs.Made.{madeNumber}
-use Rattle.jambcopper.specs.Exports.{lent, madeWords, Called}
-use Rattle.history.specs.History.{PlugAck, NoRequest, ackToType, ackToRequest, ackToHost, acknowledges, discardOf, reports, ifAck, unlessRefused, eventsOf, openedByType, openedByRequest, goesOn, openedBy, askedBy, openAfter, Told}
+use Rattle.step.specs.Promise.{lent}
+use Rattle.jambcopper.specs.Exports.{handed, madeWords, Called}
+use Rattle.history.specs.History.{PlugAck, NoRequest, ackToType, ackToRequest, ackToHost, acknowledges, discardOf, reports, ifAck, unlessRefused, eventsOf, openedByType, openedByRequest, goesOn, openedBy, askedBy, openAfter, Demand3}
 use Rattle.history.proofs.Shaped.{clash}
 use Rattle.linked.specs.Runs.{«jambcopper_place», «jambcopper_set_requested_size», «jambcopper_request», «jambcopper_host_answer», «jambcopper_read_config»}
 use Rattle.linked.specs.Runs.{Use, callBy, inUse, onTables, newTables, holding, Run, heldAfter, Making, Makes, first, inHand}
@@ -57,54 +58,54 @@ uses =
     -- refused with 5
     record {
       function = «jambcopper_set_requested_size» 20;
-      before = lent (record-words 0 0 0 0 0) (zeros 9) (1 ∷ 2 ∷ 3 ∷ []) (4 ∷ []) [];
-      after = lent (record-words 0 0 0 0 0) (0 ∷ 5 ∷ zeros 7) (1 ∷ 2 ∷ 3 ∷ []) (4 ∷ []) [];
+      before = handed (record-words 0 0 0 0 0) (zeros 9) (lent (1 ∷ 2 ∷ 3 ∷ []) (4 ∷ []) []);
+      after = handed (record-words 0 0 0 0 0) (0 ∷ 5 ∷ zeros 7) (lent (1 ∷ 2 ∷ 3 ∷ []) (4 ∷ []) []);
       number = 5;
     }
     -- a creation is asked for; the tables that are lent hold anything
     ∷ record {
       function = «jambcopper_place» 8589934592 268435456 (9 ∷ []);
-      before = lent (record-words 0 0 0 0 0) (0 ∷ 5 ∷ zeros 7) (replicate 8 255) (9 ∷ 7 ∷ 5 ∷ []) [];
-      after = lent (record-words 8589934592 0 0 0 1) (1 ∷ 0 ∷ 8589934592 ∷ 268435456 ∷ 9 ∷ zeros 4) (zeros 8) (9 ∷ 0 ∷ 0 ∷ []) [];
+      before = handed (record-words 0 0 0 0 0) (0 ∷ 5 ∷ zeros 7) (lent (replicate 8 255) (9 ∷ 7 ∷ 5 ∷ []) []);
+      after = handed (record-words 8589934592 0 0 0 1) (1 ∷ 0 ∷ 8589934592 ∷ 268435456 ∷ 9 ∷ zeros 4) (lent (zeros 8) (9 ∷ 0 ∷ 0 ∷ []) []);
       number = 0;
     }
     -- it fails: 10, and the start stays
     ∷ record {
       function = «jambcopper_host_answer» 0 false 0;
-      before = lent (record-words 8589934592 0 0 0 1) (zeros 9) (zeros 8) (9 ∷ 0 ∷ 0 ∷ []) [];
-      after = lent (record-words 8589934592 0 0 0 0) (0 ∷ 10 ∷ zeros 7) (zeros 8) (9 ∷ 0 ∷ 0 ∷ []) [];
+      before = handed (record-words 8589934592 0 0 0 1) (zeros 9) (lent (zeros 8) (9 ∷ 0 ∷ 0 ∷ []) []);
+      after = handed (record-words 8589934592 0 0 0 0) (0 ∷ 10 ∷ zeros 7) (lent (zeros 8) (9 ∷ 0 ∷ 0 ∷ []) []);
       number = 10;
     }
     -- the tables are not in use now, so others may be lent: 5
     ∷ record {
       function = «jambcopper_set_requested_size» 20;
-      before = lent (record-words 8589934592 0 0 0 0) (zeros 9) (6 ∷ []) [] [];
-      after = lent (record-words 8589934592 0 0 0 0) (0 ∷ 5 ∷ zeros 7) (6 ∷ []) [] [];
+      before = handed (record-words 8589934592 0 0 0 0) (zeros 9) (lent (6 ∷ []) [] []);
+      after = handed (record-words 8589934592 0 0 0 0) (0 ∷ 5 ∷ zeros 7) (lent (6 ∷ []) [] []);
       number = 5;
     }
     -- placing is tried again, elsewhere
     ∷ record {
       function = «jambcopper_place» 4294967296 268435456 (1 ∷ []);
-      before = lent (record-words 8589934592 0 0 0 0) (zeros 9) (replicate 8 255) (9 ∷ 7 ∷ 5 ∷ []) [];
-      after = lent (record-words 4294967296 0 0 0 1) (1 ∷ 0 ∷ 4294967296 ∷ 268435456 ∷ 1 ∷ zeros 4) (zeros 8) (1 ∷ 0 ∷ 0 ∷ []) [];
+      before = handed (record-words 8589934592 0 0 0 0) (zeros 9) (lent (replicate 8 255) (9 ∷ 7 ∷ 5 ∷ []) []);
+      after = handed (record-words 4294967296 0 0 0 1) (1 ∷ 0 ∷ 4294967296 ∷ 268435456 ∷ 1 ∷ zeros 4) (lent (zeros 8) (1 ∷ 0 ∷ 0 ∷ []) []);
       number = 0;
     }
     ∷ record {
       function = «jambcopper_host_answer» 0 true 140737488355328;
-      before = lent (record-words 4294967296 0 0 0 1) (zeros 9) (zeros 8) (1 ∷ 0 ∷ 0 ∷ []) (7 ∷ []);
-      after = lent (record-words 4294967296 268435456 0 1 0) (3 ∷ zeros 8) (zeros 8) (1 ∷ 1 ∷ 140737488355328 ∷ []) (7 ∷ []);
+      before = handed (record-words 4294967296 0 0 0 1) (zeros 9) (lent (zeros 8) (1 ∷ 0 ∷ 0 ∷ []) (7 ∷ []));
+      after = handed (record-words 4294967296 268435456 0 1 0) (3 ∷ zeros 8) (lent (zeros 8) (1 ∷ 1 ∷ 140737488355328 ∷ []) (7 ∷ []));
       number = 0;
     }
     ∷ record {
       function = «jambcopper_request» 0 0 0;
-      before = lent (record-words 4294967296 268435456 0 1 0) (zeros 9) (zeros 8) (1 ∷ 1 ∷ 140737488355328 ∷ []) (asked ++ replicate 10 255);
-      after = lent (record-words 4294967296 268435456 8388608 1 0) (5 ∷ 0 ∷ 0 ∷ 0 ∷ 0 ∷ 0 ∷ 0 ∷ 10 ∷ 0 ∷ []) (3 ∷ zeros 7) (1 ∷ 1 ∷ 140737488355328 ∷ []) (asked ++ zeros 10);
+      before = handed (record-words 4294967296 268435456 0 1 0) (zeros 9) (lent (zeros 8) (1 ∷ 1 ∷ 140737488355328 ∷ []) (asked ++ replicate 10 255));
+      after = handed (record-words 4294967296 268435456 8388608 1 0) (5 ∷ 0 ∷ 0 ∷ 0 ∷ 0 ∷ 0 ∷ 0 ∷ 10 ∷ 0 ∷ []) (lent (3 ∷ zeros 7) (1 ∷ 1 ∷ 140737488355328 ∷ []) (asked ++ zeros 10));
       number = 0;
     }
     ∷ record {
       function = «jambcopper_read_config» 1;
-      before = lent (record-words 4294967296 268435456 8388608 1 0) [] [] [] (zeros 3);
-      after = lent (record-words 4294967296 268435456 8388608 1 0) [] [] [] (0 ∷ 64 ∷ 0 ∷ []);
+      before = handed (record-words 4294967296 268435456 8388608 1 0) [] (lent [] [] (zeros 3));
+      after = handed (record-words 4294967296 268435456 8388608 1 0) [] (lent [] [] (0 ∷ 64 ∷ 0 ∷ []));
       number = 0;
     }
     ∷ []

@@ -14,7 +14,7 @@ use Rattle.step.specs.declared.Answer.the-variants.{Refused, Wants, Sized, Unse
 use Rattle.step.specs.World.{World, Call, ReadConfig, WriteConfig}
 use Rattle.step.specs.Step.{step, readConfig, writeConfig}
 use Rattle.step.specs.Answers.{answerWords}
-use Rattle.jambcopper.specs.Exports.{Lent}
+use Rattle.jambcopper.specs.Exports.{Handed}
 use Rattle.history.specs.History.{Open, acknowledges, reports, ifAck, unlessRefused, eventsOf, openAfter, Story, next, after, begun}
 use Rattle.linked.specs.Runs.{Function, «jambcopper_place», «jambcopper_set_requested_size», «jambcopper_request», «jambcopper_host_answer», «jambcopper_read_config», «jambcopper_write_config»}
 use Rattle.linked.specs.Runs.{Use, callBy, callOf, Held, leaves, Run, callsOf, first, Means}
@@ -30,7 +30,7 @@ words-tell (Wants (Create guest size slot)) rest = refl
 words-tell (Wants (Discard offset size host)) rest = refl
 words-tell Sized rest = refl
 words-tell (Unserved reason) rest = refl
-words-tell (Served resp used) rest = refl
+words-tell (Served reply) rest = refl
 words-tell Done rest = refl
 
 nine : (a : Answer) → length (answerWords a) ≡ 9
@@ -39,7 +39,7 @@ nine (Wants (Create guest size slot)) = refl
 nine (Wants (Discard offset size host)) = refl
 nine Sized = refl
 nine (Unserved reason) = refl
-nine (Served resp used) = refl
+nine (Served reply) = refl
 nine Done = refl
 
 -- where nine words were lent for it
@@ -58,7 +58,7 @@ no-event (Refused n) = refl
 no-event (Wants call) = refl
 no-event Sized = refl
 no-event (Unserved reason) = refl
-no-event (Served resp used) = by-test (eqb (resp .«resp_type») 0) (λ t. rw t) (λ t. rw t)
+no-event (Served reply) = by-test (eqb (reply .response .«resp_type») 0) (λ t. rw t) (λ t. rw t)
 no-event Done = refl
 
 read-open : (w : World) (o : Open) (offset : ℕ) (buffer : List ℕ) → openAfter w o (ReadConfig offset buffer) (step w (ReadConfig offset buffer) .answer) ≡ o
@@ -75,21 +75,21 @@ pub record Hears (w : World) (o : Open) (c : Call) (a : Answer) : Type 0 where
   pub same-events : eventsOf w o c a ≡ eventsOf w o c (step w c .answer)
 
 module _ (w : World) (o : Open) where
-  hears-answer : (c : Call) (b a : Lent) → 9 ≤ length (b .answer) → a .answer ≡ put (b .answer) 0 (answerWords (step w c .answer)) → Hears w o c (answerOf (a .answer))
+  hears-answer : (c : Call) (b a : Handed) → 9 ≤ length (b .answer) → a .answer ≡ put (b .answer) 0 (answerWords (step w c .answer)) → Hears w o c (answerOf (a .answer))
   hears-answer c b a room told =
       let e : answerOf (a .answer) ≡ step w c .answer = ap answerOf told ∙ answer-heard (b .answer) (step w c .answer) room in
       record { same-open = ap (openAfter w o c) e; same-events = ap (eventsOf w o c) e }
 
-  hears : (f : Function) (b a : Lent) (n : ℕ) → HasRoom f b → Tells w (record { function = f; before = b; after = a; number = n }) → Hears w o (callBy f b) (heardBy f a)
+  hears : (f : Function) (b a : Handed) (n : ℕ) → HasRoom f b → Tells w (record { function = f; before = b; after = a; number = n }) → Hears w o (callBy f b) (heardBy f a)
   unfolding HasRoom heardBy callBy eventsOf acknowledges reports ifAck unlessRefused openAfter
   hears («jambcopper_place» start size slots) b a n room t = hears-answer _ b a room (t .told)
   hears («jambcopper_set_requested_size» mib) b a n room t = hears-answer _ b a room (t .told)
   hears («jambcopper_request» base descriptors head) b a n room t = hears-answer _ b a room (t .told)
   hears («jambcopper_host_answer» base ok host) b a n room t = hears-answer _ b a room (t .told)
   hears («jambcopper_read_config» offset) b a n room t =
-      record { same-open = sym (read-open w o offset (b .bytes)); same-events = sym (no-event (step w (ReadConfig offset (b .bytes)) .answer)) }
+      record { same-open = sym (read-open w o offset (b .slices .bytes)); same-events = sym (no-event (step w (ReadConfig offset (b .slices .bytes)) .answer)) }
   hears («jambcopper_write_config» offset) b a n room t =
-      record { same-open = sym (write-open w o offset (b .bytes)); same-events = sym (no-event (step w (WriteConfig offset (b .bytes)) .answer)) }
+      record { same-open = sym (write-open w o offset (b .slices .bytes)); same-events = sym (no-event (step w (WriteConfig offset (b .slices .bytes)) .answer)) }
 
 -- ---- over any run
 pub events-heard : (h : Held) (s : Story) (us : List Use) → Means h (s .world) → Run h us → AllHeard us → eventsHeard h (s .«open») (s .events) us ≡ after s (callsOf us) .events

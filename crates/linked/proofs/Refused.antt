@@ -16,7 +16,7 @@ use Rattle.words.specs.declared.Decoded.the-variants.{Is, NoRecord}
 use Rattle.words.specs.Record.{wordsOf, decodedOf}
 use Rattle.words.proofs.Laws.{decoded-encodes}
 use Rattle.little_endian.specs.Bytes.{put}
-use Rattle.jambcopper.specs.Exports.{Lent, Called}
+use Rattle.jambcopper.specs.Exports.{Handed, Called}
 use Rattle.history.specs.Refusals.{lentBytes}
 use Rattle.history.proofs.Shaped.{clash}
 use Rattle.history.proofs.Refusals.{refused-changes-nothing}
@@ -30,10 +30,10 @@ refused-with (Wants (Create guest size slot)) h = absurd (h refl)
 refused-with (Wants (Discard offset size host)) h = absurd (h refl)
 refused-with Sized h = absurd (h refl)
 refused-with (Unserved reason) h = absurd (h refl)
-refused-with (Served resp used) h = absurd (h refl)
+refused-with (Served reply) h = absurd (h refl)
 refused-with Done h = absurd (h refl)
 
-lent-bytes : (f : Function) (b : Lent) → lendsBytes f ≡ true → lentBytes (callBy f b) ≡ b .bytes
+lent-bytes : (f : Function) (b : Handed) → lendsBytes f ≡ true → lentBytes (callBy f (b .slices)) ≡ b .slices .bytes
 unfolding lendsBytes lentBytes callBy
 lent-bytes («jambcopper_place» start size slots) b e = clash e refl
 lent-bytes («jambcopper_set_requested_size» mib) b e = clash e refl
@@ -46,15 +46,15 @@ pub refused-export-changes-nothing : RefusedExportChangesNothing
 unfolding Called
 refused-export-changes-nothing u low low′ p refused not-10 = go (decodedOf (u .before .words)) refl p
   where
-    go : (r : Decoded) → decodedOf (u .before .words) ≡ r → Called r (λ (d : Device). step (worldOf d (u .before .bitmap) (u .before .table)) (callOf u)) (u .before) (u .after) (u .number) → UseUntouched u
+    go : (r : Decoded) → decodedOf (u .before .words) ≡ r → Called r (callBy (u .function)) (u .before) (u .after) (u .number) → UseUntouched u
     go (Is d) is t =
-        let w = worldOf d (u .before .bitmap) (u .before .table) in
+        let w = worldOf d (u .before .slices .bitmap) (u .before .slices .table) in
         let a = step w (callOf u) .answer in
         let same = refused-changes-nothing w (callOf u) (numberOf a) (refused-with a (λ e. refused (t .numbered ∙ e))) (λ e. not-10 (t .numbered ∙ e)) in
         record {
           same-words = t .recorded ∙ ap (λ (v : World). put (u .before .words) 0 (wordsOf (v .device))) (same .0) ∙ decoded-encodes (u .before .words) d is;
-          same-bitmap = blocks-tell (u .after .bitmap) (u .before .bitmap) low′ low (t .marked ∙ ap (λ (v : World). v .blocks) (same .0));
-          same-table = t .mapped ∙ ap (λ (v : World). written (u .before .table) (v .rows)) (same .0) ∙ whole (u .before .table);
-          same-bytes = λ lends. t .left ∙ same .1 ∙ lent-bytes (u .function) (u .before) lends;
+          same-bitmap = blocks-tell (u .after .slices .bitmap) (u .before .slices .bitmap) low′ low (t .leaves .marked ∙ ap (λ (v : World). v .blocks) (same .0));
+          same-table = t .leaves .mapped ∙ ap (λ (v : World). written (u .before .slices .table) (v .rows)) (same .0) ∙ whole (u .before .slices .table);
+          same-bytes = λ lends. t .leaves .left ∙ same .1 ∙ lent-bytes (u .function) (u .before) lends;
         }
-    go NoRecord is t = record { same-words = t .recorded; same-bitmap = t .marked; same-table = t .mapped; same-bytes = λ _. t .left }
+    go NoRecord is t = record { same-words = t .recorded; same-bitmap = t .marked; same-table = t .leaves .mapped; same-bytes = λ _. t .leaves .left }

@@ -26,7 +26,7 @@ use Rattle.linked.proofs.Linked.{is-fresh, follows-making, linked}
 
 -- what a call shows is what the definition's step ends in
 shows-step : (h : Held) (u : Use) → UseSteps h u → step (inHand h) (callOf u) ≡ shows h u
-shows-step h u s = let o = step (inHand h) (callOf u) in ends (o .world) (inHand (leaves h u)) (o .bytes) (u .after .bytes) (sym (s .goes-on)) (sym (s .left))
+shows-step h u s = let o = step (inHand h) (callOf u) in ends (o .world) (inHand (leaves h u)) (o .bytes) (u .after .slices .bytes) (sym (s .goes-on)) (sym (s .left))
   where
     ends : (w v : World) (bytes bytes′ : List ℕ) → w ≡ v → bytes ≡ bytes′
         → _≡_ {A = Outcome} (record { world = w; answer = step (inHand h) (callOf u) .answer; bytes = bytes }) (record { world = v; answer = step (inHand h) (callOf u) .answer; bytes = bytes′ })

@@ -7,10 +7,11 @@ use lib.Dec.{eqb}
 use lib.ListN.{length}
 use Rattle.record.specs.declared.HostCall.the-variants.{Create, Discard}
 use Rattle.step.specs.declared.Answer.{Answer}
-use Rattle.step.specs.declared.Answer.the-variants.{Refused, Wants, Sized, Unserved, Served, Done}
+use Rattle.step.specs.declared.Answer.the-variants.{Refused, Wants, Sized, Unserved, Done}
+use Rattle.step.specs.Answers.{servedWith}
 use Rattle.words.specs.Record.{word}
-use Rattle.jambcopper.specs.Exports.{Lent}
-use Rattle.history.specs.History.{Event, Open, NoRequest, eventsOf, openAfter, Told}
+use Rattle.jambcopper.specs.Exports.{Handed}
+use Rattle.history.specs.History.{Event, Open, NoRequest, eventsOf, openAfter, Demand3}
 use Rattle.linked.specs.Runs.{Function, «jambcopper_place», «jambcopper_set_requested_size», «jambcopper_request», «jambcopper_host_answer», «jambcopper_read_config», «jambcopper_write_config», Use, callOf, Held, leaves, Run, heldAfter, first, inHand, Making, Makes}
 
 -- the answer that nine words mean
@@ -21,10 +22,10 @@ answerOf ws =
     (cond (eqb (word ws 0) 2) (Wants (Discard (record { 0 = word ws 2 }) (word ws 3) (record { 0 = word ws 4 })))
     (cond (eqb (word ws 0) 3) Sized
     (cond (eqb (word ws 0) 4) (Unserved (word ws 8))
-    (cond (eqb (word ws 0) 5) (Served (record { «resp_type» = word ws 5; state = word ws 6 }) (word ws 7)) Done)))))
+    (cond (eqb (word ws 0) 5) (servedWith (record { «resp_type» = word ws 5; state = word ws 6 }) (word ws 7)) Done)))))
 
 -- the answer that a call has told; the config's calls tell a number alone
-unfoldable pub heardBy : Function → (after : Lent) → Answer
+unfoldable pub heardBy : Function → (after : Handed) → Answer
 heardBy («jambcopper_place» start size slots) after = answerOf (after .answer)
 heardBy («jambcopper_set_requested_size» mib) after = answerOf (after .answer)
 heardBy («jambcopper_request» base descriptors head) after = answerOf (after .answer)
@@ -36,7 +37,7 @@ abbrev pub heard : Use → Answer
 heard u = heardBy (u .function) (u .after)
 
 -- the call was lent nine words for its answer, if it tells one
-unfoldable pub HasRoom : Function → (before : Lent) → Type 0
+unfoldable pub HasRoom : Function → (before : Handed) → Type 0
 HasRoom («jambcopper_place» start size slots) before = 9 ≤ length (before .answer)
 HasRoom («jambcopper_set_requested_size» mib) before = 9 ≤ length (before .answer)
 HasRoom («jambcopper_request» base descriptors head) before = 9 ≤ length (before .answer)
@@ -57,4 +58,4 @@ eventsHeard h o es (u ∷ us) =
 -- R18.12: demand 3 of what a program holds and has heard since making, in any run whose answers it can hear
 abbrev pub Demand3InHand : Type 0
 Demand3InHand = (m : Making) (words′ : List ℕ) → Makes m words′ → (us : List Use) → Run (first words′) us → AllHeard us
-    → Told (inHand (heldAfter (first words′) us)) (eventsHeard (first words′) NoRequest [] us)
+    → Demand3 (inHand (heldAfter (first words′) us)) (eventsHeard (first words′) NoRequest [] us)

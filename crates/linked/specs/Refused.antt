@@ -21,9 +21,9 @@ lendsBytes («jambcopper_write_config» offset) = true
 
 pub record UseUntouched (u : Use) : Type 0 where
   pub same-words : u .after .words ≡ u .before .words
-  pub same-bitmap : u .after .bitmap ≡ u .before .bitmap
-  pub same-table : u .after .table ≡ u .before .table
-  pub same-bytes : lendsBytes (u .function) ≡ true → u .after .bytes ≡ u .before .bytes
+  pub same-bitmap : u .after .slices .bitmap ≡ u .before .slices .bitmap
+  pub same-table : u .after .slices .table ≡ u .before .slices .table
+  pub same-bytes : lendsBytes (u .function) ≡ true → u .after .slices .bytes ≡ u .before .slices .bytes
 
 abbrev pub RefusedExportChangesNothing : Type 0
-RefusedExportChangesNothing = (u : Use) → AreBytes (u .before .bitmap) → AreBytes (u .after .bitmap) → Promised u → (u .number ≡ 0 → ⊥) → (u .number ≡ 10 → ⊥) → UseUntouched u
+RefusedExportChangesNothing = (u : Use) → AreBytes (u .before .slices .bitmap) → AreBytes (u .after .slices .bitmap) → Promised u → (u .number ≡ 0 → ⊥) → (u .number ≡ 10 → ⊥) → UseUntouched u

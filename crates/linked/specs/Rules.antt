@@ -14,7 +14,7 @@ use Rattle.linked.specs.Runs.{Use, callOf, Held, leaves, One, Run, heldA
 
 -- what a call shows: the world in hand after it, the answer that its number and its words tell, and the bytes that it leaves
 abbrev pub shows : Held → Use → Outcome
-shows h u = record { world = inHand (leaves h u); answer = step (inHand h) (callOf u) .answer; bytes = u .after .bytes }
+shows h u = record { world = inHand (leaves h u); answer = step (inHand h) (callOf u) .answer; bytes = u .after .slices .bytes }
 
 -- P holds of every call of every run
 abbrev pub OfEveryCall : (World → Call → Outcome → Type 0) → Type 0

@@ -10,16 +10,17 @@ use Rattle.rows.specs.Rows.{rowsOf}
 use Rattle.little_endian.specs.Bytes.{put}
 use Rattle.record.specs.declared.Device.{Device}
 use Rattle.record.specs.Shape.{isIdle}
-use Rattle.step.specs.World.{World, Call, Place, SetRequestedSize, Request, HostAnswer, ReadConfig, WriteConfig, worldOf}
+use Rattle.step.specs.World.{World, Call, worldOf}
 use Rattle.step.specs.Step.{step}
+use Rattle.step.specs.Promise.{Lent, placeOn, resizeOn, requestOn, answerOn, readOn, writeOn}
 use Rattle.making.specs.declared.Made.{Made}
 use Rattle.making.specs.declared.Made.the-variants.{Device as MadeDevice}
 use Rattle.making.specs.Made.{made}
 use Rattle.words.specs.declared.Decoded.the-variants.{Is}
 use Rattle.words.specs.Record.{recordOf, decodedOf}
 use Rattle.step.specs.Answers.{answerWords, numberOf}
-use Rattle.jambcopper.specs.Exports.{nodeOf, MadeIn, Lent, Exported}
-use Rattle.history.specs.History.{Story, after, begun, Told}
+use Rattle.jambcopper.specs.Exports.{nodeOf, MadeIn, Handed, Exported}
+use Rattle.history.specs.History.{Story, after, begun, Demand3}
 
 -- ---- one call
 -- the exported function, and its arguments that are no lent slices of a device
@@ -34,25 +35,25 @@ pub data Function : Type 0 where
 -- the call with all that a program sees of it: what stands in the lent slices before and after it, and its number
 pub record Use : Type 0 where
   pub function : Function
-  pub before : Lent
-  pub after : Lent
+  pub before : Handed
+  pub after : Handed
   pub number : ℕ
 
--- the call of the definition; placing brings the tables that it is lent
+-- the call of the definition, of what is lent; placing brings the tables that it is lent
 unfoldable pub callBy : Function → Lent → Call
-callBy («jambcopper_place» start size slots) lent = Place start size slots (blocks (lent .bitmap)) (rowsOf (lent .table))
-callBy («jambcopper_set_requested_size» mib) lent = SetRequestedSize mib
-callBy («jambcopper_request» base descriptors head) lent = Request (record { mem = lent .bytes; base = base }) descriptors head
-callBy («jambcopper_host_answer» base ok host) lent = HostAnswer (record { mem = lent .bytes; base = base }) ok host
-callBy («jambcopper_read_config» offset) lent = ReadConfig offset (lent .bytes)
-callBy («jambcopper_write_config» offset) lent = WriteConfig offset (lent .bytes)
+callBy («jambcopper_place» start size slots) = placeOn start size slots
+callBy («jambcopper_set_requested_size» mib) = resizeOn mib
+callBy («jambcopper_request» base descriptors head) = requestOn base descriptors head
+callBy («jambcopper_host_answer» base ok host) = answerOn base ok host
+callBy («jambcopper_read_config» offset) = readOn offset
+callBy («jambcopper_write_config» offset) = writeOn offset
 
 abbrev pub callOf : Use → Call
-callOf u = callBy (u .function) (u .before)
+callOf u = callBy (u .function) (u .before .slices)
 
--- what every export promises: on the record that the words mean, and on the tables that it is lent, the definition's step
+-- what every export promises: on the record that the words mean, and on what it is lent, the definition's step
 abbrev pub Promised : Use → Type 0
-Promised u = Exported (λ d. step (worldOf d (u .before .bitmap) (u .before .table)) (callOf u)) (u .before) (u .after) (u .number)
+Promised u = Exported (callBy (u .function)) (u .before) (u .after) (u .number)
 
 -- ---- what a program holds between two calls: the record's words, the bitmap and the map table
 pub record Held : Type 0 where
@@ -76,8 +77,8 @@ onTables («jambcopper_write_config» offset) = false
 -- the call is lent what is held: always the record, and the tables while they are in use. Before placing, and after a placing that failed (10), any tables may be lent. Guest memory, buffers, answer slices and all other arguments are free
 pub record Lends (h : Held) (u : Use) : Type 0 where
   pub same-words : u .before .words ≡ h .words
-  pub same-bitmap : onTables (u .function) ≡ true → inUse h ≡ true → u .before .bitmap ≡ h .bitmap
-  pub same-table : onTables (u .function) ≡ true → inUse h ≡ true → u .before .table ≡ h .table
+  pub same-bitmap : onTables (u .function) ≡ true → inUse h ≡ true → u .before .slices .bitmap ≡ h .bitmap
+  pub same-table : onTables (u .function) ≡ true → inUse h ≡ true → u .before .slices .table ≡ h .table
 
 -- whether the tables that the call leaves are those to hold now: those of a placing that has returned 0, and of each call on tables in use
 unfoldable pub newTables : Function → (used : Bool) (number : ℕ) → Bool
@@ -88,8 +89,8 @@ newTables («jambcopper_host_answer» base ok host) used number = used
 newTables («jambcopper_read_config» offset) used number = false
 newTables («jambcopper_write_config» offset) used number = false
 
-unfoldable pub holding : Bool → Held → (after : Lent) → Held
-holding true h after = record { words = after .words; bitmap = after .bitmap; table = after .table }
+unfoldable pub holding : Bool → Held → (after : Handed) → Held
+holding true h after = record { words = after .words; bitmap = after .slices .bitmap; table = after .slices .table }
 holding false h after = record { words = after .words; bitmap = h .bitmap; table = h .table }
 
 abbrev pub leaves : Held → Use → Held
@@ -151,7 +152,7 @@ inHand h = worldOf (recordOf (h .words)) (h .bitmap) (h .table)
 pub record UseSteps (h : Held) (u : Use) : Type 0 where
   pub numbered : u .number ≡ numberOf (step (inHand h) (callOf u) .answer)
   pub told : u .after .answer ≡ put (u .before .answer) 0 (answerWords (step (inHand h) (callOf u) .answer))
-  pub left : u .after .bytes ≡ step (inHand h) (callOf u) .bytes
+  pub left : u .after .slices .bytes ≡ step (inHand h) (callOf u) .bytes
   pub goes-on : inHand (leaves h u) ≡ step (inHand h) (callOf u) .world
 
 -- over any run of the exported functions from what is held, h, where a run of the definition stands at s
@@ -161,7 +162,7 @@ pub record Follows (h : Held) (s : Story) : Type 0 where
   -- and any further call is its next step
   pub steps : (us : List Use) → Run h us → (u : Use) → One (heldAfter h us) u → UseSteps (heldAfter h us) u
   -- demand 3 holds of the world that is held, and of the events of the definition's run
-  pub demand-3 : (us : List Use) → Run h us → Told (inHand (heldAfter h us)) (after s (callsOf us) .events)
+  pub demand-3 : (us : List Use) → Run h us → Demand3 (inHand (heldAfter h us)) (after s (callsOf us) .events)
 
 -- the theorem: a device was made, and over any run from then on
 pub record Linked (m : Making) (words′ : List ℕ) : Type 0 where

@@ -3,8 +3,9 @@ use contract.Lifetimes.{Lfts}
 use denote.Ref.{now}
 use denote.Triple.Clauses.{AtExit}
 use borrow.Fn.Kinds.{Dens, resT, endedOf}
-use Rattle.jambcopper.specs.Exports.{lent}
-use Rattle.jambcopper.specs.Queue.{newQueue, QueueMadeIn, queueLent}
+use Rattle.step.specs.Promise.{lent}
+use Rattle.jambcopper.specs.Exports.{handed}
+use Rattle.jambcopper.specs.Queue.{newQueue, QueueMadeIn, queueHanded}
 use Rattle.jambcopper.proofs.jambcopper_queue_make.Kinds.{ps as make-ps, r as make-r}
 use Rattle.jambcopper.proofs.jambcopper_queue_make.Reads.{Learnt as Make-learnt}
 use Rattle.jambcopper.proofs.jambcopper_serve.Kinds.{ps as serve-ps, r as serve-r}
@@ -21,14 +22,14 @@ make-promises κs a z e p = p
 
 pub serve-promises : (κs : Lfts 6) (a : Dens κs serve-ps) (z : resT serve-r κs .Denot) (e : AtExit (endedOf 6 serve-ps serve-r) κs) → Serve-learnt κs a z e
     → OnQueue (TakeNext (record { mem = now (a .1 .1 .1 .1 .0); base = a .1 .1 .1 .1 .1 .0 }))
-    (queueLent (now (a .1 .0)) (lent (now (a .0)) (now (a .1 .1 .1 .1 .1 .1 .0)) (now (a .1 .1 .0)) (now (a .1 .1 .1 .0)) (now (a .1 .1 .1 .1 .0))))
-    (queueLent (now (e .1 .0)) (lent (now (e .0)) (now (e .1 .1 .1 .1 .1 .1 .0)) (now (e .1 .1 .0)) (now (a .1 .1 .1 .0)) (now (e .1 .1 .1 .1 .0)))) z
+    (queueHanded (now (a .1 .0)) (handed (now (a .0)) (now (a .1 .1 .1 .1 .1 .1 .0)) (lent (now (a .1 .1 .0)) (now (a .1 .1 .1 .0)) (now (a .1 .1 .1 .1 .0)))))
+    (queueHanded (now (e .1 .0)) (handed (now (e .0)) (now (e .1 .1 .1 .1 .1 .1 .0)) (lent (now (e .1 .1 .0)) (now (a .1 .1 .1 .0)) (now (e .1 .1 .1 .1 .0))))) z
 unfolding queueStep
 serve-promises κs a z e p = p
 
 pub answer-promises : (κs : Lfts 6) (a : Dens κs answer-ps) (z : resT answer-r κs .Denot) (e : AtExit (endedOf 6 answer-ps answer-r) κs) → Answer-learnt κs a z e
     → OnQueue (Host (record { mem = now (a .1 .1 .1 .1 .0); base = a .1 .1 .1 .1 .1 .0 }) (a .1 .1 .1 .1 .1 .1 .0) (a .1 .1 .1 .1 .1 .1 .1 .0))
-    (queueLent (now (a .1 .0)) (lent (now (a .0)) (now (a .1 .1 .1 .1 .1 .1 .1 .1 .0)) (now (a .1 .1 .0)) (now (a .1 .1 .1 .0)) (now (a .1 .1 .1 .1 .0))))
-    (queueLent (now (e .1 .0)) (lent (now (e .0)) (now (e .1 .1 .1 .1 .1 .1 .1 .1 .0)) (now (e .1 .1 .0)) (now (e .1 .1 .1 .0)) (now (e .1 .1 .1 .1 .0)))) z
+    (queueHanded (now (a .1 .0)) (handed (now (a .0)) (now (a .1 .1 .1 .1 .1 .1 .1 .1 .0)) (lent (now (a .1 .1 .0)) (now (a .1 .1 .1 .0)) (now (a .1 .1 .1 .1 .0)))))
+    (queueHanded (now (e .1 .0)) (handed (now (e .0)) (now (e .1 .1 .1 .1 .1 .1 .1 .1 .0)) (lent (now (e .1 .1 .0)) (now (e .1 .1 .1 .0)) (now (e .1 .1 .1 .1 .0))))) z
 unfolding queueStep
 answer-promises κs a z e p = p

@@ -18,8 +18,8 @@ use Rattle.step.specs.Answers.{answerWords, numberOf}
 use Rattle.queue_words.specs.declared.DecodedQueue.the-variants.{Is as IsQueue}
 use Rattle.queue_words.specs.Words.{queueWords, isQueue, decodedQueueOf}
 use Rattle.queue_words.proofs.Laws.{encoded-decodes}
-use Rattle.jambcopper.specs.Exports.{Lent}
-use Rattle.jambcopper.specs.Queue.{QueueLent}
+use Rattle.jambcopper.specs.Exports.{Handed}
+use Rattle.jambcopper.specs.Queue.{QueueHanded}
 use Rattle.history.specs.History.{begun}
 use Rattle.history.specs.Reached.{from-making}
 use Rattle.linked.specs.Runs.{callBy as deviceCallBy, leaves, Making, Makes, Means, inHand}
@@ -45,7 +45,7 @@ module _ (h : QueueHeld) (w : World) (q : Queue) (m : QueueMeans h w q) where
   abbrev Next : QueueUse → Type 0
   Next u = Tells w q u × QueueMeans (leavesQueue h u) (queueStep w q (callOf u) .world) (queueStep w q (callOf u) .queue)
 
-  goes-on : (f : QueueFunction) (b a : QueueLent) (n : ℕ) → OneBy f h b a n → Next (record { function = f; before = b; after = a; number = n })
+  goes-on : (f : QueueFunction) (b a : QueueHanded) (n : ℕ) → OneBy f h b a n → Next (record { function = f; before = b; after = a; number = n })
   unfolding OneBy leavesBy callBy queueStep
   goes-on («jambcopper_serve» base) b a n one =
       let g = serve-goes h w q m b a n (one .0) _ (one .1) in

@@ -22,7 +22,7 @@ use Rattle.queue_words.specs.declared.DecodedQueue.{DecodedQueue}
 use Rattle.queue_words.specs.declared.DecodedQueue.the-variants.{Is as IsQueue, NoQueue}
 use Rattle.queue_words.specs.Words.{queueWords, decodedQueueOf}
 use Rattle.queue_words.proofs.Laws.{decoded-encodes as queue-encodes}
-use Rattle.jambcopper.specs.Queue.{QueueLent, QueueForeign, QueueCalled}
+use Rattle.jambcopper.specs.Queue.{QueueHanded, QueueForeign, QueueCalled}
 use Rattle.history.proofs.Shaped.{clash}
 use Rattle.linked.proofs.Refused.{refused-with}
 use Rattle.queue_runs.specs.Runs.{QueueCall, TakeNext, Host, PastIt, queueStep, lentTo}
@@ -41,7 +41,7 @@ guest-bytes (TakeNext g) e = refl
 guest-bytes (Host g ok host) e = refl
 guest-bytes (PastIt b) e = clash e refl
 
-foreign : (b a : QueueLent) (n : ℕ) → QueueForeign b a n → QueueUntouched b a
+foreign : (b a : QueueHanded) (n : ℕ) → QueueForeign b a n → QueueUntouched b a
 foreign b a n f =
     record {
       same-words = f .others .recorded;
@@ -56,9 +56,9 @@ unfolding QueueCalled
 refused-queue-export-changes-nothing c guest b a n lends low low′ p refused not-10 = go (decodedOf (b .others .words)) (decodedQueueOf (b .queue)) refl refl p
   where
     go : (r : Decoded) (s : DecodedQueue) → decodedOf (b .others .words) ≡ r → decodedQueueOf (b .queue) ≡ s
-        → QueueCalled r s (λ (d : Device) (q : Queue). queueStep (worldOf d (b .others .bitmap) (b .others .table)) q c) b a n → QueueUntouched b a
+        → QueueCalled r s (λ (d : Device) (q : Queue). queueStep (worldOf d (b .others .slices .bitmap) (b .others .slices .table)) q c) b a n → QueueUntouched b a
     go (Is d) (IsQueue q) is queue-is t =
-        let w = worldOf d (b .others .bitmap) (b .others .table) in
+        let w = worldOf d (b .others .slices .bitmap) (b .others .slices .table) in
         let o = queueStep w q c in
         let is-refused = refused-of (o .answer) (λ e. refused (t .numbered ∙ e)) in
         let same = refused-moves-nothing w q c (queueNumberOf (o .answer)) is-refused (λ e. not-10 (t .numbered ∙ e)) in
@@ -66,8 +66,8 @@ refused-queue-export-changes-nothing c guest b a n lends low low′ p refused no
         record {
           same-words = t .recorded ∙ ap (λ (v : World). put (b .others .words) 0 (wordsOf (v .device))) same ∙ decoded-encodes (b .others .words) d is;
           same-queue = t .queued ∙ ap (λ (x : Queue). put (b .queue) 0 (queueWords x)) (none .0 .same-queue) ∙ queue-encodes (b .queue) q queue-is;
-          same-bitmap = blocks-tell (a .others .bitmap) (b .others .bitmap) low′ low (t .marked ∙ ap (λ (v : World). v .blocks) same);
-          same-table = t .mapped ∙ ap (λ (v : World). written (b .others .table) (v .rows)) same ∙ whole (b .others .table);
+          same-bitmap = blocks-tell (a .others .slices .bitmap) (b .others .slices .bitmap) low′ low (t .marked ∙ ap (λ (v : World). v .blocks) same);
+          same-table = t .mapped ∙ ap (λ (v : World). written (b .others .slices .table) (v .rows)) same ∙ whole (b .others .slices .table);
           same-bytes = t .left ∙ none .1 ∙ guest-bytes c guest ∙ lends;
         }
     go (Is d) NoQueue is queue-is t = foreign b a n t

@@ -29,8 +29,8 @@ use Rattle.queue.specs.declared.QueueAnswer.the-variants.{Of}
 use Rattle.queue.specs.Queue.{QueueOutcome, queueOk, takingRefusal, nextUnless, nextOf, takes, outRefusal, answerRefusal, answers, unlessRefused, queueAnswerWords, queueNumberOf}
 use Rattle.queue_words.specs.declared.DecodedQueue.the-variants.{Is as IsQueue}
 use Rattle.queue_words.specs.Words.{decodedQueueOf}
-use Rattle.jambcopper.specs.Exports.{Lent}
-use Rattle.jambcopper.specs.Queue.{QueueLent, QueueTold, QueueCalled}
+use Rattle.jambcopper.specs.Exports.{Handed}
+use Rattle.jambcopper.specs.Queue.{QueueHanded, QueueTold, QueueCalled}
 use Rattle.history.specs.Rules.{isPlace}
 use Rattle.history.proofs.Shaped.{clash}
 use Rattle.linked.specs.Runs.{Held, inUse, holding, Means}
@@ -101,16 +101,16 @@ module _ (d : Device) (bs bs′ : List Bool) (rows rows′ : List MapRow) (q : Q
       rw (e, not-out h (d .pending) idle) (record { same-answer = refl; same-queue = refl; same-bytes = refl; stays = refl; stays′ = refl })
 
 -- ---- each function on the queue
-module _ (h : QueueHeld) (w : World) (q : Queue) (m : QueueMeans h w q) (b a : QueueLent) (n : ℕ) (lends : LendsQueue h b) where
+module _ (h : QueueHeld) (w : World) (q : Queue) (m : QueueMeans h w q) (b a : QueueHanded) (n : ℕ) (lends : LendsQueue h b) where
   -- the world that is lent
   abbrev lentWorld : World
-  lentWorld = worldOf (w .device) (b .others .bitmap) (b .others .table)
+  lentWorld = worldOf (w .device) (b .others .slices .bitmap) (b .others .slices .table)
 
   -- what is told, and what is held then
   pub record Goes (c : QueueCall) : Type 0 where
     pub numbered : n ≡ queueNumberOf (queueStep w q c .answer)
     pub told : a .others .answer ≡ put (b .others .answer) 0 (queueAnswerWords (queueStep w q c .answer))
-    pub left : a .others .bytes ≡ queueStep w q c .bytes
+    pub left : a .others .slices .bytes ≡ queueStep w q c .bytes
     pub means : QueueMeans (record { device = holding (inUse (h .device)) (h .device) (a .others); queue = a .queue }) (queueStep w q c .world) (queueStep w q c .queue)
 
   kept : (c : QueueCall) → OnQueue c b a n → QueueTold (queueStep lentWorld q c) b a n
@@ -122,7 +122,7 @@ module _ (h : QueueHeld) (w : World) (q : Queue) (m : QueueMeans h w q) (b a : Q
   unfolding holding
   on-held c past p used =
       let e : lentWorld ≡ w = rw (lends .same-bitmap used, lends .same-table used, m .device .marked, m .device .mapped) in
-      let lent : length (rowsOf (b .others .table)) ≡ length (w .rows) = ap (λ (v : World). length (v .rows)) e in
+      let lent : length (rowsOf (b .others .slices .table)) ≡ length (w .rows) = ap (λ (v : World). length (v .rows)) e in
       let k : QueueTold (queueStep w q c) b a n = rw e at (kept c p) in
       record {
         numbered = k .numbered;
@@ -133,7 +133,7 @@ module _ (h : QueueHeld) (w : World) (q : Queue) (m : QueueMeans h w q) (b a : Q
               (record {
                 decodes = k .decodes;
                 marked = k .marked;
-                mapped = ap rowsOf (k .mapped) ∙ read-back (b .others .table) (queueStep w q c .world .rows) (same-rows w q c past ∙ sym lent);
+                mapped = ap rowsOf (k .mapped) ∙ read-back (b .others .slices .table) (queueStep w q c .world .rows) (same-rows w q c past ∙ sym lent);
               });
           queue = k .queue-decodes;
         };
@@ -167,9 +167,9 @@ module _ (h : QueueHeld) (w : World) (q : Queue) (m : QueueMeans h w q) (b a : Q
 
   pub serve-goes : (g : Guest) → OnQueue (TakeNext g) b a n → Goes (TakeNext g)
   unfolding isPlacing
-  serve-goes g p = goes (TakeNext g) refl p (λ u i. taking-early (w .device) (w .blocks) (blocks (b .others .bitmap)) (w .rows) (rowsOf (b .others .table)) q u i g)
+  serve-goes g p = goes (TakeNext g) refl p (λ u i. taking-early (w .device) (w .blocks) (blocks (b .others .slices .bitmap)) (w .rows) (rowsOf (b .others .slices .table)) q u i g)
 
   pub answer-goes : (g : Guest) (ok : Bool) (host : ℕ) → OnQueue (Host g ok host) b a n → Goes (Host g ok host)
   unfolding isPlacing
   answer-goes g ok host p =
-      goes (Host g ok host) refl p (λ u i. answering-early (w .device) (w .blocks) (blocks (b .others .bitmap)) (w .rows) (rowsOf (b .others .table)) q u i g ok host (q .taken) refl)
+      goes (Host g ok host) refl p (λ u i. answering-early (w .device) (w .blocks) (blocks (b .others .slices .bitmap)) (w .rows) (rowsOf (b .others .slices .table)) q u i g ok host (q .taken) refl)

@@ -2,20 +2,20 @@
 use Prim.Native.Nat.{ℕ}
 use mathlib.Core.Path.{_≡_}
 use mathlib.Core.Bool.{Bool, true}
-use Rattle.jambcopper.specs.Queue.{QueueLent}
+use Rattle.jambcopper.specs.Queue.{QueueHanded}
 use Rattle.linked.specs.Refused.{AreBytes}
 use Rattle.queue_runs.specs.Runs.{QueueCall, lentTo}
 use Rattle.queue_runs.specs.Standard.{onGuest}
 use Rattle.queue_linked.specs.Runs.{OnQueue}
 
-pub record QueueUntouched (b a : QueueLent) : Type 0 where
+pub record QueueUntouched (b a : QueueHanded) : Type 0 where
   pub same-words : a .others .words ≡ b .others .words
   pub same-queue : a .queue ≡ b .queue
-  pub same-bitmap : a .others .bitmap ≡ b .others .bitmap
-  pub same-table : a .others .table ≡ b .others .table
-  pub same-bytes : a .others .bytes ≡ b .others .bytes
+  pub same-bitmap : a .others .slices .bitmap ≡ b .others .slices .bitmap
+  pub same-table : a .others .slices .table ≡ b .others .slices .table
+  pub same-bytes : a .others .slices .bytes ≡ b .others .slices .bytes
 
 -- jambcopper_serve and jambcopper_serve_answer, on the guest memory that they are lent
 abbrev pub RefusedQueueExportChangesNothing : Type 0
-RefusedQueueExportChangesNothing = (c : QueueCall) → onGuest c ≡ true → (b a : QueueLent) (n : ℕ) → lentTo c .mem ≡ b .others .bytes → AreBytes (b .others .bitmap) → AreBytes (a .others .bitmap)
+RefusedQueueExportChangesNothing = (c : QueueCall) → onGuest c ≡ true → (b a : QueueHanded) (n : ℕ) → lentTo c .mem ≡ b .others .slices .bytes → AreBytes (b .others .slices .bitmap) → AreBytes (a .others .slices .bitmap)
     → OnQueue c b a n → (n ≡ 0 → ⊥) → (n ≡ 10 → ⊥) → QueueUntouched b a

@@ -14,9 +14,9 @@ use Rattle.making.specs.declared.Made.the-variants.{Device as MadeDevice}
 use Rattle.queue.specs.Queue.{queueAnswerWords, queueNumberOf}
 use Rattle.queue_words.specs.declared.DecodedQueue.the-variants.{Is as IsQueue}
 use Rattle.queue_words.specs.Words.{decodedQueueOf}
-use Rattle.jambcopper.specs.Exports.{Lent}
-use Rattle.jambcopper.specs.Queue.{newQueue, QueueMadeIn, QueueLent, QueueExported}
-use Rattle.history.specs.History.{begun, Told}
+use Rattle.step.specs.Promise.{Lent, guestIn}
+use Rattle.jambcopper.specs.Queue.{newQueue, QueueMadeIn, QueueHanded, QueueExported}
+use Rattle.history.specs.History.{begun, Demand3}
 use Rattle.linked.specs.Runs.{Function, «jambcopper_place» as place, «jambcopper_set_requested_size» as resize, «jambcopper_read_config» as read, «jambcopper_write_config» as write, Use, Promised, Held, inUse, Lends, holding, leaves, Making, madeBy, Makes, first, Means, inHand}
 use Rattle.queue_runs.specs.Runs.{Beside, Placing, Sizing, Reading, Writing, QueueCall, TakeNext, Host, PastIt, queueStep, QueueStory, afterAll, opened}
 
@@ -36,8 +36,8 @@ pub data QueueFunction : Type 0 where
 -- the call with all that a program sees of it; a function that goes past the queue is not lent its words
 pub record QueueUse : Type 0 where
   pub function : QueueFunction
-  pub before : QueueLent
-  pub after : QueueLent
+  pub before : QueueHanded
+  pub after : QueueHanded
   pub number : ℕ
 
 -- as `linked` has a function that goes past the queue
@@ -47,27 +47,27 @@ functionOf («jambcopper_set_requested_size» mib) = resize mib
 functionOf («jambcopper_read_config» offset) = read offset
 functionOf («jambcopper_write_config» offset) = write offset
 
-abbrev pub useOf : Side → (before after : QueueLent) (number : ℕ) → Use
+abbrev pub useOf : Side → (before after : QueueHanded) (number : ℕ) → Use
 useOf side b a n = record { function = functionOf side; before = b .others; after = a .others; number = n }
 
 -- the call of the definition
 unfoldable pub besideBy : Side → Lent → Beside
-besideBy («jambcopper_place» start size slots) lent = Placing start size slots (blocks (lent .bitmap)) (rowsOf (lent .table))
-besideBy («jambcopper_set_requested_size» mib) lent = Sizing mib
-besideBy («jambcopper_read_config» offset) lent = Reading offset (lent .bytes)
-besideBy («jambcopper_write_config» offset) lent = Writing offset (lent .bytes)
+besideBy («jambcopper_place» start size slots) l = Placing start size slots (blocks (l .bitmap)) (rowsOf (l .table))
+besideBy («jambcopper_set_requested_size» mib) l = Sizing mib
+besideBy («jambcopper_read_config» offset) l = Reading offset (l .bytes)
+besideBy («jambcopper_write_config» offset) l = Writing offset (l .bytes)
 
 unfoldable pub callBy : QueueFunction → Lent → QueueCall
-callBy («jambcopper_serve» base) lent = TakeNext (record { mem = lent .bytes; base = base })
-callBy («jambcopper_serve_answer» base ok host) lent = Host (record { mem = lent .bytes; base = base }) ok host
-callBy (Past side) lent = PastIt (besideBy side lent)
+callBy («jambcopper_serve» base) l = TakeNext (guestIn l base)
+callBy («jambcopper_serve_answer» base ok host) l = Host (guestIn l base) ok host
+callBy (Past side) l = PastIt (besideBy side l)
 
 abbrev pub callOf : QueueUse → QueueCall
-callOf u = callBy (u .function) (u .before .others)
+callOf u = callBy (u .function) (u .before .others .slices)
 
 -- what an export on the queue promises: on the record and the queue that the words mean, and on the tables that it is lent, the definition's step
-abbrev pub OnQueue : QueueCall → (before after : QueueLent) (number : ℕ) → Type 0
-OnQueue c b a n = QueueExported (λ d q. queueStep (worldOf d (b .others .bitmap) (b .others .table)) q c) b a n
+abbrev pub OnQueue : (Lent → QueueCall) → (before after : QueueHanded) (number : ℕ) → Type 0
+OnQueue c b a n = QueueExported (λ l w q. queueStep w q (c l)) b a n
 
 -- ---- what a program holds between two calls: what `linked` has, and the queue's words
 pub record QueueHeld : Type 0 where
@@ -75,23 +75,23 @@ pub record QueueHeld : Type 0 where
   pub queue : List ℕ
 
 -- the call is lent what is held: the record and the queue always, the tables while they are in use
-pub record LendsQueue (h : QueueHeld) (b : QueueLent) : Type 0 where
+pub record LendsQueue (h : QueueHeld) (b : QueueHanded) : Type 0 where
   pub same-queue : b .queue ≡ h .queue
   pub same-words : b .others .words ≡ h .device .words
-  pub same-bitmap : inUse (h .device) ≡ true → b .others .bitmap ≡ h .device .bitmap
-  pub same-table : inUse (h .device) ≡ true → b .others .table ≡ h .device .table
+  pub same-bitmap : inUse (h .device) ≡ true → b .others .slices .bitmap ≡ h .device .bitmap
+  pub same-table : inUse (h .device) ≡ true → b .others .slices .table ≡ h .device .table
 
 -- and keeps its promise
-unfoldable pub OneBy : QueueFunction → QueueHeld → (before after : QueueLent) (number : ℕ) → Type 0
-OneBy («jambcopper_serve» base) h b a n = LendsQueue h b × OnQueue (callBy («jambcopper_serve» base) (b .others)) b a n
-OneBy («jambcopper_serve_answer» base ok host) h b a n = LendsQueue h b × OnQueue (callBy («jambcopper_serve_answer» base ok host) (b .others)) b a n
+unfoldable pub OneBy : QueueFunction → QueueHeld → (before after : QueueHanded) (number : ℕ) → Type 0
+OneBy («jambcopper_serve» base) h b a n = LendsQueue h b × OnQueue (callBy («jambcopper_serve» base)) b a n
+OneBy («jambcopper_serve_answer» base ok host) h b a n = LendsQueue h b × OnQueue (callBy («jambcopper_serve_answer» base ok host)) b a n
 OneBy (Past side) h b a n = Lends (h .device) (useOf side b a n) × Promised (useOf side b a n)
 
 abbrev pub One : QueueHeld → QueueUse → Type 0
 One h u = OneBy (u .function) h (u .before) (u .after) (u .number)
 
 -- what is held then
-unfoldable pub leavesBy : QueueFunction → QueueHeld → (before after : QueueLent) (number : ℕ) → QueueHeld
+unfoldable pub leavesBy : QueueFunction → QueueHeld → (before after : QueueHanded) (number : ℕ) → QueueHeld
 leavesBy («jambcopper_serve» base) h b a n = record { device = holding (inUse (h .device)) (h .device) (a .others); queue = a .queue }
 leavesBy («jambcopper_serve_answer» base ok host) h b a n = record { device = holding (inUse (h .device)) (h .device) (a .others); queue = a .queue }
 leavesBy (Past side) h b a n = record { device = leaves (h .device) (useOf side b a n); queue = h .queue }
@@ -138,7 +138,7 @@ pub record QueueMeans (h : QueueHeld) (w : World) (q : Queue) : Type 0 where
 pub record Tells (w : World) (q : Queue) (u : QueueUse) : Type 0 where
   pub numbered : u .number ≡ queueNumberOf (queueStep w q (callOf u) .answer)
   pub told : u .after .others .answer ≡ put (u .before .others .answer) 0 (queueAnswerWords (queueStep w q (callOf u) .answer))
-  pub left : u .after .others .bytes ≡ queueStep w q (callOf u) .bytes
+  pub left : u .after .others .slices .bytes ≡ queueStep w q (callOf u) .bytes
 
 -- the theorem: a device and a queue were made, and over any run of the exported functions from then on
 pub record QueueLinked (m : Making) (words : List ℕ) (k : QueueMaking) (queue : List ℕ) : Type 0 where

@@ -27,7 +27,7 @@ same-length-2 : tie.Need-same-length-2
 same-length-2 c = search needs
 
 returns : tie.Need-returns
-returns c = no-record _ _ _ _ _ (c .before .before .before .before .before .before .decode .ensures) (c .before .before .before .before .enum-told .given .1) _ _ _ _ (c .before .before .tell .ensures)
+returns c = no-record _ _ _ _ (c .before .before .before .before .before .before .decode .ensures) (c .before .before .before .before .enum-told .given .1) _ _ _ _ (c .before .before .tell .ensures)
 
 decode-queue-requires : tie.Need-decode-queue-requires
 decode-queue-requires c κs = search needs
@@ -52,7 +52,7 @@ same-length-5 c = search needs
 
 returns-2 : tie.Need-returns-2
 returns-2 c =
-    no-queue _ _ _ _ _ (c .before .before .before .before .before .before .before .before .before .before .before .decode .ensures) _ (c .before .before .before .before .before .before .before .before .before .d .given .1) _ (c .before .before .before .before .before .before .decode-queue .ensures) (c .before .before .before .before .enum-told2 .given .1) _ _ _ _ (c .before .before .tell2 .ensures)
+    no-queue _ _ _ _ (c .before .before .before .before .before .before .before .before .before .before .before .decode .ensures) _ (c .before .before .before .before .before .before .before .before .before .d .given .1) _ (c .before .before .before .before .before .before .decode-queue .ensures) (c .before .before .before .before .enum-told2 .given .1) _ _ _ _ (c .before .before .tell2 .ensures)
 
 next-taking-requires : tie.Need-next-taking-requires
 next-taking-requires c κs = search needs
@@ -101,7 +101,7 @@ same-length-9 c = search needs
 
 returns-3 : tie.Need-returns-3
 returns-3 c =
-    unmoved-told _ _ _ _ _ (c .before .before .before .before .before .before .before .before .before .before .before .before .before .before .before .before .before .decode .ensures) _ (c .before .before .before .before .before .before .before .before .before .before .before .before .before .before .before .d .given .1) _ (c .before .before .before .before .before .before .before .before .before .before .before .before .decode-queue .ensures) _ (c .before .before .before .before .before .before .before .before .before .before .q .given .1) _ _ _ _ _
+    unmoved-told _ _ _ _ (c .before .before .before .before .before .before .before .before .before .before .before .before .before .before .before .before .before .decode .ensures) _ (c .before .before .before .before .before .before .before .before .before .before .before .before .before .before .before .d .given .1) _ (c .before .before .before .before .before .before .before .before .before .before .before .before .decode-queue .ensures) _ (c .before .before .before .before .before .before .before .before .before .before .q .given .1) _ _ _ _ _
     (told-as _ _ _ _ _ _ (c .before .before .before .before .before .before .before .next-taking .ensures) _ (c .before .before .before .before .before .told .given .1))
     (c .before .before .tell-queue .ensures)
 
@@ -122,9 +122,9 @@ same-length-14 c = search needs
 
 returns-4 : tie.Need-returns-4
 returns-4 c =
-    about-told _ _ _ _ _ (c .before .before .before .before .before .before .before .before .before .before .before .before .before .before .before .before .before .before .before .before .before .before .before .before .before .before .before .before .before .before .before .before .before .before .before .before .before .before .before .decode .ensures) _ (c .before .before .before .before .before .before .before .before .before .before .before .before .before .before .before .before .before .before .before .before .before .before .before .before .before .before .before .before .before .before .before .before .before .before .before .before .before .d .given .1) _ (c .before .before .before .before .before .before .before .before .before .before .before .before .before .before .before .before .before .before .before .before .before .before .before .before .before .before .before .before .before .before .before .before .before .before .decode-queue .ensures) _ (c .before .before .before .before .before .before .before .before .before .before .before .before .before .before .before .before .before .before .before .before .before .before .before .before .before .before .before .before .before .before .before .before .q .given .1)
+    about-told _ _ _ _ (c .before .before .before .before .before .before .before .before .before .before .before .before .before .before .before .before .before .before .before .before .before .before .before .before .before .before .before .before .before .before .before .before .before .before .before .before .before .before .before .decode .ensures) _ (c .before .before .before .before .before .before .before .before .before .before .before .before .before .before .before .before .before .before .before .before .before .before .before .before .before .before .before .before .before .before .before .before .before .before .before .before .before .d .given .1) _ (c .before .before .before .before .before .before .before .before .before .before .before .before .before .before .before .before .before .before .before .before .before .before .before .before .before .before .before .before .before .before .before .before .before .before .decode-queue .ensures) _ (c .before .before .before .before .before .before .before .before .before .before .before .before .before .before .before .before .before .before .before .before .before .before .before .before .before .before .before .before .before .before .before .before .q .given .1)
     _ _ _ _ _ _ _ (c .before .before .before .before .before .before .before .before .before .before .before .before .before .before .before .before .before .before .before .before .before .jambcopper-request .ensures)
-    refl (served-short _ _ _ _) _ _ _
+    refl (served-short _ _ _ _) _ _ _ _
     (walk-as _ _ _ _ _ _ (c .before .before .before .before .before .before .before .before .before .before .before .before .before .before .before .before .before .before .before .before .before .before .before .before .before .before .before .before .before .next-taking .ensures) _ (c .before .before .before .before .before .before .before .before .before .before .before .before .before .before .before .before .before .before .before .before .before .before .before .before .before .before .before .head .given .1) _ (c .before .before .before .before .before .before .before .before .before .before .before .before .took-head .ensures))
     _ (c .before .before .before .before .before .before .before .before .before .before .before .before .before .ending-told .ensures) _ _ _ _ _ (c .before .before .before .before .before .before .before .before .before .before .settle .ensures) (c .before .before .before .before .before .before .encode-queue .ensures) (c .before .before .pass-on .ensures)
 

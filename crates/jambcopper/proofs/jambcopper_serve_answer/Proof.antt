@@ -29,7 +29,7 @@ same-length-2 : tie.Need-same-length-2
 same-length-2 c = search needs
 
 returns : tie.Need-returns
-returns c = no-record _ _ _ _ _ (c .before .before .before .before .before .before .decode .ensures) (c .before .before .before .before .enum-told .given .1) _ _ _ _ (c .before .before .tell .ensures)
+returns c = no-record _ _ _ _ (c .before .before .before .before .before .before .decode .ensures) (c .before .before .before .before .enum-told .given .1) _ _ _ _ (c .before .before .tell .ensures)
 
 decode-queue-requires : tie.Need-decode-queue-requires
 decode-queue-requires c κs = search needs
@@ -54,7 +54,7 @@ same-length-5 c = search needs
 
 returns-2 : tie.Need-returns-2
 returns-2 c =
-    no-queue _ _ _ _ _ (c .before .before .before .before .before .before .before .before .before .before .before .decode .ensures) _ (c .before .before .before .before .before .before .before .before .before .d .given .1) _ (c .before .before .before .before .before .before .decode-queue .ensures) (c .before .before .before .before .enum-told2 .given .1) _ _ _ _ (c .before .before .tell2 .ensures)
+    no-queue _ _ _ _ (c .before .before .before .before .before .before .before .before .before .before .before .decode .ensures) _ (c .before .before .before .before .before .before .before .before .before .d .given .1) _ (c .before .before .before .before .before .before .decode-queue .ensures) (c .before .before .before .before .enum-told2 .given .1) _ _ _ _ (c .before .before .tell2 .ensures)
 
 queue-refusal-requires : tie.Need-queue-refusal-requires
 queue-refusal-requires c κs = search needs
@@ -76,7 +76,7 @@ same-length-9 c = search needs
 
 returns-3 : tie.Need-returns-3
 returns-3 c =
-    unmoved-told _ _ _ _ _ (c .before .before .before .before .before .before .before .before .before .before .before .before .before .before .before .decode .ensures) _ (c .before .before .before .before .before .before .before .before .before .before .before .before .before .d .given .1) _ (c .before .before .before .before .before .before .before .before .before .before .decode-queue .ensures) _ (c .before .before .before .before .before .before .before .before .q .given .1) _ _ _ _ _
+    unmoved-told _ _ _ _ (c .before .before .before .before .before .before .before .before .before .before .before .before .before .before .before .decode .ensures) _ (c .before .before .before .before .before .before .before .before .before .before .before .before .before .d .given .1) _ (c .before .before .before .before .before .before .before .before .before .before .decode-queue .ensures) _ (c .before .before .before .before .before .before .before .before .q .given .1) _ _ _ _ _
     (refused-as _ _ _ _ _ _ _ _ (c .before .before .before .before .before .queue-refusal .ensures) (ne-eqb _ _ (c .before .before .before .before .if1 .taken)))
     (c .before .before .tell3 .ensures)
 
@@ -110,7 +110,7 @@ same-length-15 c = search needs
 returns-4 : tie.Need-returns-4
 unfolding answers
 returns-4 c =
-    aside-told _ _ _ _ _ (c .before .before .before .before .before .before .before .before .before .before .before .before .before .before .before .before .before .before .before .before .before .before .before .before .before .before .before .before .before .decode .ensures) _ (c .before .before .before .before .before .before .before .before .before .before .before .before .before .before .before .before .before .before .before .before .before .before .before .before .before .before .before .d .given .1) _ (c .before .before .before .before .before .before .before .before .before .before .before .before .before .before .before .before .before .before .before .before .before .before .before .before .decode-queue .ensures) _ (c .before .before .before .before .before .before .before .before .before .before .before .before .before .before .before .before .before .before .before .before .before .before .q .given .1)
+    aside-told _ _ _ _ (c .before .before .before .before .before .before .before .before .before .before .before .before .before .before .before .before .before .before .before .before .before .before .before .before .before .before .before .before .before .decode .ensures) _ (c .before .before .before .before .before .before .before .before .before .before .before .before .before .before .before .before .before .before .before .before .before .before .before .before .before .before .before .d .given .1) _ (c .before .before .before .before .before .before .before .before .before .before .before .before .before .before .before .before .before .before .before .before .before .before .before .before .decode-queue .ensures) _ (c .before .before .before .before .before .before .before .before .before .before .before .before .before .before .before .before .before .before .before .before .before .before .q .given .1)
     _ _ _ _ _ _ _ (c .before .before .before .before .before .before .before .before .before .before .jambcopper-host-answer .ensures)
     (heard-as _ _ _ _ _ _ _ _ (c .before .before .before .before .before .before .before .before .before .before .before .before .before .before .before .before .before .before .before .queue-refusal .ensures) (eq-eqb _ _ (c .before .before .before .before .before .before .before .before .before .before .before .before .before .before .before .before .before .before .if1 .left)) _ (c .before .before .before .before .before .before .before .before .before .before .before .before .before .before .before .before .enum-told3 .given .1))
 
@@ -153,9 +153,9 @@ same-length-21 c = search needs
 returns-5 : tie.Need-returns-5
 unfolding answers
 returns-5 c =
-    about-told _ _ _ _ _ (c .before .before .before .before .before .before .before .before .before .before .before .before .before .before .before .before .before .before .before .before .before .before .before .before .before .before .before .before .before .before .before .before .before .before .before .before .before .before .before .before .before .before .decode .ensures) _ (c .before .before .before .before .before .before .before .before .before .before .before .before .before .before .before .before .before .before .before .before .before .before .before .before .before .before .before .before .before .before .before .before .before .before .before .before .before .before .before .before .d .given .1) _ (c .before .before .before .before .before .before .before .before .before .before .before .before .before .before .before .before .before .before .before .before .before .before .before .before .before .before .before .before .before .before .before .before .before .before .before .before .before .decode-queue .ensures) _ (c .before .before .before .before .before .before .before .before .before .before .before .before .before .before .before .before .before .before .before .before .before .before .before .before .before .before .before .before .before .before .before .before .before .before .before .q .given .1)
+    about-told _ _ _ _ (c .before .before .before .before .before .before .before .before .before .before .before .before .before .before .before .before .before .before .before .before .before .before .before .before .before .before .before .before .before .before .before .before .before .before .before .before .before .before .before .before .before .before .decode .ensures) _ (c .before .before .before .before .before .before .before .before .before .before .before .before .before .before .before .before .before .before .before .before .before .before .before .before .before .before .before .before .before .before .before .before .before .before .before .before .before .before .before .before .d .given .1) _ (c .before .before .before .before .before .before .before .before .before .before .before .before .before .before .before .before .before .before .before .before .before .before .before .before .before .before .before .before .before .before .before .before .before .before .before .before .before .decode-queue .ensures) _ (c .before .before .before .before .before .before .before .before .before .before .before .before .before .before .before .before .before .before .before .before .before .before .before .before .before .before .before .before .before .before .before .before .before .before .before .q .given .1)
     _ _ _ _ _ _ _ (c .before .before .before .before .before .before .before .before .before .before .before .before .before .before .before .before .before .before .before .before .before .before .jambcopper-host-answer2 .ensures)
-    refl (answered-short _ _ _ _) _ _ _
+    refl (answered-short _ _ _ _) _ _ _ _
     (heard-as _ _ _ _ _ _ _ _ (c .before .before .before .before .before .before .before .before .before .before .before .before .before .before .before .before .before .before .before .before .before .before .before .before .before .before .before .before .before .before .before .before .queue-refusal .ensures) (eq-eqb _ _ (c .before .before .before .before .before .before .before .before .before .before .before .before .before .before .before .before .before .before .before .before .before .before .before .before .before .before .before .before .before .before .before .if1 .left)) _ (c .before .before .before .before .before .before .before .before .before .before .before .before .before .before .before .before .before .before .before .before .before .before .before .before .before .before .before .before .before .taken .given .1))
     _ (c .before .before .before .before .before .before .before .before .before .before .before .before .ending-told .ensures) _ _ _ _ _ (c .before .before .before .before .before .before .before .before .before .before .settle .ensures) (c .before .before .before .before .before .before .encode-queue .ensures) (c .before .before .pass-on .ensures)
 
