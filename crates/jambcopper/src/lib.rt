@@ -55,7 +55,8 @@ ghost use Rattle.driver.specs.Text.{Wrote};
 ghost use Rattle.driver_words.specs.Told.{ResponseTold, ConfigTold, PlanTold};
 ghost use Rattle.save_words.specs.Told.{lengthFrom, WroteTold, SaveTold, RestoreTold, ToNewTold, ToOldTold};
 ghost use Rattle.jambcopper.specs.Exports.{nodeOf, MadeIn, handed, Exported};
-ghost use Rattle.jambcopper.specs.Queue.{newQueue, QueueMadeIn, queueHanded, serveOn, serveAnswerOn, QueueExported};
+ghost use Rattle.jambcopper.specs.Queue.{newQueue, QueueMadeIn};
+ghost use Rattle.jambcopper.specs.Queue.{queueHanded, serveOn, serveAnswerOn, QueueExported};
 
 // The node of a device, as the enum of its constructor has it.
 fn node_of(node_given: bool, node: u16) -> Node

@@ -12,8 +12,8 @@ use Rattle.jambcopper.proofs.jambcopper_serve.Kinds.{ps as serve-ps, r as serve
 use Rattle.jambcopper.proofs.jambcopper_serve.Reads.{Learnt as Serve-learnt}
 use Rattle.jambcopper.proofs.jambcopper_serve_answer.Kinds.{ps as answer-ps, r as answer-r}
 use Rattle.jambcopper.proofs.jambcopper_serve_answer.Reads.{Learnt as Answer-learnt}
-use Rattle.queue_runs.specs.Runs.{TakeNext, Host, queueStep}
-use Rattle.queue_linked.specs.Runs.{OnQueue}
+use Rattle.queue_runs.specs.Runs.{queueStep}
+use Rattle.queue_linked.specs.Runs.{«jambcopper_serve», «jambcopper_serve_answer», callBy, OnQueue}
 
 -- a are the arguments, in their order; e are the lent slices afterwards; z is what is returned
 pub make-promises : (κs : Lfts 1) (a : Dens κs make-ps) (z : resT make-r κs .Denot) (e : AtExit (endedOf 1 make-ps make-r) κs) → Make-learnt κs a z e
@@ -21,15 +21,15 @@ pub make-promises : (κs : Lfts 1) (a : Dens κs make-ps) (z : resT make-r κs .
 make-promises κs a z e p = p
 
 pub serve-promises : (κs : Lfts 6) (a : Dens κs serve-ps) (z : resT serve-r κs .Denot) (e : AtExit (endedOf 6 serve-ps serve-r) κs) → Serve-learnt κs a z e
-    → OnQueue (TakeNext (record { mem = now (a .1 .1 .1 .1 .0); base = a .1 .1 .1 .1 .1 .0 }))
+    → OnQueue (callBy («jambcopper_serve» (a .1 .1 .1 .1 .1 .0)))
     (queueHanded (now (a .1 .0)) (handed (now (a .0)) (now (a .1 .1 .1 .1 .1 .1 .0)) (lent (now (a .1 .1 .0)) (now (a .1 .1 .1 .0)) (now (a .1 .1 .1 .1 .0)))))
     (queueHanded (now (e .1 .0)) (handed (now (e .0)) (now (e .1 .1 .1 .1 .1 .1 .0)) (lent (now (e .1 .1 .0)) (now (a .1 .1 .1 .0)) (now (e .1 .1 .1 .1 .0))))) z
-unfolding queueStep
+unfolding queueStep callBy
 serve-promises κs a z e p = p
 
 pub answer-promises : (κs : Lfts 6) (a : Dens κs answer-ps) (z : resT answer-r κs .Denot) (e : AtExit (endedOf 6 answer-ps answer-r) κs) → Answer-learnt κs a z e
-    → OnQueue (Host (record { mem = now (a .1 .1 .1 .1 .0); base = a .1 .1 .1 .1 .1 .0 }) (a .1 .1 .1 .1 .1 .1 .0) (a .1 .1 .1 .1 .1 .1 .1 .0))
+    → OnQueue (callBy («jambcopper_serve_answer» (a .1 .1 .1 .1 .1 .0) (a .1 .1 .1 .1 .1 .1 .0) (a .1 .1 .1 .1 .1 .1 .1 .0)))
     (queueHanded (now (a .1 .0)) (handed (now (a .0)) (now (a .1 .1 .1 .1 .1 .1 .1 .1 .0)) (lent (now (a .1 .1 .0)) (now (a .1 .1 .1 .0)) (now (a .1 .1 .1 .1 .0)))))
     (queueHanded (now (e .1 .0)) (handed (now (e .0)) (now (e .1 .1 .1 .1 .1 .1 .1 .1 .0)) (lent (now (e .1 .1 .0)) (now (e .1 .1 .1 .0)) (now (e .1 .1 .1 .1 .0))))) z
-unfolding queueStep
+unfolding queueStep callBy
 answer-promises κs a z e p = p

@@ -10,6 +10,7 @@ use Rattle.record.specs.declared.Device.{Device}
 use Rattle.rings.specs.declared.Queue.{Queue}
 use Rattle.step.specs.declared.Answer.the-variants.{Refused}
 use Rattle.step.specs.World.{World, worldOf}
+use Rattle.step.specs.Promise.{Lent}
 use Rattle.words.specs.declared.Decoded.{Decoded}
 use Rattle.words.specs.declared.Decoded.the-variants.{Is, NoRecord}
 use Rattle.words.specs.Record.{wordsOf, decodedOf}
@@ -46,29 +47,30 @@ foreign b a n f =
     record {
       same-words = f .others .recorded;
       same-queue = f .queued;
-      same-bitmap = f .others .marked;
-      same-table = f .others .mapped;
-      same-bytes = f .others .left;
+      same-bitmap = ap (λ (l : Lent). l .bitmap) (f .others .untouched);
+      same-table = ap (λ (l : Lent). l .table) (f .others .untouched);
+      same-bytes = ap (λ (l : Lent). l .bytes) (f .others .untouched);
     }
 
 pub refused-queue-export-changes-nothing : RefusedQueueExportChangesNothing
 unfolding QueueCalled
-refused-queue-export-changes-nothing c guest b a n lends low low′ p refused not-10 = go (decodedOf (b .others .words)) (decodedQueueOf (b .queue)) refl refl p
+refused-queue-export-changes-nothing c b a n guest lends low low′ p refused not-10 = go (decodedOf (b .others .words)) (decodedQueueOf (b .queue)) refl refl p
   where
     go : (r : Decoded) (s : DecodedQueue) → decodedOf (b .others .words) ≡ r → decodedQueueOf (b .queue) ≡ s
-        → QueueCalled r s (λ (d : Device) (q : Queue). queueStep (worldOf d (b .others .slices .bitmap) (b .others .slices .table)) q c) b a n → QueueUntouched b a
+        → QueueCalled r s (λ l w q. queueStep w q (c l)) b a n → QueueUntouched b a
     go (Is d) (IsQueue q) is queue-is t =
         let w = worldOf d (b .others .slices .bitmap) (b .others .slices .table) in
-        let o = queueStep w q c in
+        let call = c (b .others .slices) in
+        let o = queueStep w q call in
         let is-refused = refused-of (o .answer) (λ e. refused (t .numbered ∙ e)) in
-        let same = refused-moves-nothing w q c (queueNumberOf (o .answer)) is-refused (λ e. not-10 (t .numbered ∙ e)) in
-        let none = refused-takes-none w q c (queueNumberOf (o .answer)) is-refused in
+        let same = refused-moves-nothing w q call (queueNumberOf (o .answer)) is-refused (λ e. not-10 (t .numbered ∙ e)) in
+        let none = refused-takes-none w q call (queueNumberOf (o .answer)) is-refused in
         record {
           same-words = t .recorded ∙ ap (λ (v : World). put (b .others .words) 0 (wordsOf (v .device))) same ∙ decoded-encodes (b .others .words) d is;
           same-queue = t .queued ∙ ap (λ (x : Queue). put (b .queue) 0 (queueWords x)) (none .0 .same-queue) ∙ queue-encodes (b .queue) q queue-is;
-          same-bitmap = blocks-tell (a .others .slices .bitmap) (b .others .slices .bitmap) low′ low (t .marked ∙ ap (λ (v : World). v .blocks) same);
-          same-table = t .mapped ∙ ap (λ (v : World). written (b .others .slices .table) (v .rows)) same ∙ whole (b .others .slices .table);
-          same-bytes = t .left ∙ none .1 ∙ guest-bytes c guest ∙ lends;
+          same-bitmap = blocks-tell (a .others .slices .bitmap) (b .others .slices .bitmap) low′ low (t .leaves .marked ∙ ap (λ (v : World). v .blocks) same);
+          same-table = t .leaves .mapped ∙ ap (λ (v : World). written (b .others .slices .table) (v .rows)) same ∙ whole (b .others .slices .table);
+          same-bytes = t .leaves .left ∙ none .1 ∙ guest-bytes call guest ∙ lends;
         }
     go (Is d) NoQueue is queue-is t = foreign b a n t
     go NoRecord s is queue-is t = foreign b a n t

@@ -29,7 +29,7 @@ use Rattle.queue.specs.declared.QueueAnswer.the-variants.{Of}
 use Rattle.queue.specs.Queue.{QueueOutcome, queueOk, takingRefusal, nextUnless, nextOf, takes, outRefusal, answerRefusal, answers, unlessRefused, queueAnswerWords, queueNumberOf}
 use Rattle.queue_words.specs.declared.DecodedQueue.the-variants.{Is as IsQueue}
 use Rattle.queue_words.specs.Words.{decodedQueueOf}
-use Rattle.jambcopper.specs.Exports.{Handed}
+use Rattle.step.specs.Promise.{Lent, guestIn}
 use Rattle.jambcopper.specs.Queue.{QueueHanded, QueueTold, QueueCalled}
 use Rattle.history.specs.Rules.{isPlace}
 use Rattle.history.proofs.Shaped.{clash}
@@ -40,7 +40,7 @@ use Rattle.queue_runs.specs.Runs.{QueueCall, TakeNext, Host, queueStep, deviceC
 use Rattle.queue_runs.specs.Rules.{AsCalls, isPlacing}
 use Rattle.queue_runs.proofs.Calls.{none-or-one}
 use Rattle.queue_runs.proofs.Rules.{kinds}
-use Rattle.queue_linked.specs.Runs.{OnQueue, QueueHeld, LendsQueue, QueueMeans}
+use Rattle.queue_linked.specs.Runs.{«jambcopper_serve», «jambcopper_serve_answer», callBy, OnQueue, QueueHeld, LendsQueue, QueueMeans}
 
 -- ---- a call on the queue keeps how many rows there are
 rows-kept : (w : World) (calls : List Call) (o : QueueOutcome) → ((call : Call) → calls ≡ call ∷ [] → isPlace call ≡ false) → AsCalls w calls o → length (o .world .rows) ≡ length (w .rows)
@@ -113,41 +113,44 @@ module _ (h : QueueHeld) (w : World) (q : Queue) (m : QueueMeans h w q) (b a : Q
     pub left : a .others .slices .bytes ≡ queueStep w q c .bytes
     pub means : QueueMeans (record { device = holding (inUse (h .device)) (h .device) (a .others); queue = a .queue }) (queueStep w q c .world) (queueStep w q c .queue)
 
-  kept : (c : QueueCall) → OnQueue c b a n → QueueTold (queueStep lentWorld q c) b a n
+  -- the promise, on the record and the queue that are held
+  abbrev Kept : QueueCall → Type 0
+  Kept c = QueueTold (queueStep lentWorld q c) b a n
+
+  kept : (c : Lent → QueueCall) → OnQueue c b a n → Kept (c (b .others .slices))
   unfolding QueueCalled
   kept c p = rw (ap decodedOf (lends .same-words) ∙ m .device .decodes, ap decodedQueueOf (lends .same-queue) ∙ m .queue) at p
 
   -- on the tables that are held
-  on-held : (c : QueueCall) → isPlacing c ≡ false → OnQueue c b a n → inUse (h .device) ≡ true → Goes c
+  on-held : (c : QueueCall) → isPlacing c ≡ false → Kept c → inUse (h .device) ≡ true → Goes c
   unfolding holding
-  on-held c past p used =
+  on-held c past kept-c used =
       let e : lentWorld ≡ w = rw (lends .same-bitmap used, lends .same-table used, m .device .marked, m .device .mapped) in
       let lent : length (rowsOf (b .others .slices .table)) ≡ length (w .rows) = ap (λ (v : World). length (v .rows)) e in
-      let k : QueueTold (queueStep w q c) b a n = rw e at (kept c p) in
+      let k : QueueTold (queueStep w q c) b a n = rw e at kept-c in
       record {
         numbered = k .numbered;
         told = k .told;
-        left = k .left;
+        left = k .leaves .left;
         means = record {
           device = rw used
               (record {
                 decodes = k .decodes;
-                marked = k .marked;
-                mapped = ap rowsOf (k .mapped) ∙ read-back (b .others .slices .table) (queueStep w q c .world .rows) (same-rows w q c past ∙ sym lent);
+                marked = k .leaves .marked;
+                mapped = ap rowsOf (k .leaves .mapped) ∙ read-back (b .others .slices .table) (queueStep w q c .world .rows) (same-rows w q c past ∙ sym lent);
               });
           queue = k .queue-decodes;
         };
       }
 
   -- before placing
-  on-any : (c : QueueCall) → OnQueue c b a n → inUse (h .device) ≡ false → Stay w lentWorld (queueStep w q c) (queueStep lentWorld q c) → Goes c
+  on-any : (c : QueueCall) → Kept c → inUse (h .device) ≡ false → Stay w lentWorld (queueStep w q c) (queueStep lentWorld q c) → Goes c
   unfolding holding
-  on-any c p unused y =
-      let k = kept c p in
+  on-any c k unused y =
       record {
         numbered = k .numbered ∙ ap queueNumberOf (y .same-answer);
         told = k .told ∙ ap (λ (t : QueueAnswer). put (b .others .answer) 0 (queueAnswerWords t)) (y .same-answer);
-        left = k .left ∙ y .same-bytes;
+        left = k .leaves .left ∙ y .same-bytes;
         means = record {
           device = rw (unused, y .stays)
               (record {
@@ -159,17 +162,20 @@ module _ (h : QueueHeld) (w : World) (q : Queue) (m : QueueMeans h w q) (b a : Q
         };
       }
 
-  goes : (c : QueueCall) → isPlacing c ≡ false → OnQueue c b a n
+  goes : (c : QueueCall) → isPlacing c ≡ false → Kept c
       → (w .device .placed ≡ false → isIdle (w .device .pending) ≡ true → Stay w lentWorld (queueStep w q c) (queueStep lentWorld q c)) → Goes c
   goes c past p early =
       by-test (inUse (h .device)) (λ t. on-held c past p t)
       (λ t. let idle = not-in-use (h .device) w (m .device) t in on-any c p t (early (idle .0) (idle .1)))
 
-  pub serve-goes : (g : Guest) → OnQueue (TakeNext g) b a n → Goes (TakeNext g)
-  unfolding isPlacing
-  serve-goes g p = goes (TakeNext g) refl p (λ u i. taking-early (w .device) (w .blocks) (blocks (b .others .slices .bitmap)) (w .rows) (rowsOf (b .others .slices .table)) q u i g)
+  pub serve-goes : (base : ℕ) → OnQueue (callBy («jambcopper_serve» base)) b a n → Goes (TakeNext (guestIn (b .others .slices) base))
+  unfolding isPlacing callBy
+  serve-goes base p =
+      let g = guestIn (b .others .slices) base in
+      goes (TakeNext g) refl (kept (callBy («jambcopper_serve» base)) p) (λ u i. taking-early (w .device) (w .blocks) (blocks (b .others .slices .bitmap)) (w .rows) (rowsOf (b .others .slices .table)) q u i g)
 
-  pub answer-goes : (g : Guest) (ok : Bool) (host : ℕ) → OnQueue (Host g ok host) b a n → Goes (Host g ok host)
-  unfolding isPlacing
-  answer-goes g ok host p =
-      goes (Host g ok host) refl p (λ u i. answering-early (w .device) (w .blocks) (blocks (b .others .slices .bitmap)) (w .rows) (rowsOf (b .others .slices .table)) q u i g ok host (q .taken) refl)
+  pub answer-goes : (base : ℕ) (ok : Bool) (host : ℕ) → OnQueue (callBy («jambcopper_serve_answer» base ok host)) b a n → Goes (Host (guestIn (b .others .slices) base) ok host)
+  unfolding isPlacing callBy
+  answer-goes base ok host p =
+      let g = guestIn (b .others .slices) base in
+      goes (Host g ok host) refl (kept (callBy («jambcopper_serve_answer» base ok host)) p) (λ u i. answering-early (w .device) (w .blocks) (blocks (b .others .slices .bitmap)) (w .rows) (rowsOf (b .others .slices .table)) q u i g ok host (q .taken) refl)

@@ -4,6 +4,7 @@ use mathlib.Core.Path.{_≡_}
 use mathlib.Core.Bool.{Bool, true}
 use Rattle.jambcopper.specs.Queue.{QueueHanded}
 use Rattle.linked.specs.Refused.{AreBytes}
+use Rattle.step.specs.Promise.{Lent}
 use Rattle.queue_runs.specs.Runs.{QueueCall, lentTo}
 use Rattle.queue_runs.specs.Standard.{onGuest}
 use Rattle.queue_linked.specs.Runs.{OnQueue}
@@ -17,5 +18,5 @@ pub record QueueUntouched (b a : QueueHanded) : Type 0 where
 
 -- jambcopper_serve and jambcopper_serve_answer, on the guest memory that they are lent
 abbrev pub RefusedQueueExportChangesNothing : Type 0
-RefusedQueueExportChangesNothing = (c : QueueCall) → onGuest c ≡ true → (b a : QueueHanded) (n : ℕ) → lentTo c .mem ≡ b .others .slices .bytes → AreBytes (b .others .slices .bitmap) → AreBytes (a .others .slices .bitmap)
+RefusedQueueExportChangesNothing = (c : Lent → QueueCall) (b a : QueueHanded) (n : ℕ) → onGuest (c (b .others .slices)) ≡ true → lentTo (c (b .others .slices)) .mem ≡ b .others .slices .bytes → AreBytes (b .others .slices .bitmap) → AreBytes (a .others .slices .bitmap)
     → OnQueue c b a n → (n ≡ 0 → ⊥) → (n ≡ 10 → ⊥) → QueueUntouched b a
