@@ -18,7 +18,7 @@ use Rattle.step.specs.Answers.{answerWords, numberOf}
 use Rattle.queue_words.specs.declared.DecodedQueue.the-variants.{Is as IsQueue}
 use Rattle.queue_words.specs.Words.{queueWords, isQueue, decodedQueueOf}
 use Rattle.queue_words.proofs.Laws.{encoded-decodes}
-use Rattle.jambcopper.specs.Exports.{Handed}
+use Rattle.step.specs.Promise.{Lent}
 use Rattle.jambcopper.specs.Queue.{QueueHanded}
 use Rattle.history.specs.History.{begun}
 use Rattle.history.specs.Reached.{from-making}
@@ -48,14 +48,14 @@ module _ (h : QueueHeld) (w : World) (q : Queue) (m : QueueMeans h w q) where
   goes-on : (f : QueueFunction) (b a : QueueHanded) (n : ℕ) → OneBy f h b a n → Next (record { function = f; before = b; after = a; number = n })
   unfolding OneBy leavesBy callBy queueStep
   goes-on («jambcopper_serve» base) b a n one =
-      let g = serve-goes h w q m b a n (one .0) _ (one .1) in
+      let g = serve-goes h w q m b a n (one .0) base (one .1) in
       (record { numbered = g .numbered; told = g .told; left = g .left }, g .means)
   goes-on («jambcopper_serve_answer» base ok host) b a n one =
-      let g = answer-goes h w q m b a n (one .0) _ ok host (one .1) in
+      let g = answer-goes h w q m b a n (one .0) base ok host (one .1) in
       (record { numbered = g .numbered; told = g .told; left = g .left }, g .means)
   goes-on (Past side) b a n one =
       let g = one-goes (h .device) w (m .device) (useOf side b a n) (record { lends = one .0; promised = one .1 }) in
-      let same = same-call side (b .others) in
+      let same = same-call side (b .others .slices) in
       let t = g .0 in (
         record {
           numbered = t .numbered ∙ ap (λ (c : Call). numberOf (step w c .answer)) same;
