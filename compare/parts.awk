@@ -3,7 +3,7 @@
 # awk -v seed=N -v into=FOLDER -f random.awk -f fields.awk -f parts.awk TRACES
 # A plug of two blocks or more becomes two to six plugs, cut at random places, asked for in their order or in another. FOLDER gets
 # of each trace its new lines (N.in) and the answers that they must have (N.out): each part is acknowledged, the last of them is
-# answered as the plug was, and every other line as before (02, request 10/12).
+# answered as the plug was, and every other line as before (R16).
 
 function trade(of, i, j,    kept) {
     kept = of[i]

@@ -1,20 +1,20 @@
 # SPDX-License-Identifier: Apache-2.0 AND BSD-3-Clause
 # Holds what `driver plans` prints against a model of the planner: driver plans <PLANS | awk -f planned.awk
-# The model goes by the words of 02, request 3/12, and of 01's plug, and by trying: it starts at the lowest free block, and takes the
+# The model goes by docs/RULES.md, R14 and (a) to (d) of R10, and by trying: it starts at the lowest free block, and takes the
 # longest plug that is legal there. 17 is due exactly if no block of the region has a legal plug of one block. Sizes are in blocks.
 
 function has_rest(size) { return index(size, "+") > 0 }
 
 function at_most(size, most) { return !has_rest(size) && size + 0 <= most }
 
-# 01's record shape, with alignment 128 MiB and one region. 2^42 blocks are 2^64 bytes.
+# The record's shape (R3), with alignment 128 MiB and one region. 2^42 blocks are 2^64 bytes.
 function shaped() {
     return $1 == "1" && at_most($4, 262144) && $4 > 0 && $4 % 64 == 0 \
         && at_most($7, $4) && at_most($5, $4) && at_most($6, $4) \
         && !has_rest($3) && $3 % 32 == 0 && $3 + $4 < 2 ^ 42
 }
 
-# What forbids a plug of n blocks from a block on: (a) to (c) of 01's plug, and the border of (d), here with one region too.
+# What forbids a plug of n blocks from a block on: (a) to (c) of R10, and the border of (d), here with one region too.
 function past_requested(n) { return plugged + n > requested }
 function past_usable(first, n) { return first + n > usable }
 function meets_plugged(first, n) { return index(substr(bits, first + 1, n), "1") > 0 }

@@ -1,5 +1,5 @@
 # SPDX-License-Identifier: Apache-2.0 AND BSD-3-Clause
-# Save records by the words of 02, request 6/12, and of 01's record shape: which states have a text, the text, and its reading.
+# Save records by docs/RULES.md, R15, and the record's shape (R3): which states have a text, the text, and its reading.
 # For the other programs here, named before them (awk -f save.awk -f ..).
 # A text is one word: its newlines are /, and a byte that is none of a-z, 0-9, = and , is % and two hexadecimal digits. Blocks are a
 # string, a character each, 1 where they are plugged. Numbers are decimal strings, since an awk's own are exact to 2^53 alone.

@@ -2,7 +2,7 @@
 # Holds what `saves` prints against the model in save.awk: saves <STATES | awk -f save.awk -f saved.awk
 # A line is one of states.awk with the number behind it and, where that is 0, what was given.
 
-# 01's record shape, over the words as bindings/c/jambcopper.h has them.
+# The record's shape (R3), over the words as bindings/c/jambcopper.h has them.
 function is_record(n,    region, alignment, rows, i) {
     if (n < 15) return 0
     for (i = 1; i <= n; i++) if (!is_number(w[i])) return 0

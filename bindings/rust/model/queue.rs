@@ -1,5 +1,5 @@
 // SPDX-License-Identifier: Apache-2.0 AND BSD-3-Clause
-//! The split queue by the words of Virtio 1.2 (docs/STANDARD.md, Q1 to Q7) and of 02's request 1/12. The device's own part is the
+//! The split queue by the words of Virtio 1.2 (docs/STANDARD.md, Q1 to Q7) and of docs/RULES.md, R13. The device's own part is the
 //! library's `request` and `host_answer`.
 
 use crate::sys::{self, ANSWER_WORDS, KIND_EMPTY, PENDING_DISCARD, PENDING_DISCARD_ONE};

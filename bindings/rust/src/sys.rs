@@ -1,6 +1,6 @@
 // SPDX-License-Identifier: Apache-2.0 AND BSD-3-Clause
 //! What the static library exports, as `bindings/c/jambcopper.h` has it, with slices in the place of pointers and lengths. Every
-//! function answers 01's number, and any slice of any length and contents is allowed.
+//! function answers a number (docs/RULES.md, R1), and any slice of any length and contents is allowed.
 
 pub const RECORD_WORDS: usize = 15;
 pub const QUEUE_WORDS: usize = 6;

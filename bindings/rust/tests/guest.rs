@@ -1,5 +1,5 @@
 // SPDX-License-Identifier: Apache-2.0 AND BSD-3-Clause
-//! A guest over the static library: the whole example of 01, the refusals at the binding's edge, a restart, and a guest
+//! A guest over the static library: the whole example (R12.12), the refusals at the binding's edge, a restart, and a guest
 //! that plans.
 
 use jambcopper::driver::{plan, Config, Request, Response, CONFIG_BYTES, RESPONSE_BYTES};

@@ -127,7 +127,7 @@ impl Pair {
     }
 
     /// An unplug-all was refused. mem.rs keeps the plugged size of the blocks that it has cleared,
-    /// so no further call is compared (02, request 5).
+    /// so no further call is compared (request 5/12).
     pub fn over(&self) -> bool {
         self.over
     }
@@ -476,7 +476,7 @@ fn packed(eight: &[bool]) -> u8 {
 pub fn chain(case: &Chain, seen: &mut Seen) -> Result<u64, String> {
     let rust = case.served();
     let first = "capacity_mib=256 requested_mib=16 multi=0 node=none boot=1073741824 addr=4294967296 slot=1";
-    let first = First::parse(first).expect("01's example");
+    let first = First::parse(first).expect("the example");
     let mut proved = Proved::make(&first).expect("made");
     let mut memory = case.memory.clone();
     proved.place(first.addr, proved.region(), &[first.slot as u32]);

@@ -108,7 +108,7 @@ pub struct Put {
 }
 
 impl Put {
-    /// A chain of this request; one of four departs from a good one somewhere, where mem.rs and 01 agree.
+    /// A chain of this request; one of four departs from a good one somewhere, where mem.rs and the rules agree.
     pub fn any(random: &mut Random, op: Op, layout: &Layout) -> Put {
         let (kind, addr, blocks) = match op {
             Op::Plug { addr, blocks } => (PLUG, addr, blocks),
@@ -189,7 +189,7 @@ impl Put {
         self.head
     }
 
-    /// An unplug-all is the last that one wake serves: behind one that is refused mem.rs answers otherwise (02, request 5).
+    /// An unplug-all is the last that one wake serves: behind one that is refused mem.rs answers otherwise (request 5/12).
     pub fn is_last(&self) -> bool {
         self.kind == UNPLUG_ALL
     }

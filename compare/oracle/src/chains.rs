@@ -1,8 +1,8 @@
 // SPDX-License-Identifier: Apache-2.0 AND BSD-3-Clause
 //! One chain in one small guest memory, served by a fresh device of mem.rs; random ones at the edges.
 //!
-//! The device is that of 01's example: 256 MiB at 4 GiB, 16 MiB requested, nothing plugged.
-//! The cases stay where 01 and mem.rs agree: a table address that is a multiple of 16, a head below
+//! The device is that of the whole example (R12.12): 256 MiB at 4 GiB, 16 MiB requested, nothing plugged.
+//! The cases stay where the rules and mem.rs agree: a table address that is a multiple of 16, a head below
 //! 128, no indirect flag that the walk meets, a response wholly inside or wholly outside.
 
 use std::fmt;
@@ -30,7 +30,7 @@ pub struct Chain {
 #[derive(Clone, Debug, PartialEq, Eq)]
 pub struct Served {
     pub length: u32,
-    /// 01's reason, by the error that mem.rs logs.
+    /// The reason (R1.21 to R1.26), by the error that mem.rs logs.
     pub reason: u64,
     pub plugged: u64,
     pub memory: Vec<u8>,
@@ -85,7 +85,7 @@ impl Chain {
     pub fn served(&self) -> Served {
         let guest = Guest::new(self.base, self.memory.len(), self.table).expect("below 2^64");
         guest.write(self.base, &self.memory);
-        let mut device = Rust::make(256, 16, false, None, GIB).expect("01's example");
+        let mut device = Rust::make(256, 16, false, None, GIB).expect("the example");
         answering(|_| Some(HOST), || device.place_at(START, 1)).expect("placed");
         assert!(device.activate(guest));
         log::take();
@@ -119,7 +119,7 @@ impl Chain {
         })
     }
 
-    /// True where 01 and mem.rs are to agree.
+    /// True where the rules and mem.rs are to agree.
     fn comparable(&self) -> bool {
         let first = self.descriptor(self.head);
         let second = first
@@ -139,7 +139,7 @@ impl Chain {
     }
 }
 
-/// 01's reason for the error that a message names.
+/// The reason for the error that a message names.
 fn reason(said: &str) -> u64 {
     let names = [
         ("DescriptorChainTooShort", 21),

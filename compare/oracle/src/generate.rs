@@ -1,9 +1,9 @@
 // SPDX-License-Identifier: Apache-2.0 AND BSD-3-Clause
 //! Random traces that lean to the edges, written while they drive mem.rs.
 //!
-//! Every trace stays where 01 and mem.rs agree: at most 1 TiB, MiB numbers whose bytes are below 2^64,
+//! Every trace stays where the rules and mem.rs agree: at most 1 TiB, MiB numbers whose bytes are below 2^64,
 //! an aligned start whose region (several regions: whose rows) ends below 2^64, and host addresses whose
-//! mappings do too. It ends at the first unplug-all that is refused: behind it request 5 of 02 has other
+//! mappings do too. It ends at the first unplug-all that is refused: behind it request 5/12 has other
 //! answers than mem.rs.
 
 use std::cell::RefCell;
@@ -286,7 +286,7 @@ pub fn first_line(random: &mut Random) -> First {
     }
 }
 
-/// A start that 01 takes: aligned, and with room for the region or for its rows.
+/// A start that the rules take: aligned, and with room for the region or for its rows.
 pub fn start(random: &mut Random, device: &mut Rust) -> u64 {
     let (alignment, slots) = device.requirements();
     let region = device.config().region;

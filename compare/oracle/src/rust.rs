@@ -77,7 +77,7 @@ pub fn queue(guest: &Guest) -> QueueSync {
 trait Device: VirtioDevice<Space, QueueSync, GuestRegionMmap> {}
 impl Device for Mem<Space> {}
 
-/// 01's number for an error of mem.rs.
+/// The number for an error of mem.rs.
 fn number(e: Error) -> u64 {
     match e {
         Error::InvalidInput => 1,

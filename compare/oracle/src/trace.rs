@@ -260,7 +260,7 @@ impl Run {
 
     /// The same, as far as the device is compared with mem.rs: false where that ends. An unplug-all
     /// that is refused leaves mem.rs with the plugged size of the blocks that it has cleared, so
-    /// later answers may differ (02, request 5). The size of its own line is that of the blocks
+    /// later answers may differ (request 5/12). The size of its own line is that of the blocks
     /// that mem.rs has plugged.
     pub fn compared(&mut self, op: Op) -> (Outcome, bool) {
         match self.step(op) {

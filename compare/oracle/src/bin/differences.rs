@@ -1,6 +1,6 @@
 // SPDX-License-Identifier: Apache-2.0 AND BSD-3-Clause
 //! Runs each known difference between mem.rs and the proved device on its smallest input, and each
-//! point that 01 marks as one although mem.rs in a release build answers the same.
+//! point that docs/RULES.md marks as one although mem.rs in a release build answers the same.
 //!
 //! Each asserts what the Rust does; a line says so in words. What rests on a stand-in and
 //! not on the crate itself is marked: it shows how mem.rs behaves over such a crate, no more.
@@ -79,13 +79,13 @@ fn describe_plug(guest: &Guest, status: u64, status_length: u32) {
 fn capacity_wraps() -> String {
     let mut device = Rust::make(WRAP_MIB + 1, 0, false, None, BOOT).unwrap();
     assert_eq!(device.config().region, 256 * MIB);
-    "capacity_mib=17592186044417 makes a region of 256 MiB (01: 2)".into()
+    "capacity_mib=17592186044417 makes a region of 256 MiB (here: 2)".into()
 }
 
 fn capacity_above_a_tib() -> String {
     let mut device = Rust::make(1_048_577, 0, false, None, BOOT).unwrap();
     assert_eq!(device.config().region, 1_048_832 * MIB);
-    "capacity_mib=1048577 makes a region of 1,048,832 MiB (01: 2)".into()
+    "capacity_mib=1048577 makes a region of 1,048,832 MiB (here: 2)".into()
 }
 
 fn capacity_rounds_to_nothing() -> String {
@@ -93,20 +93,20 @@ fn capacity_rounds_to_nothing() -> String {
         Rust::make(WRAP_MIB - 1, 0, false, None, BOOT).err(),
         Some(1)
     );
-    "capacity_mib=17592186044415 rounds past 2^64 to 0, hence InvalidInput (01: 2)".into()
+    "capacity_mib=17592186044415 rounds past 2^64 to 0, hence InvalidInput (here: 2)".into()
 }
 
 fn requested_wraps() -> String {
     let mut device = Rust::make(256, WRAP_MIB, false, None, BOOT).unwrap();
     assert_eq!(device.config().requested, 0);
-    "requested_mib=17592186044416 of 256 is taken as 0 (01: 1)".into()
+    "requested_mib=17592186044416 of 256 is taken as 0 (here: 1)".into()
 }
 
 fn size_wraps() -> String {
     let mut device = placed(small_guest());
     assert_eq!(device.set_requested_size(WRAP_MIB + 4), Ok(()));
     assert_eq!(device.config().requested, 4 * MIB);
-    "op=size mib=17592186044420 sets 4 MiB (01: 1)".into()
+    "op=size mib=17592186044420 sets 4 MiB (here: 1)".into()
 }
 
 fn start_misaligned() -> String {
@@ -116,7 +116,7 @@ fn start_misaligned() -> String {
     assert!(device.activate(small_guest()));
     let served = device.request(PLUG, 4 * GIB + BLOCK, 1);
     assert_eq!((served.resp, device.blocks()[0]), (0, true));
-    "start 4 GiB + 1 is taken; a plug at 4 GiB + 4 MiB then plugs block 0 (01: 4)".into()
+    "start 4 GiB + 1 is taken; a plug at 4 GiB + 4 MiB then plugs block 0 (here: 4)".into()
 }
 
 fn start_past_the_end() -> String {
@@ -128,7 +128,7 @@ fn start_past_the_end() -> String {
     assert_eq!(device.request(PLUG, start, 1).resp, 3);
     assert_eq!(state(&mut device, 0, 1), (ERROR, 1));
     "start 2^64 - 128 MiB with a region of 256 MiB is taken; a plug at the start is ERROR, and a \
-     state at address 0 is that of block 32 (01: 4)"
+     state at address 0 is that of block 32 (here: 4)"
         .into()
 }
 
@@ -139,7 +139,7 @@ fn rows_past_the_end() -> String {
     assert_eq!(done, Ok(()));
     assert!(device.activate(small_guest()));
     assert_eq!(device.request(PLUG, start, 1).resp, 0);
-    "several regions, 2,304 MiB at 2^64 - 2,432 MiB: taken and in use (01: 4, two rows of 2 GiB)"
+    "several regions, 2,304 MiB at 2^64 - 2,432 MiB: taken and in use (here: 4, two rows of 2 GiB)"
         .into()
 }
 
@@ -148,7 +148,7 @@ fn size_before_placing_single() -> String {
     assert_eq!(device.set_requested_size(16), Ok(()));
     assert_eq!(device.config().usable, 256 * MIB);
     assert!(!device.activate(small_guest()));
-    "single region: size 16 before placing is done, usable 256 MiB, no row (01: 5)".into()
+    "single region: size 16 before placing is done, usable 256 MiB, no row (here: 5)".into()
 }
 
 fn size_before_placing_several() -> String {
@@ -161,14 +161,14 @@ fn size_before_placing_several() -> String {
     assert_eq!(device.rows(), [(1, None), (2, None)]);
     assert_eq!(device.request(PLUG, 4 * GIB, 1).resp, 3);
     "several regions, 2,304 MiB, requested 0: size 4, then placing: no creation is asked, usable \
-     is 260 MiB, both rows stay unmapped, a plug of the first block is ERROR (01: 5)"
+     is 260 MiB, both rows stay unmapped, a plug of the first block is ERROR (here: 5)"
         .into()
 }
 
 fn request_before_placing() -> String {
     let mut device = Rust::make(256, 16, false, None, BOOT).unwrap();
     assert!(!device.activate(small_guest()));
-    "an unplaced device is not activated, so no request reaches it (01: 5)".into()
+    "an unplaced device is not activated, so no request reaches it (here: 5)".into()
 }
 
 fn placed_twice() -> String {
@@ -180,7 +180,7 @@ fn placed_twice() -> String {
     assert!(device.activate(small_guest()));
     assert_eq!(device.rows(), [(1, Some(HOST))]);
     "placed at 4 GiB and again at 8 GiB: start is 8 GiB, nothing is created there, the row is the \
-     first one's (01: 6)"
+     first one's (here: 6)"
         .into()
 }
 
@@ -199,7 +199,7 @@ fn placed_again_after_failure_several() -> String {
     assert!(device.activate(small_guest()));
     assert_eq!(device.rows(), [(1, Some(HOST)), (2, None)]);
     "several regions: placing with slots from 1 fails, placing again with slots from 10 asks for \
-     slot 1 (01: rows are written anew)"
+     slot 1 (here: rows are written anew)"
         .into()
 }
 
@@ -210,7 +210,7 @@ fn failed_single_placing() -> String {
     assert_eq!(device.config().start, 4 * GIB);
     assert!(!device.activate(small_guest()));
     "single region: after a failed creation the start stands, there is no row, and activation is \
-     refused (01: the row stays as placing wrote it)"
+     refused (here: the row stays as placing wrote it)"
         .into()
 }
 
@@ -227,7 +227,7 @@ fn host_address_wraps() -> String {
         size: BLOCK,
     };
     assert_eq!((served.resp, asked), (0, vec![discard]));
-    "creation answered with 2^64 - 4096 is taken; an unplug of block 1 discards at 4190208 (01: 9)"
+    "creation answered with 2^64 - 4096 is taken; an unplug of block 1 discards at 4190208 (here: 9)"
         .into()
 }
 
@@ -244,7 +244,7 @@ fn refused_unplug_all() -> String {
     assert_eq!(device.plugged_by_blocks(), BLOCK);
     assert_eq!(device.request(PLUG, 4 * GIB + 2 * BLOCK, 3).resp, 1);
     "plug of 2 blocks, unplug-all, the second discard fails: ERROR, plugged 8388608 with one block \
-     plugged, and a plug of 3 blocks is NACK (02, request 5: plugged 4194304, and the plug is ACK)"
+     plugged, and a plug of 3 blocks is NACK (request 5/12: plugged 4194304, and the plug is ACK)"
         .into()
 }
 
@@ -257,7 +257,7 @@ fn state(device: &mut Rust, addr: u64, blocks: u16) -> (u16, u16) {
 fn state_of_no_blocks() -> String {
     let mut device = placed(small_guest());
     assert_eq!(state(&mut device, 4 * GIB, 0), (ERROR, 0));
-    "state of 0 blocks at the start: ERROR with state 0, plugged, although no block is (01: the same)"
+    "state of 0 blocks at the start: ERROR with state 0, plugged, although no block is (here: the same)"
         .into()
 }
 
@@ -265,14 +265,14 @@ fn state_below_the_start() -> String {
     let mut device = placed(small_guest());
     assert_eq!(state(&mut device, 4 * GIB - BLOCK, 1), (ERROR, 0));
     "state of 1 block below the start: the subtraction wraps past every block, ERROR with state 0 \
-     (01: the same, and nothing wraps)"
+     (here: the same, and nothing wraps)"
         .into()
 }
 
 fn state_behind_the_region() -> String {
     let mut device = placed(small_guest());
     assert_eq!(state(&mut device, 4 * GIB + 256 * MIB, 1), (ERROR, 0));
-    "state of 1 block at the region's end: no block is there, ERROR with state 0 (01: the same)"
+    "state of 1 block at the region's end: no block is there, ERROR with state 0 (here: the same)"
         .into()
 }
 
@@ -280,7 +280,7 @@ fn head_of_128() -> String {
     let mut device = placed(small_guest());
     let panicked = catch_unwind(AssertUnwindSafe(|| device.serve(128)));
     assert!(panicked.is_err());
-    format!("a head of 128 panics in add_used (01: 21) [{VIRTIO_QUEUE}]")
+    format!("a head of 128 panics in add_used (here: 21) [{VIRTIO_QUEUE}]")
 }
 
 fn indirect_is_followed() -> String {
@@ -298,7 +298,7 @@ fn indirect_is_followed() -> String {
     let mut device = placed(guest);
     assert_eq!(device.serve(0), (0, 10));
     assert!(device.blocks()[0]);
-    format!("a first descriptor with the indirect flag is followed: ACK, length 10 (01: 27) [{VIRTIO_QUEUE}]")
+    format!("a first descriptor with the indirect flag is followed: ACK, length 10 (here: 27) [{VIRTIO_QUEUE}]")
 }
 
 fn long_chain() -> String {
@@ -306,7 +306,7 @@ fn long_chain() -> String {
     describe_plug(&guest, 6176, u32::MAX);
     let mut device = placed(guest);
     assert_eq!(device.serve(0), (0, 10));
-    format!("24 + (2^32 - 1) bytes of chain are served: ACK, length 10 (01 the same; virtio-queue from 0.8 on ends the chain) [{VIRTIO_QUEUE}]")
+    format!("24 + (2^32 - 1) bytes of chain are served: ACK, length 10 (here the same; virtio-queue from 0.8 on ends the chain) [{VIRTIO_QUEUE}]")
 }
 
 fn table_misaligned() -> String {
@@ -316,7 +316,7 @@ fn table_misaligned() -> String {
     let mut device = placed(guest);
     assert_eq!(device.serve(0), (0, 0));
     assert!(!device.blocks()[0]);
-    format!("a table at 4104 is not taken, so the chain is read at 0: length 0 (01: served, length 10) [{VIRTIO_QUEUE}]")
+    format!("a table at 4104 is not taken, so the chain is read at 0: length 0 (here: served, length 10) [{VIRTIO_QUEUE}]")
 }
 
 fn response_partly_inside() -> String {
@@ -328,14 +328,14 @@ fn response_partly_inside() -> String {
     assert_eq!(device.serve(0), (0, 0));
     assert!(device.blocks()[0]);
     assert_eq!(device.guest().read(status, 4), [0; 4]);
-    format!("a response with 4 of 10 bytes inside: those 4 are written, length 0, the block is plugged (01: none is written) [{VM_MEMORY}]")
+    format!("a response with 4 of 10 bytes inside: those 4 are written, length 0, the block is plugged (here: none is written) [{VM_MEMORY}]")
 }
 
 fn last_byte() -> String {
     let base = 0u64.wrapping_sub(4096);
     assert!(Guest::new(base, 4096, base).is_none());
     assert!(Guest::new(base, 4095, base).is_some());
-    format!("memory that reaches 2^64 - 1 cannot be made, one byte less can (01: that byte may be inside) [{VM_MEMORY}]")
+    format!("memory that reaches 2^64 - 1 cannot be made, one byte less can (here: that byte may be inside) [{VM_MEMORY}]")
 }
 
 fn main() {
