@@ -31,7 +31,7 @@ use Rattle.record.proofs.Laws.{shaped-is, config-shaped-of}
 use Rattle.resize.specs.declared.Growth.{Growth}
 use Rattle.resize.specs.declared.Growth.the-variants.{Asks, Settled}
 use Rattle.change.specs.declared.Range.{Range}
-use Rattle.change.specs.declared.Range.the-variants.{Inside, Misaligned, NoBlocks, Overflows, BelowStart, PastUsable, EndPastUsable}
+use Rattle.change.specs.declared.Range.the-variants.{Inside, Outside as NotInside}
 use Rattle.change.specs.declared.Change.{Change}
 use Rattle.change.specs.declared.Change.the-variants.{Legal, Outside, WrongState, NoHost}
 use Rattle.change.specs.Change.{stateIn, stateOf}
@@ -60,12 +60,7 @@ at-most false a b n h k = k
 type-known : (x : Range) → stateType x ≤ 3
 unfolding stateType
 type-known (Inside offset) = omega arith
-type-known Misaligned = omega arith
-type-known NoBlocks = omega arith
-type-known Overflows = omega arith
-type-known BelowStart = omega arith
-type-known PastUsable = omega arith
-type-known EndPastUsable = omega arith
+type-known (NotInside part) = omega arith
 
 state-in-known : (bs : List Bool) → stateIn bs ≤ 2
 unfolding stateIn

@@ -30,7 +30,7 @@ use Rattle.record.proofs.Laws.{Shaped as Facts, shaped-is as facts-of, parts as
 use Rattle.change.specs.declared.Change.{Change}
 use Rattle.change.specs.declared.Change.the-variants.{Legal, Outside, WrongState, NoHost}
 use Rattle.change.specs.declared.Range.{Range}
-use Rattle.change.specs.declared.Range.the-variants.{Inside, Misaligned, NoBlocks, Overflows, BelowStart, PastUsable, EndPastUsable}
+use Rattle.change.specs.declared.Range.the-variants.{Inside, Outside as NotInside}
 use Rattle.change.specs.Change.{rangeOf, stateOf, stateIn}
 use Rattle.change.proofs.Laws.{InRange, inside-is, inside-when, host-is, legal-is, legal-when, whole-blocks}
 use Rattle.step.specs.declared.Answer.the-variants.{Refused}
@@ -73,12 +73,7 @@ only-type types given type e q = let same : given ≡ type = cc in rw (← same)
 state-among : (r : Range) → among (0 ∷ 3 ∷ []) (stateType r) ≡ true
 unfolding among stateType
 state-among (Inside o) = refl
-state-among Misaligned = refl
-state-among NoBlocks = refl
-state-among Overflows = refl
-state-among BelowStart = refl
-state-among PastUsable = refl
-state-among EndPastUsable = refl
+state-among (NotInside part) = refl
 
 unfoldable isLegal : Change → Bool
 isLegal (Legal first offset host) = true
@@ -359,12 +354,7 @@ module _ (w : World) (req : VirtioMemReq) (sound : Sound w) where
   state-type : (r : Range) → rangeOf (blockSize w) (start w) (usable w) (req .addr .0) (req .«nb_blocks») ≡ r → (Valid w req → ⊥) → stateType r ≡ 3
   unfolding stateType
   state-type (Inside o) e bad = absurd (bad (spans-of (o .0) (inside-is (blockSize w) (start w) (usable w) (req .addr .0) (req .«nb_blocks») o e) .valid))
-  state-type Misaligned e bad = refl
-  state-type NoBlocks e bad = refl
-  state-type Overflows e bad = refl
-  state-type BelowStart e bad = refl
-  state-type PastUsable e bad = refl
-  state-type EndPastUsable e bad = refl
+  state-type (NotInside part) e bad = refl
 
   valid-type : Valid w req → stateType (rangeOf (blockSize w) (start w) (usable w) (req .addr .0) (req .«nb_blocks»)) ≡ 0
   unfolding stateType

@@ -7,6 +7,7 @@ use super::show::print;
 use super::show::word;
 use change::Change;
 use change::HostRange;
+use change::Part;
 use change::Range;
 use change::change_of;
 use change::host_of;
@@ -14,17 +15,24 @@ use change::range_of;
 use change::state_of;
 use units::GuestAddr;
 use units::HostAddr;
+use units::MemTool;
 use units::RegionOffset;
+
+fn write_part(part: Part) {
+    match part {
+        Part::Alignment => word(b": misaligned"),
+        Part::ZeroBlocks => word(b": no blocks"),
+        Part::Overflow => word(b": overflows"),
+        Part::BelowStart => word(b": below start"),
+        Part::PastUsable => word(b": past usable"),
+        Part::EndPastUsable => word(b": end past usable"),
+    }
+}
 
 fn write_range(range: Range) {
     match range {
         Range::Inside(offset) => number(b": inside ", offset.0),
-        Range::Misaligned => word(b": misaligned"),
-        Range::NoBlocks => word(b": no blocks"),
-        Range::Overflows => word(b": overflows"),
-        Range::BelowStart => word(b": below start"),
-        Range::PastUsable => word(b": past usable"),
-        Range::EndPastUsable => word(b": end past usable"),
+        Range::Outside(part) => write_part(part),
     }
 }
 
@@ -47,10 +55,20 @@ fn write_legal(first: u64, offset: RegionOffset, host: HostAddr) {
 fn write_change(change: Change) {
     match change {
         Change::Legal(first, offset, host) => write_legal(first, offset, host),
-        Change::Outside(range) => write_range(range),
+        Change::Outside(part) => write_part(part),
         Change::WrongState => word(b": wrong state"),
         Change::NoHost(host) => write_host(host),
     }
+}
+
+fn range(start: u64, usable: u64, addr: u64, blocks: u64) {
+    write_range(range_of(
+        GuestAddr(start),
+        usable,
+        MemTool::BLOCK_SIZE,
+        GuestAddr(addr),
+        (blocks % 65536) as u16,
+    ));
 }
 
 // On a device at 4 GiB, of which 8 GiB are usable.
@@ -58,6 +76,7 @@ fn change(plug: bool, several: bool, addr: u64, blocks: u64, bitmap: &[u8], tabl
     write_change(change_of(
         GuestAddr(4294967296),
         8589934592,
+        MemTool::BLOCK_SIZE,
         several,
         GuestAddr(addr),
         (blocks % 65536) as u16,
@@ -71,6 +90,7 @@ fn state(region: u64, addr: u64, blocks: u64, bitmap: &[u8]) {
     let state = state_of(
         GuestAddr(4294967296),
         region,
+        MemTool::BLOCK_SIZE,
         GuestAddr(addr),
         (blocks % 65536) as u16,
         bitmap,
@@ -81,7 +101,7 @@ fn state(region: u64, addr: u64, blocks: u64, bitmap: &[u8]) {
 pub fn command(kind: u8, v: Numbers, name: &[u8], bitmap: &[u8], table: &[u64]) -> bool {
     word(name);
     match kind {
-        b'r' => write_range(range_of(GuestAddr(v.0), v.1, GuestAddr(v.2), (v.3 % 65536) as u16)),
+        b'r' => range(v.0, v.1, v.2, v.3),
         b'h' => write_host(host_of(v.0 == 1, table, RegionOffset(v.1), v.2)),
         b'c' => change(v.0 == 1, v.1 == 1, v.2, v.3, bitmap, table),
         b's' => state(v.0, v.1, v.2, bitmap),

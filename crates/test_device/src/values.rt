@@ -23,8 +23,8 @@ fn of_addresses(kind: u8, v: Numbers) -> u64 {
         b'h' => RegionOffset(v.0).host_from(HostAddr(v.1)).0,
         b'r' => RegionOffset(v.0).map_region(),
         b'i' => RegionOffset(v.0).in_map_region().0,
-        b'b' => MemTool::bytes_of((v.0 % 65536) as u16),
-        _ => MemTool::blocks_in(v.0),
+        b'b' => MemTool::bytes_of((v.0 % 65536) as u16, MemTool::BLOCK_SIZE),
+        _ => MemTool::blocks_in(v.0, MemTool::BLOCK_SIZE),
     }
 }
 
@@ -36,7 +36,7 @@ fn of_numbers(kind: u8, v: Numbers) -> u64 {
         b's' => units::sum_within(v.0, v.1, v.2) as u64,
         b'p' => units::product_within(v.0, v.1, v.2) as u64,
         b'l' => units::smaller(v.0, v.1),
-        b'z' => new_size(v.0, v.1, v.2),
+        b'z' => new_size(v.0, v.1, v.2, MemTool::BLOCK_SIZE),
         b'n' => grown_size(v.0, v.1),
         _ => of_addresses(kind, v),
     }
