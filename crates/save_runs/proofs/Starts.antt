@@ -10,7 +10,7 @@ use Rattle.units.specs.Numbers.{blocksIn}
 use Rattle.bitmap.specs.Blocks.{blocks, allAre}
 use Rattle.record.specs.declared.Device.{Device}
 use Rattle.record.specs.Shape.{configShapedOf, sizeOk, ofConfig}
-use Rattle.record.specs.Changes.{stateConfig, configTo}
+use Rattle.record.specs.Changes.{configWith, configTo}
 use Rattle.record.proofs.Laws.{Parts, parts, shaped-is}
 use Rattle.step.specs.World.{World, Call, worldOf}
 use Rattle.history.specs.History.{Event, Story, next, after, Demand3}
@@ -126,7 +126,7 @@ module _ (d d′ : Device) (text bitmap bitmap′ table : List ℕ) (r : Restori
   is-after : worldOf d′ bitmap′ table ≡ afterRestore (worldOf d bitmap table) (r .fields .requested) (plugsOf (runsOf (r .bs)))
   is-after =
       let c = d .config in
-      let laid : ℕ → Device = λ n. configTo (stateConfig c (c .addr .0) (c .«usable_region_size») n (r .fields .requested)) d in
+      let laid : ℕ → Device = λ n. configTo (configWith c (c .addr .0) (c .«usable_region_size») n (r .fields .requested)) d in
       ap (λ (x : Device). worldOf x bitmap′ table) (r .device ∙ ap laid same-plugged)
       ∙ ap (λ (bs : List Bool). record { device = laid (counted (c .«block_size») (plugsOf (runsOf (r .bs))) 0); blocks = bs; rows = worldOf d bitmap table .rows }) same-marks
 

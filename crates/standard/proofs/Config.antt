@@ -17,7 +17,7 @@ use Rattle.resize.specs.Resize.{newSize}
 use Rattle.units.specs.declared.Node.{Node}
 use Rattle.units.specs.declared.Node.the-variants.{None, Number}
 use Rattle.making.specs.declared.Made.the-variants.{Device as MadeDevice, Refused as MadeRefused}
-use Rattle.making.specs.Made.{requestedBad, newDevice, made}
+use Rattle.making.specs.Made.{newDevice, made}
 use Rattle.step.specs.World.{World, Call, Outcome}
 use Rattle.step.specs.Step.{step, readConfig, blockSize, region, usable, requested}
 use Rattle.history.specs.History.{Event, Story, next, after}
