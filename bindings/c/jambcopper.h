@@ -242,12 +242,12 @@ extern "C" {
 /*
  * Makes a device: writes its record, not placed yet. 12 where the slice has no room for a record, 2, 1.
  *   capacity_mib, requested_mib  sizes in MiB
- *   multi_region                 several map regions; kept only if the region exceeds 2 GiB
+ *   several                      several map regions; kept only if the region exceeds 2 GiB
  *   node_given, node             the NUMA node, if there is one; node is not looked at otherwise
  *   boot                         the boot memory's size in bytes, which decides the alignment
  */
 uint64_t jambcopper_make(uint64_t *record, size_t record_words, uint64_t capacity_mib, uint64_t requested_mib,
-                         bool multi_region, bool node_given, uint16_t node, uint64_t boot);
+                         bool several, bool node_given, uint16_t node, uint64_t boot);
 
 /*
  * Places the device in guest memory: clears the bitmap, writes each row of the map table (slot, not mapped), and asks

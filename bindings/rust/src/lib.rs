@@ -274,7 +274,7 @@ impl Device {
     pub fn new(
         capacity_mib: u64,
         requested_mib: u64,
-        multi_region: bool,
+        several: bool,
         node: Option<u16>,
         boot: u64,
     ) -> Result<Device, Error> {
@@ -283,7 +283,7 @@ impl Device {
             &mut record,
             capacity_mib,
             requested_mib,
-            multi_region,
+            several,
             node.is_some(),
             node.unwrap_or(0),
             boot,
