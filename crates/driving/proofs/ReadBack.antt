@@ -7,7 +7,6 @@ use mathlib.Core.List.{List, []}
 use native.Mathlib.Omega.{arith}
 use lib.Dec.{ltb, eqb}
 use lib.ListN.{length}
-use borrow.Author.Tests.{le-ltb}
 use Rattle.units.specs.Numbers.{top, bytesOf, blocksIn}
 use Rattle.units.specs.declared.GuestAddr.{GuestAddr}
 use Rattle.units.proofs.Tests.{by-test}
@@ -45,7 +44,7 @@ use Rattle.driver.specs.declared.GotConfig.{GotConfig}
 use Rattle.driver.specs.declared.GotConfig.the-variants.{Config}
 use Rattle.driver.specs.declared.Proposal.the-variants.{Plug, Refused as NoPlug}
 use Rattle.driver.specs.Text.{ReadsConfig, ConfigFits}
-use Rattle.driver.specs.Plan.{roomOf, planAt, planOf}
+use Rattle.driver.specs.Plan.{planOf}
 use Rattle.driver.proofs.Trips.{config-back}
 use Rattle.driving.specs.Sound.{Ready, PlugAcknowledged}
 use Rattle.driving.specs.Chain.{HoldsRequest, plugOf, laidIn, in66, GoesTo, OfChain, OfUnplug, OfUnplugAll, ReadAt, ReadBack}

@@ -1,7 +1,7 @@
 -- SPDX-License-Identifier: Apache-2.0 AND BSD-3-Clause
 -- A run on the queue is a run of the device: each call makes none or one of the device, and has its world and its answer.
 use Prim.Native.Nat.{ℕ}
-use mathlib.Core.Path.{_≡_, refl, ap, _∙_, sym}
+use mathlib.Core.Path.{_≡_, refl, _∙_, sym}
 use mathlib.Core.List.{List, [], _∷_, _++_}
 use lib.Dec.{eqb}
 use lib.ListN.{length}
@@ -11,11 +11,12 @@ use Rattle.rings.specs.declared.Taken.{Taken}
 use Rattle.rings.specs.declared.Taken.the-variants.{Nothing, Head}
 use Rattle.rings.specs.declared.Next.{Next}
 use Rattle.rings.specs.declared.Next.the-variants.{Head as HasHead, Empty as HasNone, Refused as HasRefused}
-use Rattle.step.specs.World.{World, Guest, Call, Request, HostAnswer}
+use Rattle.step.specs.World.{World, Guest, Call, HostAnswer}
 use Rattle.step.specs.Step.{step}
 use Rattle.queue.specs.Queue.{QueueOutcome, takes, nextOf, answerRefusal, answers, unlessRefused}
 use Rattle.history.specs.History.{Story, next, after}
 use Rattle.history.specs.Reached.{by-restore}
+use Rattle.history.proofs.Good.{reached-good}
 use Rattle.history.proofs.Demand3.{reached-after}
 use Rattle.queue_runs.specs.Runs.{QueueCall, TakeNext, Host, PastIt, queueStep, requestsOf, deviceCalls, QueueStory, nextStory, afterAll, QueueReached, on-new-queue, on-call, on-restore, FromEveryQueue}
 use Rattle.queue_runs.specs.Rules.{AsCalls, NoneOrOne, allCalls, RunsTheDevice, LiftsRules}
@@ -85,7 +86,7 @@ runs-the-device s (on-restore {s = before} {requested} {plugs} r l) =
     record { reached = rw (h .same-world) at (by-restore {requested = requested} {plugs = plugs} (h .reached) (rw (h .same-world) l)); same-world = refl }
 
 pub lifts-rules : LiftsRules
-lifts-rules P rule s r c call = rule (s .story) (runs-the-device s r .reached) call
+lifts-rules P rule s r c call = rule (s .story) (reached-good (s .story) (runs-the-device s r .reached)) call
 
 -- calls go on from what is reached
 pub reached-after-all : (s : QueueStory) → QueueReached s → (cs : List QueueCall) → QueueReached (afterAll s cs)

@@ -2,7 +2,7 @@
 -- The ways of a queue's call, case by case, for every law over its runs.
 use Prim.Native.Nat.{ℕ}
 use mathlib.Core.Path.{_≡_, refl}
-use mathlib.Core.Bool.{Bool, true, false, cond}
+use mathlib.Core.Bool.{true}
 use native.Mathlib.Omega.{arith}
 use lib.Dec.{eqb}
 use lib.ListN.{length}
@@ -11,7 +11,7 @@ use Rattle.units.proofs.Tests.{by-test}
 use Rattle.record.specs.declared.Device.{Device}
 use Rattle.record.specs.declared.Pending.{Pending}
 use Rattle.record.specs.declared.Pending.the-variants.{Nothing as Idle, Create, Discard, DiscardOne}
-use Rattle.record.specs.Shape.{shapedOf, isIdle}
+use Rattle.record.specs.Shape.{isIdle}
 use Rattle.rings.specs.declared.Queue.{Queue}
 use Rattle.rings.specs.declared.Taken.{Taken}
 use Rattle.rings.specs.declared.Taken.the-variants.{Nothing, Head}
@@ -20,6 +20,7 @@ use Rattle.rings.specs.declared.Next.the-variants.{Refused as HasRefused}
 use Rattle.rings.specs.Rings.{nextHead}
 use Rattle.step.specs.World.{World, Guest}
 use Rattle.step.specs.Step.{readyRefusal}
+use Rattle.step.proofs.Entry.{ready-is}
 use Rattle.queue.specs.Queue.{queueOk, takingRefusal, nextUnless, nextOf}
 use Rattle.history.proofs.Shaped.{clash}
 use Rattle.history.proofs.Cases.{by-cond}
@@ -38,11 +39,7 @@ pub record Ready (d : Device) (t : Taken) : Type 0 where
   pub is-idle : isIdle (d .pending) ≡ true
 
 ready-idle : (d : Device) (n m : ℕ) → readyRefusal d n m ≡ 0 → isIdle (d .pending) ≡ true
-unfolding readyRefusal
-ready-idle d n m e =
-    by-test (shapedOf d)
-    (λ s. by-test (isIdle (d .pending)) (λ t. t) (λ t. let z = rw (s, t) at e in absurd (omega arith)))
-    (λ s. let z = rw s at e in absurd (omega arith))
+ready-idle d n m e = ready-is d n m e .idle
 
 ready : (d : Device) (t : Taken) (n m : ℕ) → takingRefusal d t n m ≡ 0 → Ready d t
 unfolding takingRefusal

@@ -1,8 +1,8 @@
 -- SPDX-License-Identifier: Apache-2.0 AND BSD-3-Clause
 -- In a run 12 never appears, and 7 does while a host call is pending.
 use Prim.Native.Nat.{ℕ, _-_}
-use mathlib.Core.Path.{_≡_, refl, ap, _∙_, sym}
-use mathlib.Core.Bool.{Bool, true, false, cond}
+use mathlib.Core.Path.{_≡_, refl, ap, sym}
+use mathlib.Core.Bool.{Bool, true, false}
 use mathlib.Core.List.{List}
 use native.Mathlib.Omega.{arith}
 use lib.Dec.{ltb, eqb}
@@ -11,7 +11,6 @@ use Rattle.units.proofs.Tests.{by-test}
 use Rattle.record.specs.declared.Device.{Device}
 use Rattle.record.specs.declared.Pending.{Pending}
 use Rattle.record.specs.Shape.{shapedOf, isIdle}
-use Rattle.record.proofs.Laws.{whole as shaped-when}
 use Rattle.rings.specs.declared.Queue.{Queue}
 use Rattle.rings.specs.declared.Taken.{Taken}
 use Rattle.rings.specs.declared.Taken.the-variants.{Nothing, Head}
@@ -23,9 +22,9 @@ use Rattle.step.specs.declared.Answer.the-variants.{Refused}
 use Rattle.step.specs.World.{World, Guest, Call, Request, HostAnswer}
 use Rattle.step.specs.Step.{step, readyRefusal, pendingRefusal, tablesFit}
 use Rattle.queue.specs.declared.QueueAnswer.the-variants.{Of}
-use Rattle.queue.specs.Queue.{QueueOutcome, discarding, queueOk, takingRefusal, nextUnless, nextOf, takes, firstGiven, outRefusal, answerRefusal, answers, unlessRefused}
+use Rattle.queue.specs.Queue.{QueueOutcome, discarding, queueOk, takingRefusal, nextUnless, nextOf, takes, outRefusal, answerRefusal, answers, unlessRefused}
 use Rattle.history.specs.Rules.{Never12 as DeviceNever12}
-use Rattle.history.proofs.KeepsShape.{is-shaped}
+use Rattle.history.proofs.Good.{reached-good}
 use Rattle.history.proofs.Sizes.{never-12 as device-never-12}
 use Rattle.history.proofs.Cases.{by-cond}
 use Rattle.queue_runs.specs.Runs.{besideCall, QueueCall, TakeNext, Host, PastIt, queueStep, QueueStory, QueueReached, InEveryQueueRun}
@@ -35,7 +34,7 @@ use Rattle.queue_runs.proofs.Open.{out-while-open}
 
 -- in a run the record has its shape
 shaped-in-run : (s : QueueStory) → QueueReached s → shapedOf (s .world .device) ≡ true
-shaped-in-run s r = let h = runs-the-device s r in rw (h .same-world) at (shaped-when _ (is-shaped (s .story) (h .reached)))
+shaped-in-run s r = let h = runs-the-device s r in rw (h .same-world) at (reached-good (s .story) (h .reached) .shaped)
 
 -- and a head is out only while a discard is pending
 ok-when : (t : Taken) (p : Pending) → isOut t ≡ discarding p → queueOk t p ≡ true

@@ -1,16 +1,14 @@
 -- SPDX-License-Identifier: Apache-2.0 AND BSD-3-Clause
 -- A refused call takes no head and changes nothing, nor does one that finds the ring empty; 12 never appears, and 7 does while a host call is pending.
 use Prim.Native.Nat.{ℕ}
-use mathlib.Core.Path.{_≡_, refl, ap, _∙_, sym}
-use mathlib.Core.Bool.{Bool, true, false, not}
-use mathlib.Core.List.{List, [], _∷_}
+use mathlib.Core.Path.{_≡_, refl, _∙_}
+use mathlib.Core.Bool.{Bool}
+use mathlib.Core.List.{List, []}
 use native.Mathlib.Omega.{arith}
 use lib.Dec.{eqb}
 use lib.ListN.{length}
 use borrow.Author.Tests.{eqb-true, eqb-false}
 use Rattle.units.proofs.Tests.{by-test}
-use Rattle.record.specs.declared.Pending.{Pending}
-use Rattle.record.specs.Shape.{shapedOf, isIdle}
 use Rattle.rings.specs.declared.Queue.{Queue}
 use Rattle.rings.specs.declared.Taken.{Taken}
 use Rattle.rings.specs.declared.Taken.the-variants.{Nothing, Head}
@@ -18,14 +16,14 @@ use Rattle.rings.specs.declared.Next.{Next}
 use Rattle.rings.specs.declared.Next.the-variants.{Head as HasHead, Empty as HasNone, Refused as HasRefused}
 use Rattle.step.specs.declared.Answer.the-variants.{Refused}
 use Rattle.step.specs.World.{World, Guest, Call, Request, HostAnswer, Outcome}
-use Rattle.step.specs.Step.{step, readyRefusal}
+use Rattle.step.specs.Step.{step}
 use Rattle.queue.specs.declared.QueueAnswer.the-variants.{Empty, Of}
-use Rattle.queue.specs.Queue.{QueueOutcome, discarding, queueOk, tookHead, queueBy, bytesBy, about, takingRefusal, nextUnless, nextOf, takes, answerRefusal, answers, unlessRefused}
+use Rattle.queue.specs.Queue.{QueueOutcome, tookHead, queueBy, bytesBy, about, nextOf, takes, answerRefusal, answers, unlessRefused}
 use Rattle.history.specs.Refusals.{lentBytes}
 use Rattle.history.proofs.Refusals.{refused-changes-nothing, ten-is-creation-failed}
 use Rattle.history.proofs.Cases.{by-cond}
 use Rattle.queue_runs.specs.Runs.{Beside, Placing, Sizing, Reading, Writing, besideCall, QueueCall, TakeNext, Host, PastIt, queueStep, endingTold, takenBy, usedBy, newlyTaken, newlyReported, FromEveryQueue}
-use Rattle.queue_runs.specs.Heads.{TakesNone, besideBytes, bytesTo, RefusedTakesNone, RefusedMovesNothing, EmptyMovesNothing}
+use Rattle.queue_runs.specs.Heads.{besideBytes, bytesTo, RefusedTakesNone, RefusedMovesNothing, EmptyMovesNothing}
 
 -- ---- what a call that is refused leaves, by the device's own
 refused-bytes : (w : World) (call : Call) (n : ℕ) → step w call .answer ≡ Refused n → step w call .bytes ≡ lentBytes call

@@ -1,7 +1,7 @@
 -- SPDX-License-Identifier: Apache-2.0 AND BSD-3-Clause
 -- A refused call takes no head and moves nothing, and the n-th report stands in the used ring at entry n modulo 128, whose index then is n + 1.
-use Prim.Native.Nat.{ℕ, _+_, _-_, _%_, _<_}
-use mathlib.Core.Path.{_≡_, refl, ap, _∙_, sym}
+use Prim.Native.Nat.{ℕ, _-_, _<_}
+use mathlib.Core.Path.{_≡_, refl, ap, _∙_}
 use mathlib.Core.Bool.{Bool, true}
 use mathlib.Core.List.{List, [], _∷_}
 use native.Mathlib.Omega.{arith}
@@ -10,27 +10,21 @@ use lib.ListN.{length, getD}
 use borrow.Author.Tests.{eqb-true}
 use Rattle.units.proofs.Tests.{by-test}
 use Rattle.little_endian.proofs.Laws.{value-below}
-use Rattle.record.specs.declared.Device.{Device}
 use Rattle.rings.specs.declared.Queue.{Queue}
 use Rattle.rings.specs.declared.Taken.{Taken}
 use Rattle.rings.specs.declared.Taken.the-variants.{Nothing, Head}
 use Rattle.rings.specs.declared.Next.{Next}
 use Rattle.rings.specs.declared.Next.the-variants.{Head as HasHead, Empty as HasNone, Refused as HasRefused}
-use Rattle.rings.specs.Standard.{availableHead}
-use Rattle.rings.specs.Rings.{queueSize, aheadOf, ringsInside, nextHead}
+use Rattle.rings.specs.Rings.{ringsInside, nextHead}
 use Rattle.rings.proofs.Laws.{entry-of, index-counts, rings-lie, head-inside, head-reads, Reports as ReadsAs, report-reads}
-use Rattle.step.specs.declared.Answer.{Answer}
-use Rattle.step.specs.declared.Answer.the-variants.{Refused}
 use Rattle.step.specs.World.{World, Guest, Call, Request, HostAnswer, Outcome}
 use Rattle.step.specs.Step.{step, pendingRefusal}
-use Rattle.queue.specs.declared.QueueAnswer.{QueueAnswer}
-use Rattle.queue.specs.declared.QueueAnswer.the-variants.{Empty, Of}
 use Rattle.queue.specs.declared.Ending.{Ending}
 use Rattle.queue.specs.declared.Ending.the-variants.{Stays, Out, Used}
-use Rattle.queue.specs.Queue.{QueueOutcome, queueOk, tookHead, endingOf, queueBy, bytesBy, about, nextOf, takes, outRefusal, answerRefusal, answers, unlessRefused}
+use Rattle.queue.specs.Queue.{QueueOutcome, queueOk, tookHead, endingOf, queueBy, bytesBy, about, takes, outRefusal, answerRefusal, answers, unlessRefused}
 use Rattle.history.proofs.Cases.{by-cond}
-use Rattle.queue_runs.specs.Runs.{QueueCall, TakeNext, Host, PastIt, queueStep, lentTo, endingTold, takenBy, usedBy, headOf, outOf, newlyTaken, newlyReported, QueueStory, nextStory, QueueReached, on-new-queue, on-call, on-restore, LendsBytes, AllLendBytes}
-use Rattle.queue_runs.specs.Heads.{InOrder, Stands, Reports, NthReport}
+use Rattle.queue_runs.specs.Runs.{QueueCall, TakeNext, Host, PastIt, queueStep, lentTo, endingTold, usedBy, headOf, outOf, newlyReported, QueueStory, nextStory, QueueReached, on-new-queue, on-call, on-restore, LendsBytes, AllLendBytes}
+use Rattle.queue_runs.specs.Heads.{Reports, NthReport}
 use Rattle.queue_runs.proofs.Cases.{next-cases}
 use Rattle.queue_runs.proofs.Order.{in-order}
 use Rattle.queue_runs.proofs.Bytes.{Keeps, request-keeps, answer-keeps}

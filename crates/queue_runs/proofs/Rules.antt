@@ -2,7 +2,7 @@
 -- Demands 2 and 3 and the rule of the requested size, over every run on the queue: by the one call of the device that a call makes, or by none.
 use Prim.Native.Nat.{ℕ, _+_, _≤_, _<_}
 use mathlib.Core.Path.{_≡_, refl, ap, _∙_, sym}
-use mathlib.Core.Bool.{Bool, true, false}
+use mathlib.Core.Bool.{false}
 use mathlib.Core.List.{List, [], _∷_}
 use native.Mathlib.Omega.{arith}
 use lib.Dec.{eqb}
@@ -25,8 +25,8 @@ use Rattle.history.proofs.SizeChange.{size-change-touches-nothing}
 use Rattle.history.proofs.Whole.{whole-or-not-at-all}
 use Rattle.history.proofs.HostCalls.{each-asked-answered, asks-what-is-due}
 use Rattle.history.proofs.Questions.{only-open-unplugs-discard}
-use Rattle.queue_runs.specs.Runs.{Beside, Placing, Sizing, Reading, Writing, besideCall, QueueCall, TakeNext, Host, PastIt, queueStep, requestsOf, deviceCalls, nextStory, InEveryQueueRun, FromEveryQueue}
-use Rattle.queue_runs.specs.Rules.{AsCalls, allCalls, Demand3, isSizing, isPlacing, OnlySizingMovesRequested, PlugWithinRequested, SizingTouchesNothing, UsableNeverShrinks, newEvents, WholeOrNotAtAll, EachAskedAnswered, RulesOnQueue}
+use Rattle.queue_runs.specs.Runs.{Placing, Sizing, Reading, Writing, besideCall, QueueCall, TakeNext, Host, PastIt, queueStep, requestsOf, deviceCalls, nextStory, InEveryQueueRun, FromEveryQueue}
+use Rattle.queue_runs.specs.Rules.{AsCalls, allCalls, Demand3OnQueue, isSizing, isPlacing, OnlySizingMovesRequested, PlugWithinRequested, SizingTouchesNothing, UsableNeverShrinks, newEvents, WholeOrNotAtAll, EachAskedAnswered, RulesOnQueue}
 use Rattle.queue_runs.proofs.Calls.{none-or-one, same-after, same-worlds, runs-the-device, lifts-rules}
 
 -- ---- what a call of the device moves, and nothing else does
@@ -80,7 +80,7 @@ touches-nothing w q c sizes =
     moves w q c Untouched (λ v. record { same-blocks = refl; same-rows = refl; same-plugged = refl }) (λ call e. size-change-touches-nothing w call (kinds w q c call e .0 ∙ sizes))
 
 -- ---- in every run
-pub demand-3-on-queue : InEveryQueueRun Demand3
+pub demand-3-on-queue : InEveryQueueRun Demand3OnQueue
 demand-3-on-queue s r c = let h = runs-the-device s r in rw (h .same-world) at (demand-3 (s .story) (h .reached))
 
 -- no call, and nothing has changed; or one, by its events

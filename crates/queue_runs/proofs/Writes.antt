@@ -1,7 +1,7 @@
 -- SPDX-License-Identifier: Apache-2.0 AND BSD-3-Clause
 -- The device and the clauses Q4, Q6 and Q7: only the used ring and the response are written, the index last, and a length counts the response's bytes.
 use Prim.Native.Nat.{ℕ, _+_, _-_, _*_, _%_}
-use mathlib.Core.Path.{_≡_, refl, ap, _∙_, sym}
+use mathlib.Core.Path.{_≡_, refl, _∙_, sym}
 use mathlib.Core.Bool.{Bool, true, false}
 use mathlib.Core.List.{List, [], _∷_}
 use mathlib.Core.Option.{some, none}
@@ -10,7 +10,6 @@ use lib.Dec.{eqb}
 use lib.ListN.{length}
 use Rattle.units.proofs.Tests.{by-test}
 use Rattle.little_endian.specs.Bytes.{part}
-use Rattle.wire.specs.declared.VirtioMemResp.{VirtioMemResp}
 use Rattle.record.specs.declared.Pending.{Pending}
 use Rattle.record.specs.declared.Pending.the-variants.{Nothing as Idle, Create, Discard, DiscardOne}
 use Rattle.rings.specs.declared.Queue.{Queue}
@@ -23,17 +22,19 @@ use Rattle.rings.specs.Rings.{nextHead, reported}
 use Rattle.rings.proofs.Laws.{report-apart}
 use Rattle.step.specs.declared.Answer.{Answer}
 use Rattle.step.specs.declared.Answer.the-variants.{Refused, Wants, Sized, Unserved, Served, Done}
-use Rattle.step.specs.World.{World, Guest, Call, Request, HostAnswer, Outcome}
+use Rattle.step.specs.declared.Reply.{Reply}
+use Rattle.step.specs.Answers.{response}
+use Rattle.step.specs.World.{World, Guest, Call, Request, HostAnswer}
 use Rattle.step.specs.Step.{step}
 use Rattle.queue.specs.declared.Ending.{Ending}
 use Rattle.queue.specs.declared.Ending.the-variants.{Stays, Out, Used}
-use Rattle.queue.specs.Queue.{QueueOutcome, tookHead, discarding, endingOf, queueBy, bytesBy, about, aside, nextOf, takes, answerRefusal, answers, unlessRefused}
+use Rattle.queue.specs.Queue.{QueueOutcome, tookHead, discarding, endingOf, bytesBy, about, nextOf, takes, answerRefusal, answers, unlessRefused}
 use Rattle.standard.specs.Requests.{responseOf, lentBy, statusOfPending, statusFor}
 use Rattle.standard.proofs.Responses.{response-is-delivered}
 use Rattle.history.proofs.Shaped.{clash}
 use Rattle.history.proofs.Cases.{by-cond}
 use Rattle.queue_runs.specs.Runs.{QueueCall, TakeNext, Host, PastIt, queueStep, lentTo, requestsOf, deviceCalls, endingTold, usedBy, headOf, outOf, newlyReported, FromEveryQueue, InEveryQueueRun}
-use Rattle.queue_runs.specs.Heads.{isOut, Reports}
+use Rattle.queue_runs.specs.Heads.{isOut}
 use Rattle.queue_runs.specs.Standard.{onGuest, WritesOnly, UnreportedWritesNothing, Written, ReportIsWritten}
 use Rattle.queue_runs.proofs.Cases.{next-cases}
 use Rattle.queue_runs.proofs.Open.{out-while-open}
@@ -85,17 +86,17 @@ writes-only w q (PastIt b) guest i far _ = clash guest refl
 module _ (w : World) (q : Queue) (g : Guest) where
   -- what is written for a call of the device that ended, and its length
   pub record Ended (call : Call) (bytes : List ℕ) (head len : ℕ) : Type 0 where
-    pub counts : (resp : VirtioMemResp) (used : ℕ) → step w call .answer ≡ Served resp used → len ≡ used
+    pub counts : (reply : Reply) → step w call .answer ≡ Served reply → len ≡ reply .used
     pub none-counted : responseOf (step w call .answer) ≡ none → len ≡ 0
     pub in-turn : bytes ≡ reported (step w call .bytes) (g .base) (q .used .0) (q .«next_used») head len
 
-  length-of : (a : Answer) (len : ℕ) → endingOf a ≡ Used len → ((resp : VirtioMemResp) (used : ℕ) → a ≡ Served resp used → len ≡ used) × (responseOf a ≡ none → len ≡ 0)
-  unfolding responseOf
+  length-of : (a : Answer) (len : ℕ) → endingOf a ≡ Used len → ((reply : Reply) → a ≡ Served reply → len ≡ reply .used) × (responseOf a ≡ none → len ≡ 0)
+  unfolding response
   length-of (Refused n) len e = let z : _≡_ {A = ℕ} 0 1 = cc in absurd (omega arith)
   length-of (Wants call) len e = let z : _≡_ {A = ℕ} 0 1 = cc in absurd (omega arith)
   length-of Sized len e = let z : _≡_ {A = ℕ} 0 1 = cc in absurd (omega arith)
-  length-of (Unserved reason) len e = (λ resp used f. let z : _≡_ {A = ℕ} 0 1 = cc in absurd (omega arith), λ _. cc)
-  length-of (Served given n) len e = (λ resp used f. cc, λ f. let z : _≡_ {A = ℕ} 0 1 = cc in absurd (omega arith))
+  length-of (Unserved reason) len e = (λ reply f. let z : _≡_ {A = ℕ} 0 1 = cc in absurd (omega arith), λ _. cc)
+  length-of (Served given) len e = (λ reply f. let same : given ≡ reply = cc in rw (← same) (let z : given .used ≡ len = cc in sym z), λ f. let z : _≡_ {A = ℕ} 0 1 = cc in absurd (omega arith))
   length-of Done len e = let z : _≡_ {A = ℕ} 0 1 = cc in absurd (omega arith)
 
   about-ended : (head : ℕ) (out : Queue) → out .used ≡ q .used → out .«next_used» ≡ q .«next_used» → (call : Call) (len : ℕ) → endingOf (step w call .answer) ≡ Used len
@@ -152,7 +153,7 @@ module _ (w : World) (q : Queue) (g : Guest) where
       record {
         call = b .call;
         made = b .made;
-        counts = λ resp used e. (b .ended .counts resp used e, response-is-delivered w (b .call) resp used e);
+        counts = λ reply e. (b .ended .counts reply e, response-is-delivered w (b .call) reply e);
         none-counted = λ e. (b .ended .none-counted e, rw lent (b .keeps .silent e));
         in-turn = rw lent (b .ended .in-turn);
       }
@@ -172,12 +173,12 @@ report-is-written w q (PastIt b) head len r = let e = r .reported in let z : _�
 
 -- ---- a call that reports no head
 unused : (a : Answer) (h : ℕ) → usedBy (endingOf a) (h ∷ []) ≡ [] → (out : Queue) (head base : ℕ) (bytes : List ℕ) → (responseOf a ≡ none) × (bytesBy (endingOf a) out head base bytes ≡ bytes)
-unfolding usedBy responseOf bytesBy
+unfolding usedBy response bytesBy
 unused (Refused n) h e out head base bytes = (refl, refl)
 unused (Wants call) h e out head base bytes = (refl, refl)
 unused Sized h e out head base bytes = (refl, refl)
 unused (Unserved reason) h e out head base bytes = let z : _≡_ {A = ℕ} 0 1 = cc in absurd (omega arith)
-unused (Served resp len) h e out head base bytes = let z : _≡_ {A = ℕ} 0 1 = cc in absurd (omega arith)
+unused (Served reply) h e out head base bytes = let z : _≡_ {A = ℕ} 0 1 = cc in absurd (omega arith)
 unused Done h e out head base bytes = (refl, refl)
 
 -- with no discard pending there is nowhere to put a response

@@ -1,19 +1,19 @@
 -- SPDX-License-Identifier: Apache-2.0 AND BSD-3-Clause
 -- Demands 2 and 3 and the rule of the requested size over the requests taken (R13.14): a call on the queue is none or one of the device, so what is said of every call of the device, and of every run of them, holds on the queue.
-use Prim.Native.Nat.{ℕ, _+_, _≤_, _<_}
+use Prim.Native.Nat.{_+_, _≤_, _<_}
 use mathlib.Core.Path.{_≡_}
 use mathlib.Core.Bool.{Bool, true, false}
 use mathlib.Core.List.{List, [], _∷_, _++_}
 use Rattle.rings.specs.declared.Queue.{Queue}
-use Rattle.step.specs.World.{World, Call, Outcome}
+use Rattle.step.specs.World.{World, Call}
 use Rattle.step.specs.Step.{step, usable, plugged, requested, Untouched}
-use Rattle.queue.specs.declared.QueueAnswer.the-variants.{Empty, Of}
+use Rattle.queue.specs.declared.QueueAnswer.the-variants.{Of}
 use Rattle.queue.specs.Queue.{QueueOutcome}
-use Rattle.history.specs.History.{Event, eventsOf, Story, Told}
+use Rattle.history.specs.History.{Event, eventsOf, Story, Demand3}
 use Rattle.history.specs.Reached.{Reached}
-use Rattle.history.specs.Rules.{InEveryRun, askedIn, takenIn, waits, Whole, KeepsShape, DiscardIsCounted, AsksWhatIsDue}
+use Rattle.history.specs.Rules.{FromEveryGood, askedIn, takenIn, waits, Whole, KeepsShape, DiscardIsCounted, AsksWhatIsDue}
 use Rattle.history.specs.Questions.{OnlyOpenUnplugsDiscard}
-use Rattle.queue_runs.specs.Runs.{Beside, Placing, Sizing, Reading, Writing, QueueCall, TakeNext, Host, PastIt, deviceCalls, queueStep, QueueStory, nextStory, afterAll, QueueReached, InEveryQueueRun, FromEveryQueue}
+use Rattle.queue_runs.specs.Runs.{Placing, Sizing, Reading, Writing, QueueCall, TakeNext, Host, PastIt, deviceCalls, QueueStory, nextStory, afterAll, QueueReached, InEveryQueueRun, FromEveryQueue}
 
 -- ---- demand 2 (R18.2): a call makes none or one call of the device, leaves its world and tells its answer
 pub record IsCall (w : World) (o : QueueOutcome) (call : Call) : Type 0 where
@@ -36,16 +36,16 @@ pub record IsRun (s : QueueStory) : Type 0 where
 abbrev pub RunsTheDevice : Type 0
 RunsTheDevice = (s : QueueStory) → QueueReached s → IsRun s
 
--- so what holds at every point of every run of the device, of any call then, holds at every point of every run on the queue
+-- so what holds in every good story of the device, of any call then, holds at every point of every run on the queue
 abbrev pub OfAnyCall : (Story → Call → Type 0) → QueueStory → QueueCall → Type 0
 OfAnyCall P s c = (call : Call) → P (s .story) call
 
 abbrev pub LiftsRules : Type 1
-LiftsRules = (P : Story → Call → Type 0) → InEveryRun P → InEveryQueueRun (OfAnyCall P)
+LiftsRules = (P : Story → Call → Type 0) → FromEveryGood P → InEveryQueueRun (OfAnyCall P)
 
 -- ---- demand 3 (R18.3, R18.4)
-abbrev pub Demand3 : QueueStory → QueueCall → Type 0
-Demand3 s c = Told (s .world) (s .story .events)
+abbrev pub Demand3OnQueue : QueueStory → QueueCall → Type 0
+Demand3OnQueue s c = Demand3 (s .world) (s .story .events)
 
 -- ---- the rule of the requested size
 unfoldable pub isSizing : QueueCall → Bool
@@ -101,7 +101,7 @@ pub record RulesOnQueue : Type 1 where
   pub none-or-one : FromEveryQueue NoneOrOne
   pub runs-the-device : RunsTheDevice
   pub lifts-rules : LiftsRules
-  pub demand-3 : InEveryQueueRun Demand3
+  pub demand-3 : InEveryQueueRun Demand3OnQueue
   pub only-sizing-moves-requested : FromEveryQueue OnlySizingMovesRequested
   pub plug-within-requested : FromEveryQueue PlugWithinRequested
   pub sizing-touches-nothing : FromEveryQueue SizingTouchesNothing

@@ -23,7 +23,7 @@ use Rattle.queue.specs.declared.Ending.{Ending}
 use Rattle.queue.specs.declared.Ending.the-variants.{Stays, Out, Used}
 use Rattle.queue.specs.Queue.{QueueOutcome, endingOf, aside, nextOf, serveNext, answerRefusal, hostAnswers}
 use Rattle.history.specs.History.{Event, Story, after}
-use Rattle.history.specs.Reached.{Restores, afterRestore, restored, Reached}
+use Rattle.history.specs.Reached.{CanRestore, afterRestore, restored, Reached}
 
 -- ---- the calls
 -- a call of the device that goes past the queue: no request, and no answer of the host
@@ -154,7 +154,7 @@ restoredOn s requested plugs =
 pub data QueueReached : QueueStory → Type 0 where
   on-new-queue : {s : Story} {q : Queue} → Reached s → isIdle (s .world .device .pending) ≡ true → New q → QueueReached (opened s q)
   on-call : {s : QueueStory} → QueueReached s → (c : QueueCall) → QueueReached (nextStory s c)
-  on-restore : {s : QueueStory} {requested : ℕ} {plugs : List Event} → QueueReached s → Restores (s .world) requested plugs → QueueReached (restoredOn s requested plugs)
+  on-restore : {s : QueueStory} {requested : ℕ} {plugs : List Event} → QueueReached s → CanRestore (s .world) requested plugs → QueueReached (restoredOn s requested plugs)
 
 -- ---- what is said of runs
 -- of every point that a run reaches, and of any call there

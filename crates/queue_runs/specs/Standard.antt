@@ -3,14 +3,14 @@
 use Prim.Native.Nat.{ℕ, _+_, _-_, _*_, _%_}
 use mathlib.Core.Path.{_≡_}
 use mathlib.Core.Bool.{Bool, true, false}
-use mathlib.Core.List.{List, [], _∷_}
+use mathlib.Core.List.{[], _∷_}
 use mathlib.Core.Option.{some, none}
 use Rattle.little_endian.specs.Bytes.{part}
-use Rattle.wire.specs.declared.VirtioMemResp.{VirtioMemResp}
 use Rattle.rings.specs.declared.Queue.{Queue}
 use Rattle.rings.specs.Standard.{Apart}
 use Rattle.rings.specs.Rings.{queueSize, reported}
 use Rattle.step.specs.declared.Answer.the-variants.{Served}
+use Rattle.step.specs.declared.Reply.{Reply}
 use Rattle.step.specs.World.{World, Call}
 use Rattle.step.specs.Step.{step}
 use Rattle.queue.specs.Queue.{QueueOutcome}
@@ -47,7 +47,7 @@ pub record Written (w : World) (q : Queue) (c : QueueCall) (o : QueueOutcome) (h
   pub call : Call
   pub made : deviceCalls w q c ≡ call ∷ []
   -- Q6: the length counts the bytes of the response: ten or, where there is none or it could not be delivered, 0
-  pub counts : (resp : VirtioMemResp) (used : ℕ) → step w call .answer ≡ Served resp used → (len ≡ used) × ResponseTo w call resp used (step w call .bytes)
+  pub counts : (reply : Reply) → step w call .answer ≡ Served reply → (len ≡ reply .used) × ResponseTo w call reply (step w call .bytes)
   pub none-counted : responseOf (step w call .answer) ≡ none → (len ≡ 0) × (step w call .bytes ≡ lentTo c .mem)
   -- Q7, R13.13: the response is written, then the element, and the index last
   pub in-turn : o .bytes ≡ reported (step w call .bytes) (lentTo c .base) (q .used .0) (q .«next_used») head len
