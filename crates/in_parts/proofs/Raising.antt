@@ -11,7 +11,7 @@ use Rattle.record.specs.Changes.{requestedTo}
 use Rattle.record.proofs.Laws.{Parts, parts, whole as whole-shape, unshaped}
 use Rattle.step.specs.declared.Answer.the-variants.{Sized}
 use Rattle.step.specs.World.{World, Call, SetRequestedSize, Outcome}
-use Rattle.step.specs.Step.{step, unless, readyRefusal, tablesFit, usable, requested, sized, sizes, newUsable, setRequestedSize}
+use Rattle.step.specs.Step.{step, unless, readyRefusal, tablesFit, usable, requested, sizedOf, sizes, newUsable, setRequestedSize}
 use Rattle.step.proofs.Entry.{ready-when}
 use Rattle.history.proofs.Cases.{size-cases, resized-cases}
 use Rattle.history.proofs.KeepsShape.{step-shaped}
@@ -55,7 +55,7 @@ module _ (w : World) (mib addr count : ℕ) (c : Call) (a : Asks c addr count) (
   settled e _ =
       let l = x .legal in
       let r = l .in-range in
-      let shape = whole-shape (sized raised) (rw e at (step-shaped w (parts (w .device) (reached .shaped)) (SetRequestedSize mib))) in
+      let shape = whole-shape (sizedOf (raised .device)) (rw e at (step-shaped w (parts (w .device) (reached .shaped)) (SetRequestedSize mib))) in
       let usable-more : usable w ≤ max (usable w) (newUsable raised) = omega arith in
       let does = granted-does w c addr count a reached x in
       let does′ =
