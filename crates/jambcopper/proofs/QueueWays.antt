@@ -79,7 +79,7 @@ module _ (call : QueueStep) (words queue : List ℕ) (r : Decoded) (e : r ≡ de
   -- a call of the device on the same words
   module _ (device : Lent → Call) (told told′ words′ : List ℕ) (before after : Lent) (number : ℕ)
       (kept : Exported device (handed words told before) (handed words′ told′ after) number) where
-    outcome : Outcome
+    abbrev outcome : Outcome
     outcome = step (on d before) (device before)
 
     tells : Told outcome (handed words told before) (handed words′ told′ after) number

@@ -24,6 +24,7 @@ use Rattle.descriptors.specs.Standard.{virtqDesc, descriptorAddr}
 use Rattle.descriptors.specs.Descriptors.{inside, linkAt, linkAfter}
 use Rattle.chain.specs.Chain.{withSecond, withFirst, parsed}
 use Rattle.descriptors.proofs.Standard.{descriptor-laid}
+use Rattle.record.specs.Shape.{sizeOk}
 use Rattle.record.specs.declared.Pending.{Pending}
 use Rattle.record.specs.declared.Pending.the-variants.{Nothing, Create, Discard, DiscardOne}
 use Rattle.resize.specs.declared.Growth.{Growth}
@@ -194,4 +195,4 @@ module _ (w : World) (mem : List ℕ) (room : 106 ≤ length mem) where
   op-told (Unplug addr blocks) h = request-told 1 (addr .0) blocks (omega arith) (omega arith) (omega arith) (λ g. unplug-told w _ _ _ g)
   op-told (State addr blocks) h = request-told 3 (addr .0) blocks (omega arith) (omega arith) (omega arith) (λ g. record { line = refl })
   op-told UnplugAll h = request-told 2 0 0 (omega arith) (omega arith) (omega arith) (λ g. next-told w _ _ g)
-  op-told (Size mib) h = unless-told _ _ _ _ (either (ltb (region w) (mib * 1048576) || not (eqb (mib * 1048576 % blockSize w) 0)) _ _ (record { line = refl }) (resize-told _ _))
+  op-told (Size mib) h = unless-told _ _ _ _ (either (not (sizeOk (blockSize w) (mib * 1048576) (region w))) _ _ (record { line = refl }) (resize-told _ _))

@@ -6,6 +6,9 @@ use Rattle.step.proofs.Lengths.{answered-short}
 use Rattle.queue.specs.Queue.{answers}
 use Rattle.queue.proofs.Turns.{refused-as, heard-as}
 use Rattle.jambcopper.proofs.QueueWays.{no-record, no-queue, unmoved-told, aside-told, about-told}
+use denote.Ref.{now}
+use Rattle.step.specs.Promise.{lent}
+use Rattle.jambcopper.specs.Queue.{serveAnswerOn}
 use borrow.Author.Needs.{needs}
 use Rattle.jambcopper.proofs.jambcopper_serve_answer.Statement.{statement}
 use Rattle.jambcopper.proofs.jambcopper_serve_answer.Tie as tie
@@ -76,7 +79,9 @@ same-length-9 c = search needs
 
 returns-3 : tie.Need-returns-3
 returns-3 c =
-    unmoved-told _ _ _ _ (c .before .before .before .before .before .before .before .before .before .before .before .before .before .before .before .decode .ensures) _ (c .before .before .before .before .before .before .before .before .before .before .before .before .before .d .given .1) _ (c .before .before .before .before .before .before .before .before .before .before .decode-queue .ensures) _ (c .before .before .before .before .before .before .before .before .q .given .1) _ _ _ _ _
+    let a = c .before .before .before .before .before .before .before .before .before .before .before .before .before .before .before .before .before .before .before .before .before .before .before .args in
+    let l = lent (now (a .bitmap)) (now (a .table)) (now (a .mem)) in
+    unmoved-told (serveAnswerOn (a .base) (a .ok) (a .host)) _ _ _ (c .before .before .before .before .before .before .before .before .before .before .before .before .before .before .before .decode .ensures) _ (c .before .before .before .before .before .before .before .before .before .before .before .before .before .d .given .1) _ (c .before .before .before .before .before .before .before .before .before .before .decode-queue .ensures) _ (c .before .before .before .before .before .before .before .before .q .given .1) _ _ _ l _
     (refused-as _ _ _ _ _ _ _ _ (c .before .before .before .before .before .queue-refusal .ensures) (ne-eqb _ _ (c .before .before .before .before .if1 .taken)))
     (c .before .before .tell3 .ensures)
 

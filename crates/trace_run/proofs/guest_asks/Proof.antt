@@ -1,5 +1,7 @@
 -- `trace_run::guest_asks` meets its contract: the memory that the device reads is the one that was laid.
 use mathlib.Core.Path.{refl}
+use denote.Ref.{now}
+use Rattle.step.specs.Promise.{lent}
 use Rattle.step.proofs.Giving.{relent}
 use borrow.Author.Needs.{needs}
 use Rattle.trace_run.proofs.guest_asks.Statement.{statement}
@@ -21,7 +23,7 @@ returns : tie.Need-returns
 returns c =
     let called = c .before .before .before .before in
     let laid = called .before .before .before .before .before in
-    let a = laid .before .before .before .args in
+    let a = laid .before .before .before .before .before .args in
     relent {l = lent (now (a .bitmap)) (now (a .table)) _} refl (rw (← laid .ask .ensures) (called .request .ensures))
 
 pub guest-asks-spec : {M : Type 1} → statement M
