@@ -3,6 +3,7 @@ use mathlib.Core.Path.{refl}
 use denote.Ref.{now}
 use Rattle.step.specs.Promise.{lent}
 use Rattle.step.proofs.Giving.{relent}
+use Rattle.trace_run.specs.Ops.{asked}
 use borrow.Author.Needs.{needs}
 use Rattle.trace_run.proofs.guest_asks.Statement.{statement}
 use Rattle.trace_run.proofs.guest_asks.Tie as tie
@@ -24,7 +25,7 @@ returns c =
     let called = c .before .before .before .before in
     let laid = called .before .before .before .before .before in
     let a = laid .before .before .before .before .before .args in
-    relent {l = lent (now (a .bitmap)) (now (a .table)) _} refl (rw (← laid .ask .ensures) (called .request .ensures))
+    relent {l = lent (now (a .bitmap)) (now (a .table)) (asked (now (a .mem)) (a .req-type) (a .addr .0) (a .nb-blocks))} refl (rw (← laid .ask .ensures) (called .request .ensures))
 
 pub guest-asks-spec : {M : Type 1} → statement M
 guest-asks-spec =
