@@ -17,13 +17,14 @@ use Rattle.rows.specs.Rows.{rowsOf, rowWords, mappingOf, fillRows, rowsLaid}
 use Rattle.record.specs.Shape.{alignmentOk, regionOk, sizeOk, spanOf, startOk, severalOk, pendingOk, shapedOf}
 use Rattle.resize.specs.Resize.{newSize, growthOf}
 use Rattle.change.specs.Change.{insideOf, rangeOf, hostSum, hostIn, hostOf, legalAt, changeIn, stateIn, stateOf}
-use Rattle.step.specs.Step.{tablesFit, readyRefusal, unplacedRefusal, pendingRefusal, unless, plugAs, plug, unplugAs, oneAs, nextAs, stateType, serve, request, resizes, placing, place, setRequestedSize, hostAnswer, readConfig, step, plugged}
+use Rattle.step.specs.Step.{tablesFit, readyRefusal, unplacedRefusal, pendingRefusal, unless, plugAs, plug, unplugAs, oneAs, nextAs, stateType, serve, request, resizes, placing, place, setRequestedSize, hostAnswer, readConfig, step, plugged, rangeRefusal}
 use Rattle.making.specs.Made.{made}
 use Rattle.words.specs.Record.{wordsOf, pendingOf, pendingFits, isRecord, recordOf, decodedOf}
 use Rattle.making.specs.Made.{madeNumber}
 use Rattle.step.specs.Promise.{lent}
 use Rattle.jambcopper.specs.Exports.{handed, madeWords, Called}
-use Rattle.history.specs.History.{PlugAck, NoRequest, ackToType, ackToRequest, ackToHost, acknowledges, discardOf, reports, ifAck, unlessRefused, eventsOf, openedByType, openedByRequest, goesOn, openedBy, askedBy, openAfter, Demand3}
+use Rattle.step.specs.Answers.{refusal, response}
+use Rattle.history.specs.History.{PlugAck, NoRequest, ackToType, ackToRequest, ackToHost, acknowledges, discardOf, reports, eventsOf, openedByType, openedByRequest, goesOn, openedBy, askedBy, openAfter, Demand3}
 use Rattle.history.proofs.Shaped.{clash}
 use Rattle.linked.specs.Runs.{«jambcopper_place», «jambcopper_set_requested_size», «jambcopper_request», «jambcopper_host_answer», «jambcopper_read_config»}
 use Rattle.linked.specs.Runs.{Use, callBy, inUse, onTables, newTables, holding, Run, heldAfter, Making, Makes, first, inHand}
@@ -50,7 +51,7 @@ pub making : Making
 making = record { words = zeros 15; capacity = 256; requested = 16; several = false; given = false; node = 0; boot = 1073741824 }
 
 pub makes : Makes making (record-words 0 0 0 0 0)
-unfolding making record-words zeros madeNumber madeWords made alignmentOf nextMultiple wordsOf put
+unfolding making record-words zeros madeNumber madeWords made sizeOk alignmentOf nextMultiple wordsOf put
 makes = record { promised = record { numbered = refl; recorded = refl }; node-fits = omega arith }
 
 pub uses : List Use
@@ -111,8 +112,8 @@ uses =
     ∷ []
 
 pub runs : Run (first (record-words 0 0 0 0 0)) uses
-unfolding record-words zeros asked uses Run callBy inUse onTables newTables holding Called lowBits blocks every fill firstFrom value littleEndian part put requestAt responseBytes configFields configValues laidConfig configBytes virtqDesc descriptorAt descriptorAddr inside linkAt linkAfter withSecond withFirst parsed reaches delivered rowsOf rowWords mappingOf fillRows rowsLaid mapRegions alignmentOk regionOk sizeOk spanOf startOk severalOk pendingOk shapedOf newSize growthOf insideOf rangeOf hostSum hostIn hostOf legalAt changeIn stateIn stateOf tablesFit readyRefusal unplacedRefusal pendingRefusal unless plugAs plug unplugAs oneAs nextAs stateType serve request resizes placing place setRequestedSize hostAnswer readConfig step wordsOf pendingOf pendingFits isRecord recordOf decodedOf
-runs = (record { lends = record { same-words = refl; same-bitmap = λ _ p. clash p refl; same-table = λ _ p. clash p refl }; promised = record { numbered = refl; recorded = refl; decodes = refl; told = refl; marked = refl; mapped = refl; left = refl } }, (record { lends = record { same-words = refl; same-bitmap = λ p _. clash p refl; same-table = λ p _. clash p refl }; promised = record { numbered = refl; recorded = refl; decodes = refl; told = refl; marked = refl; mapped = refl; left = refl } }, (record { lends = record { same-words = refl; same-bitmap = λ _ _. refl; same-table = λ _ _. refl }; promised = record { numbered = refl; recorded = refl; decodes = refl; told = refl; marked = refl; mapped = refl; left = refl } }, (record { lends = record { same-words = refl; same-bitmap = λ _ p. clash p refl; same-table = λ _ p. clash p refl }; promised = record { numbered = refl; recorded = refl; decodes = refl; told = refl; marked = refl; mapped = refl; left = refl } }, (record { lends = record { same-words = refl; same-bitmap = λ p _. clash p refl; same-table = λ p _. clash p refl }; promised = record { numbered = refl; recorded = refl; decodes = refl; told = refl; marked = refl; mapped = refl; left = refl } }, (record { lends = record { same-words = refl; same-bitmap = λ _ _. refl; same-table = λ _ _. refl }; promised = record { numbered = refl; recorded = refl; decodes = refl; told = refl; marked = refl; mapped = refl; left = refl } }, (record { lends = record { same-words = refl; same-bitmap = λ _ _. refl; same-table = λ _ _. refl }; promised = record { numbered = refl; recorded = refl; decodes = refl; told = refl; marked = refl; mapped = refl; left = refl } }, (record { lends = record { same-words = refl; same-bitmap = λ p _. clash p refl; same-table = λ p _. clash p refl }; promised = record { numbered = refl; recorded = refl; decodes = refl; told = refl; marked = refl; mapped = refl; left = refl } }, tt))))))))
+unfolding record-words zeros asked uses Run callBy inUse onTables newTables holding Called lowBits blocks every fill firstFrom value littleEndian part put requestAt responseBytes configFields configValues laidConfig configBytes virtqDesc descriptorAt descriptorAddr inside linkAt linkAfter withSecond withFirst parsed reaches delivered rowsOf rowWords mappingOf fillRows rowsLaid mapRegions alignmentOk regionOk sizeOk spanOf startOk severalOk pendingOk shapedOf newSize growthOf insideOf rangeOf hostSum hostIn hostOf legalAt changeIn stateIn stateOf tablesFit readyRefusal unplacedRefusal pendingRefusal rangeRefusal unless plugAs plug unplugAs oneAs nextAs stateType serve request resizes placing place setRequestedSize hostAnswer readConfig step wordsOf pendingOf pendingFits isRecord recordOf decodedOf
+runs = (record { lends = record { same-words = refl; same-bitmap = λ _ p. clash p refl; same-table = λ _ p. clash p refl }; promised = record { numbered = refl; recorded = refl; decodes = refl; told = refl; leaves = record { marked = refl; mapped = refl; left = refl } } }, (record { lends = record { same-words = refl; same-bitmap = λ p _. clash p refl; same-table = λ p _. clash p refl }; promised = record { numbered = refl; recorded = refl; decodes = refl; told = refl; leaves = record { marked = refl; mapped = refl; left = refl } } }, (record { lends = record { same-words = refl; same-bitmap = λ _ _. refl; same-table = λ _ _. refl }; promised = record { numbered = refl; recorded = refl; decodes = refl; told = refl; leaves = record { marked = refl; mapped = refl; left = refl } } }, (record { lends = record { same-words = refl; same-bitmap = λ _ p. clash p refl; same-table = λ _ p. clash p refl }; promised = record { numbered = refl; recorded = refl; decodes = refl; told = refl; leaves = record { marked = refl; mapped = refl; left = refl } } }, (record { lends = record { same-words = refl; same-bitmap = λ p _. clash p refl; same-table = λ p _. clash p refl }; promised = record { numbered = refl; recorded = refl; decodes = refl; told = refl; leaves = record { marked = refl; mapped = refl; left = refl } } }, (record { lends = record { same-words = refl; same-bitmap = λ _ _. refl; same-table = λ _ _. refl }; promised = record { numbered = refl; recorded = refl; decodes = refl; told = refl; leaves = record { marked = refl; mapped = refl; left = refl } } }, (record { lends = record { same-words = refl; same-bitmap = λ _ _. refl; same-table = λ _ _. refl }; promised = record { numbered = refl; recorded = refl; decodes = refl; told = refl; leaves = record { marked = refl; mapped = refl; left = refl } } }, (record { lends = record { same-words = refl; same-bitmap = λ p _. clash p refl; same-table = λ p _. clash p refl }; promised = record { numbered = refl; recorded = refl; decodes = refl; told = refl; leaves = record { marked = refl; mapped = refl; left = refl } } }, tt))))))))
 
 -- all that a program sees of it: the events that it hears, newest first, and the bitmap and the plugged size that it holds
 pub record Seen : Type 0 where
@@ -122,9 +123,9 @@ pub record Seen : Type 0 where
   pub sized : plugged (inHand (heldAfter (first (record-words 0 0 0 0 0)) uses)) ≡ 8388608
 
 pub seen : Seen
-unfolding record-words zeros asked uses callBy inUse newTables holding heldAfter answerOf heardBy HasRoom AllHeard eventsHeard value littleEndian part requestAt virtqDesc descriptorAt descriptorAddr inside linkAt linkAfter withSecond withFirst parsed recordOf pendingOf ackToType ackToRequest ackToHost acknowledges discardOf reports ifAck unlessRefused eventsOf openedByType openedByRequest goesOn openedBy askedBy openAfter
+unfolding record-words zeros asked uses callBy inUse newTables holding heldAfter answerOf heardBy HasRoom AllHeard eventsHeard value littleEndian part requestAt virtqDesc descriptorAt descriptorAddr inside linkAt linkAfter withSecond withFirst parsed recordOf pendingOf ackToType ackToRequest ackToHost acknowledges discardOf reports response refusal eventsOf openedByType openedByRequest goesOn openedBy askedBy openAfter
 seen = record { all-heard = (omega arith, (omega arith, (omega arith, (omega arith, (omega arith, (omega arith, (omega arith, (tt, tt)))))))); hears = refl; marked = refl; sized = refl }
 
 -- demand 3 says that these fit each other
-pub fits-each-other : Told (inHand (heldAfter (first (record-words 0 0 0 0 0)) uses)) (PlugAck 0 2 ∷ [])
+pub fits-each-other : Demand3 (inHand (heldAfter (first (record-words 0 0 0 0 0)) uses)) (PlugAck 0 2 ∷ [])
 fits-each-other = rw (seen .hears) at (demand-3-heard making (record-words 0 0 0 0 0) makes uses runs (seen .all-heard))

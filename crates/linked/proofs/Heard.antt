@@ -13,9 +13,9 @@ use Rattle.step.specs.declared.Answer.{Answer}
 use Rattle.step.specs.declared.Answer.the-variants.{Refused, Wants, Sized, Unserved, Served, Done}
 use Rattle.step.specs.World.{World, Call, ReadConfig, WriteConfig}
 use Rattle.step.specs.Step.{step, readConfig, writeConfig}
-use Rattle.step.specs.Answers.{answerWords}
+use Rattle.step.specs.Answers.{answerWords, refusal, response}
 use Rattle.jambcopper.specs.Exports.{Handed}
-use Rattle.history.specs.History.{Open, acknowledges, reports, ifAck, unlessRefused, eventsOf, openAfter, Story, next, after, begun}
+use Rattle.history.specs.History.{Open, acknowledges, reports, ifAck, ifNotRefused, eventsOf, openAfter, Story, next, after, begun}
 use Rattle.linked.specs.Runs.{Function, «jambcopper_place», «jambcopper_set_requested_size», «jambcopper_request», «jambcopper_host_answer», «jambcopper_read_config», «jambcopper_write_config»}
 use Rattle.linked.specs.Runs.{Use, callBy, callOf, Held, leaves, Run, callsOf, first, Means}
 use Rattle.linked.specs.Heard.{answerOf, heardBy, HasRoom, AllHeard, eventsHeard, Demand3InHand}
@@ -52,8 +52,8 @@ pub answers-tell : (a b : Answer) → answerWords a ≡ answerWords b → a ≡ 
 answers-tell a b e = sym (words-tell a []) ∙ ap (λ (ws : List ℕ). answerOf (ws ++ [])) e ∙ words-tell b []
 
 -- ---- the config's calls are no event, and leave open what is
-no-event : (a : Answer) → (ifAck a [] ++ unlessRefused a []) ≡ []
-unfolding ifAck unlessRefused
+no-event : (a : Answer) → (ifAck a [] ++ ifNotRefused a []) ≡ []
+unfolding response refusal
 no-event (Refused n) = refl
 no-event (Wants call) = refl
 no-event Sized = refl
@@ -80,8 +80,8 @@ module _ (w : World) (o : Open) where
       let e : answerOf (a .answer) ≡ step w c .answer = ap answerOf told ∙ answer-heard (b .answer) (step w c .answer) room in
       record { same-open = ap (openAfter w o c) e; same-events = ap (eventsOf w o c) e }
 
-  hears : (f : Function) (b a : Handed) (n : ℕ) → HasRoom f b → Tells w (record { function = f; before = b; after = a; number = n }) → Hears w o (callBy f b) (heardBy f a)
-  unfolding HasRoom heardBy callBy eventsOf acknowledges reports ifAck unlessRefused openAfter
+  hears : (f : Function) (b a : Handed) (n : ℕ) → HasRoom f b → Tells w (record { function = f; before = b; after = a; number = n }) → Hears w o (callBy f (b .slices)) (heardBy f a)
+  unfolding HasRoom heardBy callBy eventsOf acknowledges reports response refusal openAfter
   hears («jambcopper_place» start size slots) b a n room t = hears-answer _ b a room (t .told)
   hears («jambcopper_set_requested_size» mib) b a n room t = hears-answer _ b a room (t .told)
   hears («jambcopper_request» base descriptors head) b a n room t = hears-answer _ b a room (t .told)

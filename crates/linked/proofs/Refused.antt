@@ -16,6 +16,7 @@ use Rattle.words.specs.declared.Decoded.the-variants.{Is, NoRecord}
 use Rattle.words.specs.Record.{wordsOf, decodedOf}
 use Rattle.words.proofs.Laws.{decoded-encodes}
 use Rattle.little_endian.specs.Bytes.{put}
+use Rattle.step.specs.Promise.{Lent}
 use Rattle.jambcopper.specs.Exports.{Handed, Called}
 use Rattle.history.specs.Refusals.{lentBytes}
 use Rattle.history.proofs.Shaped.{clash}
@@ -57,4 +58,10 @@ refused-export-changes-nothing u low low′ p refused not-10 = go (decodedOf (u 
           same-table = t .leaves .mapped ∙ ap (λ (v : World). written (u .before .slices .table) (v .rows)) (same .0) ∙ whole (u .before .slices .table);
           same-bytes = λ lends. t .leaves .left ∙ same .1 ∙ lent-bytes (u .function) (u .before) lends;
         }
-    go NoRecord is t = record { same-words = t .recorded; same-bitmap = t .marked; same-table = t .leaves .mapped; same-bytes = λ _. t .leaves .left }
+    go NoRecord is t =
+        record {
+          same-words = t .recorded;
+          same-bitmap = ap (λ (l : Lent). l .bitmap) (t .untouched);
+          same-table = ap (λ (l : Lent). l .table) (t .untouched);
+          same-bytes = λ _. ap (λ (l : Lent). l .bytes) (t .untouched);
+        }

@@ -8,7 +8,8 @@ use Rattle.step.specs.World.{World, Call, Outcome}
 use Rattle.step.specs.Step.{step}
 use Rattle.history.specs.History.{Story, after, Fresh, begun}
 use Rattle.history.specs.Reached.{Reached, from-making}
-use Rattle.history.specs.Rules.{InEveryRun, FromEveryWorld, askedIn, takenIn, waits, KeepsShape, Never12, UsableNeverShrinks, DiscardIsCounted, OnlySizeChangeMovesRequested, PlugWithinRequested, SizeChangeTouchesNothing, LoweringAsksNothing, WholeOrNotAtAll, PendingStays, AsksWhatIsDue}
+use Rattle.history.proofs.Good.{reached-good}
+use Rattle.history.specs.Rules.{FromEveryGood, FromEveryWorld, askedIn, takenIn, waits, KeepsShape, Never12, UsableNeverShrinks, DiscardIsCounted, OnlySizeChangeMovesRequested, PlugWithinRequested, SizeChangeTouchesNothing, LoweringAsksNothing, WholeOrNotAtAll, PendingStays, AsksWhatIsDue}
 use Rattle.history.specs.Questions.{AsksForPending, OnlyUnplugsDiscard, OnlyOpenUnplugsDiscard}
 use Rattle.history.specs.Refusals.{RefusedChangesNothing, TenIsCreationFailed}
 use Rattle.history.proofs.Demand3.{reached-after}
@@ -36,15 +37,15 @@ shows-step h u s = let o = step (inHand h) (callOf u) in ends (o .world) (inHand
 pub rule-of-call : (P : World → Call → Outcome → Type 0) → FromEveryWorld P → (h : Held) (u : Use) → UseSteps h u → P (inHand h) (callOf u) (shows h u)
 rule-of-call P rule h u s = rw (shows-step h u s) at (rule (inHand h) (callOf u))
 
-pub rule-in-hand : (P : Story → Call → Type 0) → InEveryRun P → (h : Held) (s : Story) → Means h (s .world) → Reached s → (c : Call) → P (storyInHand h s) c
+pub rule-in-hand : (P : Story → Call → Type 0) → FromEveryGood P → (h : Held) (s : Story) → Means h (s .world) → Reached s → (c : Call) → P (storyInHand h s) c
 rule-in-hand P rule h s m reached c =
     let same : storyInHand h s ≡ s = ap (λ (w : World). record { world = w; «open» = s .«open»; events = s .events }) (in-hand h (s .world) m) in
-    rw same (rule s reached c)
+    rw same (rule s (reached-good s reached) c)
 
 of-every-call : (P : World → Call → Outcome → Type 0) → FromEveryWorld P → OfEveryCall P
 of-every-call P rule m words′ makes us run u one = rule-of-call P rule (heldAfter (first words′) us) u (linked m words′ makes .follows .steps us run u one)
 
-after-every-run : (P : Story → Call → Type 0) → InEveryRun P → AfterEveryRun P
+after-every-run : (P : Story → Call → Type 0) → FromEveryGood P → AfterEveryRun P
 after-every-run P rule m words′ makes d e us run u =
     rule-in-hand P rule _ (after (begun d) (callsOf us)) (follows-making m words′ makes d e .means us run)
     (reached-after (begun d) (from-making (is-fresh m words′ makes d e)) (callsOf us)) (callOf u)

@@ -10,9 +10,9 @@ use Rattle.bitmap.proofs.Laws.{fill-length as fill-blocks}
 use Rattle.rows.specs.declared.MapRow.{MapRow}
 use Rattle.rows.proofs.Laws.{fill-length, laid-length}
 use Rattle.record.specs.declared.Device.{Device}
-use Rattle.record.specs.Shape.{shapedOf, isIdle, startOk}
+use Rattle.record.specs.Shape.{shapedOf, isIdle}
 use Rattle.step.specs.World.{World, Guest, Call, Place, SetRequestedSize, Request, HostAnswer, ReadConfig, WriteConfig, Outcome}
-use Rattle.step.specs.Step.{step, region, several, regionRows, refused, placed, unless, readyRefusal, pendingRefusal, unplacedRefusal, tablesFit, place, placing, readConfig, writeConfig}
+use Rattle.step.specs.Step.{step, refused, placed, unless, readyRefusal, pendingRefusal, unplacedRefusal, tablesFit, place, placing, readConfig, writeConfig, rangeRefusal}
 use Rattle.step.specs.Answers.{numberOf}
 use Rattle.history.specs.History.{Event}
 use Rattle.history.specs.Rules.{isPlace}
@@ -95,15 +95,15 @@ module _ (d : Device) (bs bs′ : List Bool) (rows rows′ : List MapRow) where
   refuse-early n n′ m bytes o o′ p q e = rw (p, q, e) (refuse-both m bytes)
 
   module _ (unplaced : d .placed ≡ false) (idle : isIdle (d .pending) ≡ true) where
-    pub not-ready : (b r : ℕ) → readyRefusal d b r ≡ cond (shapedOf d) 5 12
+    pub not-ready : (b r : ℕ) → readyRefusal d b r ≡ cond (not (shapedOf d)) 12 5
     unfolding readyRefusal
     not-ready b r = simp (idle, unplaced)
 
-    not-pending : (b r : ℕ) → pendingRefusal d b r ≡ cond (shapedOf d) 8 12
+    not-pending : (b r : ℕ) → pendingRefusal d b r ≡ cond (not (shapedOf d)) 12 8
     unfolding pendingRefusal
     not-pending b r = simp idle
 
-    pub not-0 : (t : Bool) (n : ℕ) → eqb n 0 ≡ false → eqb (cond t n 12) 0 ≡ false
+    pub not-0 : (t : Bool) (n : ℕ) → eqb n 0 ≡ false → eqb (cond (not t) 12 n) 0 ≡ false
     not-0 true n e = e
     not-0 false n e = refl
 
@@ -111,9 +111,9 @@ module _ (d : Device) (bs bs′ : List Bool) (rows rows′ : List MapRow) where
     unfolding step
     size-early mib = refuse-early _ _ _ [] _ _ (not-ready _ _) (not-ready _ _) (not-0 (shapedOf d) 5 refl)
 
-    pub request-early : (g : Guest) (table head : ℕ) → Stay (with d bs rows) (with d bs′ rows′) (step (with d bs rows) (Request g table head)) (step (with d bs′ rows′) (Request g table head))
+    pub request-early : (g : Guest) (descriptors head : ℕ) → Stay (with d bs rows) (with d bs′ rows′) (step (with d bs rows) (Request g descriptors head)) (step (with d bs′ rows′) (Request g descriptors head))
     unfolding step
-    request-early g table head = refuse-early _ _ _ (g .mem) _ _ (not-ready _ _) (not-ready _ _) (not-0 (shapedOf d) 5 refl)
+    request-early g descriptors head = refuse-early _ _ _ (g .mem) _ _ (not-ready _ _) (not-ready _ _) (not-0 (shapedOf d) 5 refl)
 
     pub answer-early : (g : Guest) (ok : Bool) (host : ℕ) → Stay (with d bs rows) (with d bs′ rows′) (step (with d bs rows) (HostAnswer g ok host)) (step (with d bs′ rows′) (HostAnswer g ok host))
     unfolding step
@@ -159,12 +159,13 @@ module _ (d : Device) (bs bs′ : List Bool) (rows rows′ : List MapRow) (at si
       placing-cases (Taken lent) w (record { number-0 = refl; same-rows = l }) (λ i last n _. record { number-0 = refl; same-rows = l }) (λ _. record { number-0 = refl; same-rows = l })
 
   place-alike : Both (place (with d bs rows) at size slots bits lent) (place (with d bs′ rows′) at size slots bits lent)
-  unfolding place
+  unfolding place unless
   place-alike =
       let w = with d bs rows in
-      both-ways Both (not (eqb (length slots) (regionRows w) && eqb size (region w))) _ _ _ _ (λ _. refused-alike 3 refl)
-      (λ _. both-ways Both (not (startOk at (region w) (several w) (d .alignment))) _ _ _ _ (λ _. refused-alike 4 refl)
-      (λ _. taken-alike (placing (placed w at slots bits lent)) (placing-taken (placed w at slots bits lent) (laid-length lent slots))))
+      let n = rangeRefusal d at size (length slots) in
+      both-ways Both (eqb n 0) _ _ _ _
+      (λ _. taken-alike (placing (placed w at slots bits lent)) (placing-taken (placed w at slots bits lent) (laid-length lent slots)))
+      (λ e. refused-alike n e)
 
   abbrev Given : ℕ → Type 0
   Given n = Both (unless n (with d bs rows) [] (place (with d bs rows) at size slots bits lent)) (unless n (with d bs′ rows′) [] (place (with d bs′ rows′) at size slots bits lent))
@@ -172,9 +173,7 @@ module _ (d : Device) (bs bs′ : List Bool) (rows rows′ : List MapRow) (at si
   pub places-alike : Both (step (with d bs rows) (Place at size slots bits lent)) (step (with d bs′ rows′) (Place at size slots bits lent))
   unfolding step unplacedRefusal unless
   places-alike =
-      by-cond Given (shapedOf d) _ _
-      (λ _. by-cond Given (isIdle (d .pending)) _ _
+      by-cond Given (not (shapedOf d)) _ _ (λ _. refused-alike 12 refl)
+      (λ _. by-cond Given (not (isIdle (d .pending))) _ _ (λ _. refused-alike 7 refl)
       (λ _. by-cond Given (d .placed) _ _ (λ _. refused-alike 6 refl)
-      (λ _. by-cond Given (tablesFit d (length bits) (length lent)) _ _ (λ _. place-alike) (λ _. refused-alike 11 refl)))
-      (λ _. refused-alike 7 refl))
-      (λ _. refused-alike 12 refl)
+      (λ _. by-cond Given (not (tablesFit d (length bits) (length lent))) _ _ (λ _. refused-alike 11 refl) (λ _. place-alike))))

@@ -149,4 +149,4 @@ pub record QueueLinked (m : Making) (words : List ℕ) (k : QueueMaking) (queue 
   -- any further call tells what its next step tells
   pub tells : (us : List QueueUse) → Run (begins words queue) us → (u : QueueUse) → One (heldAfter (begins words queue) us) u → let s = afterAll (opened (begun device) (madeQueue k)) (callsOf us) in Tells (s .world) (s .queue) u
   -- demand 3 holds of the world that is held, and of the events of the definition's run
-  pub demand-3 : (us : List QueueUse) → Run (begins words queue) us → let s = afterAll (opened (begun device) (madeQueue k)) (callsOf us) in Told (inHand (heldAfter (begins words queue) us .device)) (s .story .events)
+  pub demand-3 : (us : List QueueUse) → Run (begins words queue) us → let s = afterAll (opened (begun device) (madeQueue k)) (callsOf us) in Demand3 (inHand (heldAfter (begins words queue) us .device)) (s .story .events)

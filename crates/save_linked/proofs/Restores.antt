@@ -10,7 +10,7 @@ use Rattle.words.specs.Record.{decodedOf}
 use Rattle.words.proofs.Laws.{reads-back}
 use Rattle.history.specs.History.{Story, after}
 use Rattle.history.specs.Reached.{afterRestore, Restores, Reached, by-restore}
-use Rattle.history.specs.Rules.{InEveryRun, FromEveryWorld}
+use Rattle.history.specs.Rules.{FromEveryGood, FromEveryWorld}
 use Rattle.history.proofs.Demand3.{reached-after}
 use Rattle.runs.specs.Runs.{runsOf}
 use Rattle.saving.specs.declared.Restored.{Restored}
@@ -78,7 +78,7 @@ restore-is-linked = taken
 pub of-every-call-then : (P : World → Call → Outcome → Type 0) → FromEveryWorld P → OfEveryCallThen P
 of-every-call-then P rule h′ s text l us run u one = rule-of-call P rule (heldAfter h′ us) u (l .follows .steps us run u one)
 
-pub after-every-run-then : (P : Story → Call → Type 0) → InEveryRun P → AfterEveryRunThen P
+pub after-every-run-then : (P : Story → Call → Type 0) → FromEveryGood P → AfterEveryRunThen P
 after-every-run-then P rule h′ s text l us run u =
     let start = startsAt (s .world) (l .fields) (l .bs) in
     rule-in-hand P rule (heldAfter h′ us) (after start (callsOf us)) (l .follows .means us run) (reached-after start (l .reached) (callsOf us)) (callOf u)

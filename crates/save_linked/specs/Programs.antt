@@ -5,7 +5,7 @@ use mathlib.Core.Bool.{Bool}
 use mathlib.Core.List.{List}
 use Rattle.record.specs.declared.Device.{Device}
 use Rattle.making.specs.declared.Made.the-variants.{Device as MadeDevice}
-use Rattle.history.specs.History.{Story, next, begun, Told}
+use Rattle.history.specs.History.{Story, next, begun, Demand3}
 use Rattle.history.specs.Reached.{Reached}
 use Rattle.save.specs.declared.Fields.{Fields}
 use Rattle.save.specs.Text.{Says}
@@ -23,7 +23,7 @@ pub data Program : Held → Story → Type 0 where
 pub record ProgramStands (h : Held) (s : Story) : Type 0 where
   pub means : Means h (s .world)
   pub reached : Reached s
-  pub demand-3 : Told (inHand h) (s .events)
+  pub demand-3 : Demand3 (inHand h) (s .events)
 
 abbrev pub Demand3OfPrograms : Type 0
 Demand3OfPrograms = (h : Held) (s : Story) → Program h s → ProgramStands h s

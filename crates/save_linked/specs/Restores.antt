@@ -4,7 +4,7 @@ use mathlib.Core.Path.{_≡_}
 use mathlib.Core.Bool.{Bool}
 use mathlib.Core.List.{List}
 use Rattle.step.specs.World.{World, Call, Outcome}
-use Rattle.history.specs.History.{NoRequest, Story, after, Told}
+use Rattle.history.specs.History.{NoRequest, Story, after, Demand3}
 use Rattle.history.specs.Reached.{Restores, restored, Reached}
 use Rattle.runs.specs.Runs.{runsOf}
 use Rattle.save.specs.declared.Fields.{Fields}
@@ -40,7 +40,7 @@ pub record SaveLinked (h′ : Held) (s : Story) (text : List ℕ) : Type 0 where
   -- over any run of the exported functions from then on what is held means where the definition's run stands, each call is its next step, and demand 3 holds
   pub follows : Follows h′ (startsAt (s .world) fields bs)
   -- demand 3 of what the program holds and has heard since, as `linked` has it from making on
-  pub heard : (us : List Use) → Run h′ us → AllHeard us → Told (inHand (heldAfter h′ us)) (eventsHeard h′ NoRequest (plugsOf (runsOf bs)) us)
+  pub heard : (us : List Use) → Run h′ us → AllHeard us → Demand3 (inHand (heldAfter h′ us)) (eventsHeard h′ NoRequest (plugsOf (runsOf bs)) us)
 
 -- wherever a run of the definition, restores included, has led
 abbrev pub RestoreIsLinked : Type 0
