@@ -1,7 +1,7 @@
 -- One exported call against one step on the queue: what is held goes on meaning where the run stands, and what the call tells is what the step tells.
 use Prim.Native.Nat.{ℕ}
 use mathlib.Core.Path.{_≡_, refl, ap, sym, _∙_}
-use mathlib.Core.Bool.{Bool, true, false, cond}
+use mathlib.Core.Bool.{Bool, true, false, cond, not}
 use mathlib.Core.List.{List, [], _∷_}
 use lib.Dec.{eqb}
 use lib.ListN.{length}
@@ -68,14 +68,14 @@ module _ (d : Device) (bs bs′ : List Bool) (rows rows′ : List MapRow) (q : Q
   there = with d bs′ rows′
 
   -- 12 or 5, whatever tables are lent
-  refused-early : (b r : ℕ) → takingRefusal d (q .taken) b r ≡ cond (queueOk (q .taken) (d .pending)) (cond (shapedOf d) 5 12) 12
+  refused-early : (b r : ℕ) → takingRefusal d (q .taken) b r ≡ cond (not (queueOk (q .taken) (d .pending))) 12 (cond (not (shapedOf d)) 12 5)
   unfolding takingRefusal
   refused-early b r = rw (not-ready d bs bs′ rows rows′ unplaced idle b r)
 
-  some-number : eqb (cond (queueOk (q .taken) (d .pending)) (cond (shapedOf d) 5 12) 12) 0 ≡ false
+  some-number : eqb (cond (not (queueOk (q .taken) (d .pending))) 12 (cond (not (shapedOf d)) 12 5)) 0 ≡ false
   some-number = by-test (queueOk (q .taken) (d .pending)) (λ t. rw t (not-0 d bs bs′ rows rows′ unplaced idle (shapedOf d) 5 refl)) (λ t. rw t)
 
-  next-early : (w : World) → w .device ≡ d → (g : Guest) → nextOf w q g ≡ HasRefused (cond (queueOk (q .taken) (d .pending)) (cond (shapedOf d) 5 12) 12)
+  next-early : (w : World) → w .device ≡ d → (g : Guest) → nextOf w q g ≡ HasRefused (cond (not (queueOk (q .taken) (d .pending))) 12 (cond (not (shapedOf d)) 12 5))
   unfolding nextUnless
   next-early w e g = rw (e, refused-early (length (w .blocks)) (length (w .rows)), some-number)
 

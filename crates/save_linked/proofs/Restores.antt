@@ -9,7 +9,7 @@ use Rattle.words.specs.declared.Decoded.the-variants.{Is, NoRecord}
 use Rattle.words.specs.Record.{decodedOf}
 use Rattle.words.proofs.Laws.{reads-back}
 use Rattle.history.specs.History.{Story, after}
-use Rattle.history.specs.Reached.{afterRestore, Restores, Reached, by-restore}
+use Rattle.history.specs.Reached.{afterRestore, CanRestore, Reached, by-restore}
 use Rattle.history.specs.Rules.{FromEveryGood, FromEveryWorld}
 use Rattle.history.proofs.Demand3.{reached-after}
 use Rattle.runs.specs.Runs.{runsOf}
@@ -45,7 +45,7 @@ module _ (h : Held) (s : Story) (m : Means h (s .world)) (reached : Reached s) (
       let left : Means h′ (worldOf d′ bitmap′ (h .table)) = record { decodes = decodes; marked = refl; mapped = refl } in
       let leads : worldOf d′ bitmap′ (h .table) ≡ afterRestore (s .world) (f .requested) plugs = starts .leads ∙ ap (λ (w : World). afterRestore w (f .requested) plugs) same-world in
       let means : Means h′ (afterRestore (s .world) (f .requested) plugs) = rw leads at left in
-      let restores : Restores (s .world) (f .requested) plugs = rw same-world at (starts .restores) in
+      let restores : CanRestore (s .world) (f .requested) plugs = rw same-world at (starts .restores) in
       let goes-on : Reached (startsAt (s .world) f (r .bs)) = by-restore reached restores in
       let follows = follows-from h′ (startsAt (s .world) f (r .bs)) means goes-on in
       record {

@@ -5,7 +5,7 @@ use mathlib.Core.Bool.{Bool}
 use mathlib.Core.List.{List}
 use Rattle.step.specs.World.{World, Call, Outcome}
 use Rattle.history.specs.History.{NoRequest, Story, after, Demand3}
-use Rattle.history.specs.Reached.{Restores, restored, Reached}
+use Rattle.history.specs.Reached.{CanRestore, restored, Reached}
 use Rattle.runs.specs.Runs.{runsOf}
 use Rattle.save.specs.declared.Fields.{Fields}
 use Rattle.save.specs.Text.{Says}
@@ -34,7 +34,7 @@ pub record SaveLinked (h′ : Held) (s : Story) (text : List ℕ) : Type 0 where
   pub bs : List Bool
   pub says : Says text fields bs
   -- which is restored as `history` has it, so that the run goes on
-  pub restores : Restores (s .world) (fields .requested) (plugsOf (runsOf bs))
+  pub restores : CanRestore (s .world) (fields .requested) (plugsOf (runsOf bs))
   pub reached : Reached (startsAt (s .world) fields bs)
   pub means : Means h′ (startsAt (s .world) fields bs .world)
   -- over any run of the exported functions from then on what is held means where the definition's run stands, each call is its next step, and demand 3 holds
