@@ -6,8 +6,8 @@ use units::RegionOffset;
 ghost use Rattle.text.specs.Putting.{Put};
 ghost use Rattle.answer_text.specs.Texts.{createText, discardText, sizedText, responseText, refusalText};
 
-// Each function below puts the text of an answer at the start of a buffer. It answers the length of the text, and one more
-// than the buffer's where there is no room for it; 200 bytes are room enough.
+// Each function below puts the text of an answer at the start of a buffer. It answers the length of the text, and one
+// more than the buffer's where there is no room for it; 200 bytes are room enough.
 
 pub fn put_create(out: &mut [u8], guest: GuestAddr, size: u64, slot: u64) -> usize
     ensures { λ r. ⌜ Put (now (out .entry)) 0 (createText guest size slot) (now (out .exit)) r ⌝ }

@@ -1,3 +1,4 @@
+-- SPDX-License-Identifier: Apache-2.0 AND BSD-3-Clause
 mod Ways
 mod QueueWays
 pub mod Once

@@ -1,3 +1,4 @@
+-- SPDX-License-Identifier: Apache-2.0 AND BSD-3-Clause
 -- A run of the exported functions, words and bytes and all: a size change before placing, with tables that mean nothing; a placing that fails, and another; the host's answer; a plug of two blocks; a config read. So what is said of every run is said of something. Computed, by `refl`.
 use Prim.{tt}
 use Prim.Native.Nat.{ℕ}

@@ -1,3 +1,4 @@
+-- SPDX-License-Identifier: Apache-2.0 AND BSD-3-Clause
 -- A run of the exported functions is a run of the definition: from making on, whatever is lent besides what is held. So what holds of every run of the definition holds of what a program that links the library has in hand; demand 3 first.
 use Prim.Native.Nat.{ℕ, _*_, _≤_}
 use mathlib.Core.Path.{_≡_, refl, ap, sym, _∙_}

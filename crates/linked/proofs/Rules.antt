@@ -1,3 +1,4 @@
+-- SPDX-License-Identifier: Apache-2.0 AND BSD-3-Clause
 -- The rules of `history`, of every call of every run of the exported functions: what holds of the definition's step holds of what a call shows.
 use Prim.Native.Nat.{ℕ, _+_}
 use mathlib.Core.Path.{_≡_, ap, sym, _∙_}

@@ -1,3 +1,4 @@
+-- SPDX-License-Identifier: Apache-2.0 AND BSD-3-Clause
 -- What a call does to the tables, and where they do not matter: every call but placing keeps how many rows and blocks there are; before placing each call but placing is refused whatever tables are lent; placing ends alike whatever tables were there before.
 use Prim.Native.Nat.{ℕ}
 use mathlib.Core.Path.{_≡_, refl}

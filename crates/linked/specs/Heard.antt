@@ -1,3 +1,4 @@
+-- SPDX-License-Identifier: Apache-2.0 AND BSD-3-Clause
 -- What a program hears in a run of the exported functions: the answer that an answer's words mean, and from the answers and from what it holds the events of demand 3. Nothing here speaks of the definition's step.
 use Prim.{Unit}
 use Prim.Native.Nat.{ℕ, _≤_}

@@ -1,3 +1,4 @@
+-- SPDX-License-Identifier: Apache-2.0 AND BSD-3-Clause
 -- The rules of `history` for a program that links the library, of every call of every run of the exported functions: of the world in hand before it, of the call, and of what it shows.
 use Prim.Native.Nat.{ℕ, _+_}
 use mathlib.Core.Path.{_≡_}

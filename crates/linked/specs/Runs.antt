@@ -1,3 +1,4 @@
+-- SPDX-License-Identifier: Apache-2.0 AND BSD-3-Clause
 -- A run of the exported functions, as a program that links the library makes it: the arguments of each call, what it was lent, what it left there, and the number that it returned.
 use Prim.{Unit}
 use Prim.Native.Nat.{ℕ, _≤_}

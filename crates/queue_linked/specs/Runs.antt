@@ -1,3 +1,4 @@
+-- SPDX-License-Identifier: Apache-2.0 AND BSD-3-Clause
 -- A run of the exported functions on a device and its queue, as a program that links the library makes it.
 use Prim.{Unit}
 use Prim.Native.Nat.{ℕ}

@@ -1,2 +1,3 @@
 // SPDX-License-Identifier: Apache-2.0 AND BSD-3-Clause
-// What holds over every run on the queue: theorems about the definitions of the crates `queue` and `step`. There is no code here that a device runs.
+// What holds over every run on the queue: theorems about the definitions of the crates `queue` and `step`. There is no
+// code here that a device runs.

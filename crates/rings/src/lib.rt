@@ -1,6 +1,6 @@
 // SPDX-License-Identifier: Apache-2.0 AND BSD-3-Clause
-// The available and the used ring of a split queue of 128, over lent guest memory: the next head, and a head put back with its length.
-// Indices are 16 bits and wrap; a ring's entry is an index modulo 128.
+// The available and the used ring of a split queue of 128, over lent guest memory: the next head, and a head put back
+// with its length. Indices are 16 bits and wrap; a ring's entry is an index modulo 128.
 use descriptors::Place;
 use descriptors::place_of;
 use little_endian::read_u16;

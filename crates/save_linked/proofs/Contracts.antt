@@ -1,3 +1,4 @@
+-- SPDX-License-Identifier: Apache-2.0 AND BSD-3-Clause
 -- The contract of jambcopper_restore, as its callers learn it from its proof, is the promise that the theorems are stated over: nothing was copied by hand.
 use contract.Lifetimes.{Lfts}
 use denote.Ref.{now}

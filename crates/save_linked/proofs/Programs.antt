@@ -1,3 +1,4 @@
+-- SPDX-License-Identifier: Apache-2.0 AND BSD-3-Clause
 -- Each step of a program is a step of the definition's run, so demand 3 holds wherever it stands.
 use Rattle.history.specs.History.{Story, next}
 use Rattle.history.specs.Reached.{Reached, from-making, by-call}

@@ -1,3 +1,4 @@
+-- SPDX-License-Identifier: Apache-2.0 AND BSD-3-Clause
 -- The whole of a program that links the library: it makes a device, calls the exports, and restores, in any order and as often as it likes.
 use Prim.Native.Nat.{ℕ}
 use mathlib.Core.Path.{_≡_}

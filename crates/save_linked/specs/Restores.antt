@@ -1,3 +1,4 @@
+-- SPDX-License-Identifier: Apache-2.0 AND BSD-3-Clause
 -- A program that links the library and restores a device by it (R15.15, R18.12): demand 3's history starts with a plug for each run of the text.
 use Prim.Native.Nat.{ℕ}
 use mathlib.Core.Path.{_≡_}

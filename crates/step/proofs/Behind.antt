@@ -1,3 +1,4 @@
+-- SPDX-License-Identifier: Apache-2.0 AND BSD-3-Clause
 -- Request 2/12: no answer to a request hangs on what stands behind the table's end. A table with more rows, whatever they say, gives the same outcome.
 use Prim.Native.Nat.{ℕ, _+_}
 use mathlib.Core.Path.{_≡_, refl}

@@ -1,3 +1,4 @@
+-- SPDX-License-Identifier: Apache-2.0 AND BSD-3-Clause
 -- Request 2/12: the row that test (d) looks at is in the table, so that (d) never looks past the table's end, where nothing is mapped (`rowAt`).
 use Prim.Native.Nat.{ℕ, _+_, _*_, _<_}
 use mathlib.Core.Path.{_≡_}

@@ -1,3 +1,4 @@
+-- SPDX-License-Identifier: Apache-2.0 AND BSD-3-Clause
 -- What the endings of a call do and leave alone: each plug and unplug is of its whole range, an unplug-all of its blocks one by one, and an ending that is no ACK changes nothing but the response.
 use Prim.Native.Nat.{ℕ, _+_, _-_, _≤_, _<_}
 use mathlib.Core.Path.{_≡_, refl}

@@ -1,3 +1,4 @@
+-- SPDX-License-Identifier: Apache-2.0 AND BSD-3-Clause
 -- The number and the values of an answer, case by case, as nine words (R18.2, R19.3): its kind, the number, the question (an address, a size, a slot or host address), the response (type and state), the used length, and the reason.
 use Prim.Native.Nat.{ℕ}
 use mathlib.Core.List.{List, [], _∷_}

@@ -1,3 +1,4 @@
+-- SPDX-License-Identifier: Apache-2.0 AND BSD-3-Clause
 -- What a public function promises: the one relation between a call, what was lent, what came back and the answer.
 use Prim.Native.Nat.{ℕ}
 use mathlib.Core.Bool.{Bool}

@@ -1,3 +1,4 @@
+-- SPDX-License-Identifier: Apache-2.0 AND BSD-3-Clause
 -- What a call works on, what it brings, and what it ends in. A definition of `Step.antt` goes from a World and a Call to an Outcome.
 use Prim.Native.Nat.{ℕ}
 use mathlib.Core.Bool.{Bool}

@@ -1,5 +1,6 @@
 // SPDX-License-Identifier: Apache-2.0 AND BSD-3-Clause
-// What every call of the device ends in: the answers, the refusals that several calls share, the usable size worked out, and the response to the guest.
+// What every call of the device ends in: the answers, the refusals that several calls share, the usable size worked
+// out, and the response to the guest.
 use chain::deliver;
 use record::Device;
 use record::HostCall;

@@ -1,6 +1,6 @@
 // SPDX-License-Identifier: Apache-2.0 AND BSD-3-Clause
 // Calls on the queue, as a table. Each row of data/queue.txt is a command and, behind an arrow, the answer that
-// documents 01 and 02 give, worked out by hand. A row that gets another answer is printed with it, and so is a row that
+// the rules (R13) give, worked out by hand. A row that gets another answer is printed with it, and so is a row that
 // is no command. A line with a colon is a heading. The first lines are forms, each behind its key: of a command, its
 // first letter, or of an answer.
 //

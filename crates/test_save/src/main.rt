@@ -1,6 +1,6 @@
 // SPDX-License-Identifier: Apache-2.0 AND BSD-3-Clause
-// Save records, as a table. Each row of data/save.txt is a call and, behind an arrow, the answer that document 02
-// gives, worked out by hand. A row that gets another answer is printed with it, and so is a row that is no call, which
+// Save records, as a table. Each row of data/save.txt is a call and, behind an arrow, the answer that the rules (R15)
+// give, worked out by hand. A row that gets another answer is printed with it, and so is a row that is no call, which
 // gets none. What the rows are, and their columns, the file says in its lines that begin with #.
 use devices::Scene;
 use devices::Told;

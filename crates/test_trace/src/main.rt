@@ -2,12 +2,12 @@
 // Runs traces whose answers are known, and compares. A file of data/ has a block for each trace: its lines, a line
 // `--`, its answers, and an empty line. In an answer `*` stands for any value of a field.
 //
-// traces.txt has what mem.rs answers: first to document 01's example and its edges W1 to W11, then to random traces,
+// traces.txt has what mem.rs answers: first to the example (R12.12) and the edges W1 to W11, then to random traces,
 // each up to the first unplug-all that is refused. parts.txt has plugs in one request and the same in parts, with what
-// mem.rs answers (request 10/12). amended.txt goes on behind a refused unplug-all, where document 02 departs from
+// mem.rs answers (request 10/12). amended.txt goes on behind a refused unplug-all, where the rules depart from
 // mem.rs: its answers were worked out by a model of both documents. recorded.txt has requests that Linux's driver made
 // in a guest of QEMU, and the fields of QEMU's answers that may be compared. edges.txt has the edges of a line's form:
-// its answers were read against document 01.
+// its answers were read against the rules (R12).
 use libc::STDOUT_FILENO;
 use trace_run::Run;
 use trace_run::first_bytes;

@@ -1,8 +1,10 @@
+// SPDX-License-Identifier: Apache-2.0 AND BSD-3-Clause
 // Replays a trace: house lines from the standard input, each on the device, and its answers as house lines.
 //
-// A refusal in the first line ends the run; what follows is read and not served. A bad first line is refused as 13, as any bad
-// line is: one of more than 200 bytes, an empty one, one with a NUL byte, and a later one in the first line's form. After a bad
-// later line the run goes on. The last line may lack its newline, as that of the file stdin does. Input without a byte prints nothing.
+// A refusal in the first line ends the run; what follows is read and not served. A bad first line is refused as 13, as
+// any bad line is: one of more than 200 bytes, an empty one, one with a NUL byte, and a later one in the first line's
+// form. After a bad later line the run goes on. The last line may lack its newline, as that of the file stdin does.
+// Input without a byte prints nothing.
 use libc::STDIN_FILENO;
 use libc::STDOUT_FILENO;
 use trace_run::Run;
@@ -101,7 +103,8 @@ fn turn(s: State, bitmap: &mut [u8], table: &mut [u64], mem: &mut [u8], line: &m
     }
 }
 
-// A proved loop has to end, and nothing says that the input does. So the loop counts its turns down, from a number that no run uses up.
+// A proved loop has to end, and nothing says that the input does. So the loop counts its turns down, from a number that
+// no run uses up.
 fn replay(bitmap: &mut [u8], table: &mut [u64], mem: &mut [u8], line: &mut [u8]) -> State {
     let mut state = State {
         run: Run::Before,

@@ -1,3 +1,4 @@
+-- SPDX-License-Identifier: Apache-2.0 AND BSD-3-Clause
 -- A trace's ops as calls of the device (R12.9), and its answers as lines (R12.6).
 use Prim.Native.Nat.{ℕ, _+_}
 use mathlib.Core.List.{List, [], _∷_}

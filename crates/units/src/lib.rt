@@ -1,5 +1,6 @@
 // SPDX-License-Identifier: Apache-2.0 AND BSD-3-Clause
-// The numbers of the device: three kinds of address, the node, the sizes, the alignment, rounding, and tests for overflow.
+// The numbers of the device: three kinds of address, the node, the sizes, the alignment, rounding, and tests for
+// overflow.
 ghost use mathlib.Core.Path.{_≡_};
 ghost use Prim.Native.Nat.{_+_, _-_, _*_, _/_, _%_, min};
 ghost use lib.Dec.{leb, eqb};

@@ -9,7 +9,8 @@ ghost use Prim.Native.Nat.{_≤_};
 ghost use lib.ListN.{length};
 ghost use Rattle.little_endian.specs.Bytes.{put};
 ghost use Rattle.words.specs.declared.Decoded.the-variants.{Is};
-ghost use Rattle.words.specs.Record.{bit, pendingCall, decodedOf, wordsOf, pendingWords, afterRequest, afterAnswer};
+ghost use Rattle.words.specs.Record.{bit, pendingCall, decodedOf, wordsOf, pendingWords};
+ghost use Rattle.words.specs.Record.{afterRequest, afterAnswer};
 
 // A record's length in words.
 pub const RECORD_WORDS: usize = 15;

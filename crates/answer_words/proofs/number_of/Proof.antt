@@ -1,3 +1,4 @@
+-- SPDX-License-Identifier: Apache-2.0 AND BSD-3-Clause
 -- `answer_words::number_of` meets its contract.
 use borrow.Author.Needs.{needs}
 use Rattle.answer_words.proofs.number_of.Statement.{statement}

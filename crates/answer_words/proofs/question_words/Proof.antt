@@ -1,3 +1,4 @@
+-- SPDX-License-Identifier: Apache-2.0 AND BSD-3-Clause
 -- `answer_words::question_words` meets its contract, case by case.
 use borrow.Author.Needs.{needs}
 use Rattle.answer_words.proofs.question_words.Statement.{statement}

@@ -1,3 +1,4 @@
+-- SPDX-License-Identifier: Apache-2.0 AND BSD-3-Clause
 -- `answer_words::tell` meets its contract: both ways write the words of the answer.
 use mathlib.Core.Path.{ap, _∙_}
 use Rattle.little_endian.specs.Bytes.{put}

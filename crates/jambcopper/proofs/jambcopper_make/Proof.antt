@@ -1,3 +1,4 @@
+-- SPDX-License-Identifier: Apache-2.0 AND BSD-3-Clause
 -- `jambcopper::jambcopper_make` meets its contract: 12 where there is no room, else what was made.
 use mathlib.Core.Path.{ap, _∙_}
 use Rattle.units.specs.declared.Node.{Node}

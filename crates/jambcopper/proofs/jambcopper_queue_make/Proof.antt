@@ -1,3 +1,4 @@
+-- SPDX-License-Identifier: Apache-2.0 AND BSD-3-Clause
 -- `jambcopper::jambcopper_queue_make` meets its contract: 12 where there is no room, else the words of a new queue.
 use Rattle.jambcopper.proofs.QueueWays.{no-queue-room, queue-made}
 use borrow.Author.Needs.{needs}

@@ -1,3 +1,4 @@
+-- SPDX-License-Identifier: Apache-2.0 AND BSD-3-Clause
 -- `jambcopper::jambcopper_read_config` meets its contract: 12 where there is no record, else the device's call, which leaves the record as it is.
 use mathlib.Core.Path.{_∙_}
 use Rattle.jambcopper.proofs.Ways.{unserved, served, unwritten, untold, read-keeps}

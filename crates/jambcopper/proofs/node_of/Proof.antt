@@ -1,3 +1,4 @@
+-- SPDX-License-Identifier: Apache-2.0 AND BSD-3-Clause
 -- `jambcopper::node_of` meets its contract.
 use borrow.Author.Needs.{needs}
 use Rattle.jambcopper.proofs.node_of.Statement.{statement}

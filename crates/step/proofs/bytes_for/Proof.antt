@@ -1,3 +1,4 @@
+-- SPDX-License-Identifier: Apache-2.0 AND BSD-3-Clause
 -- `step::bytes_for` meets its contract.
 use native.Mathlib.Nat.{div-le-self}
 use native.Mathlib.Omega.{arith}

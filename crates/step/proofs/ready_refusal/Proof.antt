@@ -1,3 +1,4 @@
+-- SPDX-License-Identifier: Apache-2.0 AND BSD-3-Clause
 -- `step::ready_refusal` meets its contract: its tests stand in the order 12, 7, 5, 11, as in the definition.
 use mathlib.Core.Path.{refl}
 use borrow.Author.Needs.{needs}

@@ -1,3 +1,4 @@
+-- SPDX-License-Identifier: Apache-2.0 AND BSD-3-Clause
 -- `step::respond` meets its contract: the used length is 10 exactly if the response was delivered.
 use mathlib.Core.Path.{refl, sym}
 use mathlib.Core.List.{[]}

@@ -1,3 +1,4 @@
+-- SPDX-License-Identifier: Apache-2.0 AND BSD-3-Clause
 -- `step::sized` meets its contract.
 use borrow.Author.Needs.{needs}
 use Rattle.step.proofs.sized.Statement.{statement}

@@ -1,3 +1,4 @@
+-- SPDX-License-Identifier: Apache-2.0 AND BSD-3-Clause
 -- `trace::replay` is safe and ends. Invariant: the slices keep their lengths. The measure is the number of turns that are left.
 use mathlib.Core.Path.{_≡_}
 use lib.ListN.{length}

@@ -1,3 +1,4 @@
+-- SPDX-License-Identifier: Apache-2.0 AND BSD-3-Clause
 -- `trace::take_all` is safe and ends. Invariant: the slices keep their lengths, and `i` is within the input. The measure is what is left of it.
 --
 use borrow.Author.Needs.{needs}

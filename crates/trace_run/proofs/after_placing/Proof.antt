@@ -1,3 +1,4 @@
+-- SPDX-License-Identifier: Apache-2.0 AND BSD-3-Clause
 -- `trace_run::after_placing` meets its contract: each answer has its case.
 use Rattle.trace_run.specs.Run.{placedAs}
 use borrow.Author.Needs.{needs}

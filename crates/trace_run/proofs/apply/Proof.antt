@@ -1,3 +1,4 @@
+-- SPDX-License-Identifier: Apache-2.0 AND BSD-3-Clause
 -- `trace_run::apply` meets its contract: each op is one call, and its promise is the call's.
 use mathlib.Core.Path.{refl}
 use Rattle.trace_run.specs.Ops.{opCall, bytesAfter}

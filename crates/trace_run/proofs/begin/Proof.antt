@@ -1,3 +1,4 @@
+-- SPDX-License-Identifier: Apache-2.0 AND BSD-3-Clause
 -- `trace_run::begin` meets its contract: a device is made, which has the stated shape, or the line is refused.
 use mathlib.Core.Path.{sym, _∙_}
 use Rattle.making.proofs.Newly.{made-new}

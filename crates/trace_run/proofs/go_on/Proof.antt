@@ -1,3 +1,4 @@
+-- SPDX-License-Identifier: Apache-2.0 AND BSD-3-Clause
 -- `trace_run::go_on` meets its contract: the answer of the op is printed.
 use mathlib.Core.Path.{refl}
 use Rattle.step.specs.World.{worldOf}

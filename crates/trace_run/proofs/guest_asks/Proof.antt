@@ -1,3 +1,4 @@
+-- SPDX-License-Identifier: Apache-2.0 AND BSD-3-Clause
 -- `trace_run::guest_asks` meets its contract: the memory that the device reads is the one that was laid.
 use mathlib.Core.Path.{refl}
 use denote.Ref.{now}

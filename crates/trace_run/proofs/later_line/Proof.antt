@@ -1,3 +1,4 @@
+-- SPDX-License-Identifier: Apache-2.0 AND BSD-3-Clause
 -- `trace_run::later_line` meets its contract: each kind of line has its case.
 use Rattle.trace_run.specs.Run.{turn}
 use Rattle.trace_run.proofs.Laws.{printed-comes}

@@ -1,3 +1,4 @@
+-- SPDX-License-Identifier: Apache-2.0 AND BSD-3-Clause
 -- `trace_run::put_answer` meets its contract: each answer has its own line.
 use borrow.Author.Needs.{needs}
 use mathlib.Core.Path.{refl}

@@ -1,3 +1,4 @@
+-- SPDX-License-Identifier: Apache-2.0 AND BSD-3-Clause
 -- `trace_run::serve` meets its contract: the line is read, and then served where the run stands.
 use mathlib.Core.Path.{refl}
 use Rattle.trace_run.specs.Run.{turn}
