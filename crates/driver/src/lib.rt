@@ -15,8 +15,8 @@ use wire::VirtioMemConfig;
 use wire::VirtioMemReq;
 use wire::VirtioMemResp;
 ghost use mathlib.Core.Path.{_≡_};
-ghost use Prim.Native.Nat.{_-_, _<_, _≤_, min};
-ghost use Rattle.units.specs.Numbers.{blocksIn};
+ghost use Prim.Native.Nat.{_-_, _<_, _≤_, min, _*_, _^_};
+ghost use Rattle.units.specs.Numbers.{blocksIn, GiB};
 ghost use lib.Dec.{ltb};
 ghost use lib.ListN.{length};
 ghost use Rattle.bitmap.specs.Blocks.{blocks, nextSet};
@@ -113,7 +113,7 @@ fn too_short(bitmap: &[u8], needed: u64) -> bool
 
 // The block behind the 2 GiB border of offsets that comes next.
 fn border_after(block_size: u64, first: u64) -> u64
-    requires { ⌜ (0 < «block_size») × («block_size» ≤ 2147483648) × (first < 9223372036854775808) ⌝ }
+    requires { ⌜ (0 < «block_size») × («block_size» ≤ 2 * GiB) × (first < 2 ^ 63) ⌝ }
     ensures { λ r. ⌜ r ≡ borderAfter «block_size» first ⌝ }
 {
     let per = MemTool::MAP_REGION_SIZE / block_size;
@@ -140,8 +140,8 @@ fn room_of(block_size: u64, plugged: u64, requested: u64) -> u64
 
 // How many blocks a plug from `first` on takes, of those that there is room for.
 fn count_of(bitmap: &[u8], block_size: u64, usable: u64, first: u64, room: u64) -> u64
-    requires { ⌜ (0 < «block_size») × («block_size» ≤ 2147483648) ⌝ }
-    requires { ⌜ (first < 9223372036854775808) × (first < blocksIn «block_size» usable) ⌝ }
+    requires { ⌜ (0 < «block_size») × («block_size» ≤ 2 * GiB) ⌝ }
+    requires { ⌜ (first < 2 ^ 63) × (first < blocksIn «block_size» usable) ⌝ }
     ensures { λ r. ⌜ r ≡ min (stopOf «block_size» usable (blocks (now (bitmap .entry))) first - first) room ⌝ }
 {
     let border = border_after(block_size, first);

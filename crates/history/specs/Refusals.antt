@@ -4,6 +4,7 @@ use Prim.Native.Nat.{ℕ, _*_}
 use mathlib.Core.Path.{_≡_}
 use mathlib.Core.Bool.{Bool, true, false}
 use mathlib.Core.List.{List, []}
+use Rattle.units.specs.Numbers.{MiB}
 use Rattle.rows.specs.declared.MapRow.{MapRow}
 use Rattle.record.specs.declared.Pending.the-variants.{Nothing, Create}
 use Rattle.record.specs.declared.HostCall.{HostCall}
@@ -47,7 +48,7 @@ thenNo w c g host = step (step w c .world) (HostAnswer g false host)
 -- R2.9
 pub record SizeChangeFailed (w : World) (mib : ℕ) (o : Outcome) : Type 0 where
   pub gives-10 : o .answer ≡ Refused 10
-  pub requested-stands : o .world ≡ deviceOf (requestedTo (mib * 1048576) (w .device)) w
+  pub requested-stands : o .world ≡ deviceOf (requestedTo (mib * MiB) (w .device)) w
 
 abbrev pub TenInSizeChange : Type 0
 TenInSizeChange = (w : World) (mib : ℕ) (call : HostCall) → step w (SetRequestedSize mib) .answer ≡ Wants call

@@ -6,6 +6,7 @@ use mathlib.Core.Bool.{Bool, true, false, cond}
 use mathlib.Core.List.{List, [], _∷_}
 use mathlib.Core.Option.{Option, some, none}
 use lib.Dec.{eqb}
+use Rattle.units.specs.Numbers.{MiB}
 use Rattle.units.specs.declared.GuestAddr.{GuestAddr}
 use Rattle.units.specs.declared.RegionOffset.{RegionOffset}
 use Rattle.units.specs.declared.HostAddr.{HostAddr}
@@ -82,7 +83,7 @@ SizeChangeDiscardsNothing = (w : World) (mib : ℕ) → DiscardsNothing w (SetRe
 
 -- where the usable size is all that the requested size is worth (a creation that failed leaves it behind), lowering leaves it as it is and asks the host for nothing
 abbrev pub LoweringAsksNothing : World → Call → Outcome → Type 0
-LoweringAsksNothing w c o = (mib : ℕ) → c ≡ SetRequestedSize mib → mib * 1048576 ≤ requested w → newUsable w ≤ usable w
+LoweringAsksNothing w c o = (mib : ℕ) → c ≡ SetRequestedSize mib → mib * MiB ≤ requested w → newUsable w ≤ usable w
     → (usable (o .world) ≡ usable w) × (o .world .device .pending ≡ w .device .pending)
 
 -- ---- R18.8: every plug and unplug happens whole or not at all

@@ -6,7 +6,7 @@ use mathlib.Core.Bool.{Bool, true, false, _&&_, _||_}
 use mathlib.Core.List.{List, [], _∷_, List·Permᴰ}
 use lib.Dec.{eqb}
 use lib.ListN.{getD}
-use Rattle.units.specs.Numbers.{bytesOf, mapRegion}
+use Rattle.units.specs.Numbers.{bytesOf, mapRegion, MiB}
 use Rattle.units.specs.declared.GuestAddr.{GuestAddr}
 use Rattle.wire.specs.declared.VirtioMemReq.{VirtioMemReq}
 use Rattle.chain.specs.declared.Parsed.the-variants.{Request as Got}
@@ -155,5 +155,5 @@ RaisingKeeps = (w : World) (r addr count : ℕ) (c : Call) → Asks c addr count
 
 -- R16.6: as an owner raises it, by a size change to no less. More may then be usable too; where that needs a creation, requests are refused (7) until the host has answered. Where the change is done at once the plug is answered as before
 abbrev pub RaisingByCall : Type 0
-RaisingByCall = (w : World) (mib addr count : ℕ) (c : Call) → Asks c addr count → requested w ≤ mib * 1048576 → step w (SetRequestedSize mib) .answer ≡ Sized
+RaisingByCall = (w : World) (mib addr count : ℕ) (c : Call) → Asks c addr count → requested w ≤ mib * MiB → step w (SetRequestedSize mib) .answer ≡ Sized
     → Acknowledged (step w c) → step (step w (SetRequestedSize mib) .world) c .answer ≡ step w c .answer

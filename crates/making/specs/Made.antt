@@ -4,7 +4,7 @@ use Prim.Native.Nat.{ℕ, _*_}
 use mathlib.Core.Bool.{Bool, true, false, cond, not, _&&_, _||_}
 use mathlib.Core.Path.{_≡_}
 use lib.Dec.{ltb, eqb}
-use Rattle.units.specs.Numbers.{mapRegion, alignmentOf, capacityOf}
+use Rattle.units.specs.Numbers.{mapRegion, alignmentOf, capacityOf, MiB}
 use Rattle.wire.specs.Layout.{newConfig}
 use Rattle.record.specs.declared.Device.{Device}
 use Rattle.record.specs.declared.Pending.the-variants.{Nothing}
@@ -27,7 +27,7 @@ nodeNumber (Number n) = n
 abbrev pub newDevice : (region requested alignment : ℕ) (several : Bool) → Node → Device
 newDevice region requested alignment several node =
     record {
-      config = newConfig 4194304 (nodeNumber node) region requested;
+      config = newConfig (4 * MiB) (nodeNumber node) region requested;
       alignment = alignment;
       several = several && ltb mapRegion region;
       «avail_features» = featuresOf (isGiven node);
@@ -41,8 +41,8 @@ made capacity requested several node boot =
     let alignment = alignmentOf boot in
     let region = capacityOf capacity alignment in
     cond (ltb 1048576 capacity) (Refused 2)
-    (cond (eqb capacity 0 || not (sizeOk 4194304 (requested * 1048576) region)) (Refused 1)
-    (MadeDevice (newDevice region (requested * 1048576) alignment several node)))
+    (cond (eqb capacity 0 || not (sizeOk (4 * MiB) (requested * MiB) region)) (Refused 1)
+    (MadeDevice (newDevice region (requested * MiB) alignment several node)))
 
 -- the number of a device that was made or refused
 unfoldable pub madeNumber : Made → ℕ

@@ -13,7 +13,7 @@ use wire::VirtioMemConfig;
 ghost use mathlib.Core.Path.{_≡_};
 ghost use mathlib.Core.Bool.{not};
 ghost use Prim.Native.Nat.{_*_, _≤_};
-ghost use Rattle.units.specs.Numbers.{capacityOf};
+ghost use Rattle.units.specs.Numbers.{capacityOf, MiB, GiB};
 ghost use Rattle.record.specs.Shape.{sizeOk};
 ghost use Rattle.making.specs.Made.{nodeNumber, isGiven, newDevice, made, MadeAs};
 
@@ -47,7 +47,7 @@ fn is_given(node: Node) -> bool
 
 // The region of a capacity.
 fn region_of(capacity_mib: u64, alignment: u64) -> u64
-    requires { ⌜ («capacity_mib» ≤ 1048576) × (alignment ≤ 2147483648) ⌝ }
+    requires { ⌜ («capacity_mib» ≤ 1048576) × (alignment ≤ 2 * GiB) ⌝ }
     ensures { λ r. ⌜ r ≡ capacityOf «capacity_mib» alignment ⌝ }
 {
     next_multiple_of(capacity_mib * MemTool::MIB, 2 * alignment)
@@ -55,7 +55,7 @@ fn region_of(capacity_mib: u64, alignment: u64) -> u64
 
 // Whether a requested size is refused as 1: above the region, or not whole blocks.
 pub fn requested_refused(mib: u64, region: u64, block_size: u64) -> bool
-    ensures { λ r. ⌜ r ≡ not (sizeOk «block_size» (mib * 1048576) region) ⌝ }
+    ensures { λ r. ⌜ r ≡ not (sizeOk «block_size» (mib * MiB) region) ⌝ }
 {
     if !product_within(mib, MemTool::MIB, region) {
         return true;

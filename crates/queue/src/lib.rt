@@ -108,7 +108,7 @@ fn gave_back(q: Queue) -> Queue
 }
 
 // What the device's answer means for the head that it is about.
-pub fn ending_of(answer: Answer) -> Ending
+fn ending_of(answer: Answer) -> Ending
     ensures { λ r. ⌜ r ≡ endingOf answer ⌝ }
 {
     match answer {

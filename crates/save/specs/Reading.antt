@@ -1,11 +1,12 @@
 -- SPDX-License-Identifier: Apache-2.0 AND BSD-3-Clause
 -- What checking and reading a text promise.
-use Prim.Native.Nat.{ℕ, _+_, _≤_}
+use Prim.Native.Nat.{ℕ, _+_, _*_, _≤_}
 use mathlib.Core.Path.{_≡_}
 use mathlib.Core.Bool.{Bool, false, cond}
 use mathlib.Core.List.{List, [], _∷_, _++_}
 use lib.Dec.{ltb}
 use lib.ListN.{length, drop}
+use Rattle.units.specs.Numbers.{MiB}
 use Rattle.bitmap.specs.Blocks.{blocks, Outside}
 use Rattle.forms.specs.Scanning.{Part, part, none, partOf}
 use Rattle.runs.specs.Runs.{runsOf}
@@ -46,14 +47,14 @@ pub record Refuses (s : List ℕ) (number : ℕ) : Type 0 where
 
 -- the text l, which is s from some position on, starts with the lines of the fields, or it does not; form 2 has 4 MiB of block size
 abbrev pub IsFields : (s l : List ℕ) → Head → Type 0
-IsFields s l (head.At f next) = (f .block ≡ 4194304) × (partOf 5 (fieldLines 2) l ≡ part (fieldsOf f) (drop next s)) × (next ≤ length s)
+IsFields s l (head.At f next) = (f .block ≡ 4 * MiB) × (partOf 5 (fieldLines 2) l ≡ part (fieldsOf f) (drop next s)) × (next ≤ length s)
 IsFields s l (head.Refused number) = (number ≡ 18) × ((us rest : List ℕ) → partOf 5 (fieldLines 2) l ≡ part us rest → ⊥)
 
 -- the text from the fields on, and the fields
 pub record Heads (s : List ℕ) (f : Fields) (next : ℕ) : Type 0 where
   pub rest : List ℕ
   pub form : partOf 1 formLine s ≡ part (2 ∷ []) rest
-  pub block : f .block ≡ 4194304
+  pub block : f .block ≡ 4 * MiB
   pub fields : partOf 5 (fieldLines 2) rest ≡ part (fieldsOf f) (drop next s)
   pub inside : next ≤ length s
 

@@ -9,14 +9,11 @@ use std::num::wrapping_add_u64;
 use units::MemTool;
 use units::sum_within;
 
-// 128 MiB, 256 MiB, 1 TiB and the largest number.
-const ALIGNMENT: u64 = 134217728;
+const ALIGNMENT: u64 = 128 * MemTool::MIB;
 
-const LEAST_REGION: u64 = 268435456;
+const LEAST_REGION: u64 = 256 * MemTool::MIB;
 
-const MOST_REGION: u64 = 1099511627776;
-
-const MOST: u64 = 18446744073709551615;
+const MOST_REGION: u64 = 1024 * MemTool::GIB;
 
 // Why, by the key of its words in saying.rt.
 pub const NOTHING: u8 = b'.';
@@ -122,7 +119,7 @@ fn start_wrong(n: u64) -> Found {
     if n % ALIGNMENT != 0 {
         return report(2, START, n, 0);
     }
-    if !sum_within(n, LEAST_REGION, MOST) {
+    if !sum_within(n, LEAST_REGION, u64::MAX) {
         return report(2, START_HIGH, n, 0);
     }
     report(2, NOTHING, n, 0)
@@ -132,7 +129,7 @@ fn region_wrong(start: u64, n: u64) -> Found {
     if (n == 0) | (n % LEAST_REGION != 0) | (MOST_REGION < n) {
         return report(3, REGION, n, 0);
     }
-    if !sum_within(start, n, MOST) {
+    if !sum_within(start, n, u64::MAX) {
         return report(3, REGION_HIGH, start, n);
     }
     report(3, NOTHING, n, 0)

@@ -6,7 +6,7 @@ use mathlib.Core.Bool.{Bool, true, false, cond, not, _&&_, _||_}
 use mathlib.Core.List.{List, []}
 use lib.Dec.{leb, ltb, eqb}
 use lib.ListN.{length, drop}
-use Rattle.units.specs.Numbers.{top, bytesOf, blocksIn, mapRegion, mapRegions}
+use Rattle.units.specs.Numbers.{top, bytesOf, blocksIn, mapRegion, mapRegions, MiB}
 use Rattle.bitmap.specs.Blocks.{fill, nextSet}
 use Rattle.bitmap.specs.declared.Found.{Found}
 use Rattle.bitmap.specs.declared.Found.the-variants.{At, Nothing as NoneSet}
@@ -353,8 +353,8 @@ place w at size slots bs rows =
 -- R6.3; R1.1
 unfoldable pub setRequestedSize : World → (mib : ℕ) → Outcome
 setRequestedSize w mib =
-    cond (not (sizeOk (blockSize w) (mib * 1048576) (region w))) (refused 1 w [])
-    (resized (deviceOf (requestedTo (mib * 1048576) (w .device)) w))
+    cond (not (sizeOk (blockSize w) (mib * MiB) (region w))) (refused 1 w [])
+    (resized (deviceOf (requestedTo (mib * MiB) (w .device)) w))
 
 -- R1.9: what a creation covers
 abbrev pub coveredBy : World → (i last : ℕ) → ℕ
