@@ -10,10 +10,10 @@ use little_endian::from;
 use std::num::wrapping_sub_usize;
 use trace_text::FirstLine;
 use trace_text::Line;
-use trace_text::Node;
 use trace_text::Op;
 use units::GuestAddr;
 use units::HostAddr;
+use units::Node;
 use units::RegionOffset;
 
 // The byte that a byte of the table stands for: a tab, the end of a line in other systems, and 0 have a stand-in.
