@@ -9,7 +9,6 @@ use units::HostAddr;
 use units::MemTool;
 use units::RegionOffset;
 use units::is_multiple;
-use units::product_within;
 use units::smaller;
 use units::sum_within;
 ghost use mathlib.Core.Path.{_≡_};
@@ -74,22 +73,23 @@ fn inside_of(start: GuestAddr, usable: u64, addr: GuestAddr, size: u64) -> Range
 pub fn range_of(
     start: GuestAddr,
     usable: u64,
-    block_size: u64,
+    block_size: u32,
     addr: GuestAddr,
     nb_blocks: u16,
 ) -> Range
     ensures { λ r. ⌜ r ≡ rangeOf «block_size» (start .0) usable (addr .0) «nb_blocks» ⌝ }
 {
-    if !is_multiple(addr.0, block_size) {
+    if !is_multiple(addr.0, block_size as u64) {
         return Range::Outside(Part::Alignment);
     }
     if nb_blocks == 0 {
         return Range::Outside(Part::ZeroBlocks);
     }
-    if !product_within(nb_blocks as u64, block_size, u64::MAX - addr.0) {
+    let size = MemTool::bytes_of(nb_blocks, block_size);
+    if !sum_within(addr.0, size, u64::MAX) {
         return Range::Outside(Part::Overflow);
     }
-    inside_of(start, usable, addr, nb_blocks as u64 * block_size)
+    inside_of(start, usable, addr, size)
 }
 
 // The change of a range that is not inside: what it failed is handed on. It is asked of no other.
@@ -144,7 +144,7 @@ pub fn host_of(several: bool, table: &[u64], offset: RegionOffset, size: u64) ->
 pub fn change_of(
     start: GuestAddr,
     usable: u64,
-    block_size: u64,
+    block_size: u32,
     several: bool,
     addr: GuestAddr,
     nb_blocks: u16,
@@ -159,11 +159,16 @@ pub fn change_of(
     let Range::Inside(offset) = range else {
         return outside(range);
     };
-    let first = MemTool::blocks_in(offset.0, block_size);
+    let first = MemTool::blocks_in(offset.0, block_size as u64);
     if !all_in_state(bitmap, first as usize, nb_blocks as usize, !plug) {
         return Change::WrongState;
     }
-    let host = host_of(several, table, offset, nb_blocks as u64 * block_size);
+    let host = host_of(
+        several,
+        table,
+        offset,
+        MemTool::bytes_of(nb_blocks, block_size),
+    );
     let HostRange::At(at) = host else {
         return Change::NoHost(host);
     };
@@ -187,7 +192,7 @@ fn state_in(bitmap: &[u8], first: usize, count: usize) -> u16
 pub fn state_of(
     start: GuestAddr,
     region: u64,
-    block_size: u64,
+    block_size: u32,
     addr: GuestAddr,
     nb_blocks: u16,
     bitmap: &[u8],
@@ -197,8 +202,8 @@ pub fn state_of(
     if addr.0 < start.0 {
         return 0;
     }
-    let first = MemTool::blocks_in(addr.offset_from(start).0, block_size);
-    let end = MemTool::blocks_in(region, block_size);
+    let first = MemTool::blocks_in(addr.offset_from(start).0, block_size as u64);
+    let end = MemTool::blocks_in(region, block_size as u64);
     if end <= first {
         return 0;
     }

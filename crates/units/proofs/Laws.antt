@@ -22,12 +22,9 @@ past {n} {limit} r e t = leb-false n limit (sym e ∙ t)
 pub saturated-fits : {n : ℕ} → n ≤ top → saturated n ≡ n
 saturated-fits h = omega arith
 
--- the blocks of a request, of at most 128 MiB each, have a size that fits
-pub bytes-fit : (b n : ℕ) → b ≤ 128 * MiB → n < 65536 → bytesOf b n ≤ top
-bytes-fit b n h k =
-    let few : n ≤ 65535 = omega arith in
-    let small : n * b ≤ 65535 * (128 * MiB) = mul-le-mul few h in
-    omega arith
+-- a request's blocks have a size that fits
+pub bytes-fit : (b n : ℕ) → b ≤ 4294967295 → n ≤ 65535 → bytesOf b n ≤ top
+bytes-fit b n h few = let small : n * b ≤ 65535 * 4294967295 = mul-le-mul few h in omega arith
 
 -- ---- rounding up: a multiple stays, anything else goes to the next multiple
 pub round-multiple : (n to : ℕ) → 0 < to → n % to ≡ 0 → nextMultiple n to ≡ n

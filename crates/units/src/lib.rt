@@ -46,11 +46,11 @@ impl MemTool {
 
     pub const MIN_ALIGNMENT: u64 = 128 * MemTool::MIB;
 
-    // The bytes of a request's blocks, saturating at 2^64 - 1.
-    pub fn bytes_of(nb_blocks: u16, block_size: u64) -> u64
-        ensures { λ r. ⌜ r ≡ saturated (bytesOf «block_size» «nb_blocks») ⌝ }
+    // The bytes of a request's blocks: a count of 16 bits and a block size of 32 fit 64.
+    pub fn bytes_of(nb_blocks: u16, block_size: u32) -> u64
+        ensures { λ r. ⌜ r ≡ bytesOf «block_size» «nb_blocks» ⌝ }
     {
-        saturating_mul(nb_blocks as u64, block_size)
+        nb_blocks as u64 * block_size as u64
     }
 
     // How many whole blocks a size holds: none of 0 bytes.

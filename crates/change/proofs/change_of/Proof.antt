@@ -8,8 +8,6 @@ use Rattle.change.specs.declared.Range.the-variants.{Inside}
 use Rattle.units.proofs.Tests.{passed, refused}
 use Rattle.change.specs.Change.{rangeOf, changeIn, legalAt}
 use Rattle.change.proofs.Ends.{not-at}
-use Rattle.change.proofs.Laws.{inside-is}
-use native.Mathlib.Omega.{arith}
 use borrow.Author.Needs.{needs}
 use Rattle.change.proofs.change_of.Statement.{statement}
 use Rattle.change.proofs.change_of.Tie as tie
@@ -51,11 +49,8 @@ returns-2 c =
     simp
     (inside (c .before .before .before), ← c .before .before .blocks-in .ensures, refused _ _ (c .before .all-in-state .ensures) (c .if1 .taken))
 
-mul-host-of : tie.Need-mul-host-of
-mul-host-of c =
-    let a = c .before .before .before .before .before .before .before .before .before .args in
-    let r = inside-is (a .block-size) (a .start .0) (a .usable) (a .addr .0) (a .nb-blocks) _ (inside (c .before .before .before)) in
-    omega (arith, r .in-usable, c .before .before .before .before .before .before .before .before .before .fits)
+bytes-of-requires : tie.Need-bytes-of-requires
+bytes-of-requires c κs = search needs
 
 host-of-requires : tie.Need-host-of-requires
 host-of-requires c κs = search needs
@@ -67,14 +62,14 @@ returns-3 : tie.Need-returns-3
 unfolding changeIn
 returns-3 c =
     simp
-    (inside (c .before .before .before .before .before), ← c .before .before .before .before .blocks-in .ensures, free (c .before .before), ← c .before .host-of .ensures)
+    (inside (c .before .before .before .before .before .before), ← c .before .before .before .before .before .blocks-in .ensures, free (c .before .before .before), ← c .before .before .bytes-of .ensures, ← c .before .host-of .ensures)
     (not-at _ (c .match2 .keys2) _ _)
 
 returns-4 : tie.Need-returns-4
 unfolding changeIn legalAt
 returns-4 c =
     simp
-    (inside (c .before .before .before .before .before .before .before), ← c .before .before .before .before .before .before .blocks-in .ensures, free (c .before .before .before .before), ← c .before .before .before .host-of .ensures, c .before .host .given .1)
+    (inside (c .before .before .before .before .before .before .before .before), ← c .before .before .before .before .before .before .before .blocks-in .ensures, free (c .before .before .before .before .before), ← c .before .before .before .before .bytes-of .ensures, ← c .before .before .before .host-of .ensures, c .before .host .given .1)
 
 pub change-of-spec : {M : Type 1} → statement M
 change-of-spec =
@@ -88,7 +83,7 @@ change-of-spec =
     blocks-in-requires
     all-in-state-requires
     returns-2
-    mul-host-of
+    bytes-of-requires
     host-of-requires
     enum-known-host
     returns-3
