@@ -9,7 +9,6 @@ use lib.Dec.{leb, ltb}
 use borrow.Author.Tests.{lt-ltb, le-ltb, leb-true, leb-false, ne-eqb}
 use types.Run.{OneOf, miss}
 use denote.Enum.Declared.{tagOf}
-use Rattle.units.proofs.Laws.{saturated-fits, bytes-fit}
 use Rattle.units.proofs.Tests.{passed, refused}
 use Rattle.units.specs.Numbers.{saturated, bytesOf, blocksIn}
 use Rattle.units.specs.declared.RegionOffset.{RegionOffset}
@@ -45,11 +44,6 @@ use Rattle.step.proofs.Giving.{Responded, serves, answers}
 abbrev pub asked : Device → Pending → RegionOffset → (size : ℕ) → HostAddr → Answered
 asked d pending offset size host =
     record { device = pendingTo pending d; answer = Wants (DiscardCall offset size host) }
-
--- the size of a request's blocks fits 64 bits
-pub size-fits : (d : Device) → shapedOf d ≡ true → (size count : ℕ) → size ≡ saturated (bytesOf (d .config .«block_size») count) → count < 65536 → size ≡ bytesOf (d .config .«block_size») count
-size-fits d shape size count e few =
-    e ∙ saturated-fits (bytes-fit (d .config .«block_size») count (let b = shaped-is d shape .block-size in omega arith) few)
 
 -- where `let .. else` found another case than Legal, only its number is known
 abbrev pub others : List ℕ

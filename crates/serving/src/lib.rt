@@ -115,7 +115,7 @@ fn plug(
         ⌝ }
 {
     let plugged = d.config.plugged_size;
-    let block_size = d.config.block_size;
+    let block_size = d.config.block_size as u32;
     let size = MemTool::bytes_of(nb_blocks, block_size);
     if !sum_within(plugged, size, d.config.requested_size) {
         return ended(d, mem, base, status, NACK);
@@ -175,7 +175,7 @@ fn unplug(
 {
     let start = d.config.addr;
     let usable = d.config.usable_region_size;
-    let block_size = d.config.block_size;
+    let block_size = d.config.block_size as u32;
     let Change::Legal(first, offset, host) = change_of(
         start,
         usable,
@@ -225,7 +225,7 @@ fn unplug_one(
     let Change::Legal(_, offset, host) = change_of(
         start,
         usable,
-        block_size,
+        block_size as u32,
         d.several,
         addr,
         1,
@@ -279,12 +279,13 @@ fn state_type(range: Range) -> u16
 
 // The response to a state request.
 fn state(d: Device, bitmap: &[u8], addr: GuestAddr, nb_blocks: u16) -> VirtioMemResp
+    requires { ⌜ shapedOf d ≡ true ⌝ }
     ensures { λ r. ⌜ r ≡ stateResp (worldOf d (now (bitmap .entry)) []) (addr .0) «nb_blocks» ⌝ }
 {
     let start = d.config.addr;
     let usable = d.config.usable_region_size;
     let region = d.config.region_size;
-    let block_size = d.config.block_size;
+    let block_size = d.config.block_size as u32;
     let resp_type = state_type(range_of(start, usable, block_size, addr, nb_blocks));
     let state = state_of(start, region, block_size, addr, nb_blocks, bitmap);
     VirtioMemResp {

@@ -65,7 +65,7 @@ fn range(start: u64, usable: u64, addr: u64, blocks: u64) {
     write_range(range_of(
         GuestAddr(start),
         usable,
-        MemTool::BLOCK_SIZE,
+        MemTool::BLOCK_SIZE as u32,
         GuestAddr(addr),
         (blocks % 65536) as u16,
     ));
@@ -76,7 +76,7 @@ fn change(plug: bool, several: bool, addr: u64, blocks: u64, bitmap: &[u8], tabl
     write_change(change_of(
         GuestAddr(4294967296),
         8589934592,
-        MemTool::BLOCK_SIZE,
+        MemTool::BLOCK_SIZE as u32,
         several,
         GuestAddr(addr),
         (blocks % 65536) as u16,
@@ -90,7 +90,7 @@ fn state(region: u64, addr: u64, blocks: u64, bitmap: &[u8]) {
     let state = state_of(
         GuestAddr(4294967296),
         region,
-        MemTool::BLOCK_SIZE,
+        MemTool::BLOCK_SIZE as u32,
         GuestAddr(addr),
         (blocks % 65536) as u16,
         bitmap,

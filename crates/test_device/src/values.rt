@@ -23,7 +23,7 @@ fn of_addresses(kind: u8, v: Numbers) -> u64 {
         b'h' => RegionOffset(v.0).host_from(HostAddr(v.1)).0,
         b'r' => RegionOffset(v.0).map_region(),
         b'i' => RegionOffset(v.0).in_map_region().0,
-        b'b' => MemTool::bytes_of((v.0 % 65536) as u16, MemTool::BLOCK_SIZE),
+        b'b' => MemTool::bytes_of((v.0 % 65536) as u16, MemTool::BLOCK_SIZE as u32),
         _ => MemTool::blocks_in(v.0, MemTool::BLOCK_SIZE),
     }
 }

@@ -181,7 +181,10 @@ fn plug(c: VirtioMemConfig, bitmap: &mut [u8], lent: usize) -> Turn {
     match driver::plan(c, first_bytes(&bitmap[..], lent)) {
         Proposal::Plug(addr, count) => {
             let first = MemTool::blocks_in(addr.offset_from(c.addr).0, c.block_size);
-            let plugged = wrapping_add_u64(c.plugged_size, MemTool::bytes_of(count, c.block_size));
+            let plugged = wrapping_add_u64(
+                c.plugged_size,
+                MemTool::bytes_of(count, (c.block_size % 4294967296) as u32),
+            );
             set_range(bitmap, first as usize, count as usize, true);
             Turn {
                 config: VirtioMemConfig {

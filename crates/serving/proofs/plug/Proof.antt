@@ -2,10 +2,13 @@
 -- `serving::plug` meets its contract: each `return` is a leaf, NACK before the tests of the range.
 use native.Mathlib.Omega.{arith}
 use Rattle.record.proofs.Laws.{shaped-is}
-use Rattle.serving.proofs.Ways.{size-fits, plug-nacks, plug-errs, plug-acks}
+use Rattle.serving.proofs.Ways.{plug-nacks, plug-errs, plug-acks}
 use borrow.Author.Needs.{needs}
 use Rattle.serving.proofs.plug.Statement.{statement}
 use Rattle.serving.proofs.plug.Tie as tie
+
+cast-block-size : tie.Need-cast-block-size
+cast-block-size c = let shape = shaped-is _ (c .before .before .before .before .pre) in omega arith
 
 bytes-of-requires : tie.Need-bytes-of-requires
 bytes-of-requires c κs = search needs
@@ -21,8 +24,8 @@ same-length c = search needs
 
 returns : tie.Need-returns
 returns c =
-    let entry = c .before .before .before .before .before .before .before .before .before .before in
-    plug-nacks _ _ _ (entry .pre) _ _ _ _ _ _ _ (size-fits _ (entry .pre) _ (entry .args .nb-blocks) (c .before .before .before .before .before .before .bytes-of .ensures) (omega arith)) _ (c .before .before .before .before .before .sum-within .ensures) (c .before .before .before .before .if1 .taken) (c .before .before .ended .ensures)
+    let entry = c .before .before .before .before .before .before .before .before .before .before .before in
+    plug-nacks _ _ _ (entry .pre) _ _ _ _ _ _ _ (c .before .before .before .before .before .before .bytes-of .ensures) _ (c .before .before .before .before .before .sum-within .ensures) (c .before .before .before .before .if1 .taken) (c .before .before .ended .ensures)
 
 change-of-requires : tie.Need-change-of-requires
 change-of-requires c κs = search needs
@@ -41,8 +44,8 @@ same-length-3 c = search needs
 
 returns-2 : tie.Need-returns-2
 returns-2 c =
-    let entry = c .before .before .before .before .before .before .before .before .before .before .before .before .before .before in
-    plug-errs _ _ _ (entry .pre) _ _ _ _ _ _ _ (size-fits _ (entry .pre) _ (entry .args .nb-blocks) (c .before .before .before .before .before .before .before .before .before .before .bytes-of .ensures) (omega arith)) _ (c .before .before .before .before .before .before .before .before .before .sum-within .ensures) (c .before .before .before .before .before .before .before .before .if1 .left) _ (c .before .before .before .before .before .change-of .ensures) (c .before .before .before .before .match .keys2) (c .before .before .ended2 .ensures)
+    let entry = c .before .before .before .before .before .before .before .before .before .before .before .before .before .before .before in
+    plug-errs _ _ _ (entry .pre) _ _ _ _ _ _ _ (c .before .before .before .before .before .before .before .before .before .before .bytes-of .ensures) _ (c .before .before .before .before .before .before .before .before .before .sum-within .ensures) (c .before .before .before .before .before .before .before .before .if1 .left) _ (c .before .before .before .before .before .change-of .ensures) (c .before .before .before .before .match .keys2) (c .before .before .ended2 .ensures)
 
 set-range-requires : tie.Need-set-range-requires
 set-range-requires c κs = search needs
@@ -50,9 +53,9 @@ set-range-requires c κs = search needs
 add-plugged-to : tie.Need-add-plugged-to
 add-plugged-to c =
     let size = c .before .before .before .before .before .before .before .before .before .before .before .before in
-    let entry = size .before .before .before .before in
+    let entry = size .before .before .before .before .before in
     let shape = shaped-is _ (entry .pre) in
-    omega (arith, shape, rw (shape .block-size) at (size-fits _ (entry .pre) _ (entry .args .nb-blocks) (size .bytes-of .ensures) (omega arith)))
+    omega (arith, shape, rw (shape .block-size) at (size .bytes-of .ensures))
 
 plugged-to-requires : tie.Need-plugged-to-requires
 plugged-to-requires c κs = search needs
@@ -68,13 +71,14 @@ same-length-5 c = search needs
 
 returns-3 : tie.Need-returns-3
 returns-3 c =
-    let entry = c .before .before .before .before .before .before .before .before .before .before .before .before .before .before .before .before .before .before .before .before .before in
-    plug-acks _ _ _ (entry .pre) _ _ _ _ _ _ _ (size-fits _ (entry .pre) _ (entry .args .nb-blocks) (c .before .before .before .before .before .before .before .before .before .before .before .before .before .before .before .before .before .bytes-of .ensures) (omega arith)) _ (c .before .before .before .before .before .before .before .before .before .before .before .before .before .before .before .before .sum-within .ensures) (c .before .before .before .before .before .before .before .before .before .before .before .before .before .before .before .if1 .left) _ (c .before .before .before .before .before .before .before .before .before .before .before .before .change-of .ensures) _ _ _ (c .before .before .before .before .before .before .before .before .before .before .first .given .1) _ (c .before .before .before .before .before .before .before .set-range .ensures) _ (c .before .before .before .before .plugged-to .ensures) (c .before .before .ended3 .ensures)
+    let entry = c .before .before .before .before .before .before .before .before .before .before .before .before .before .before .before .before .before .before .before .before .before .before in
+    plug-acks _ _ _ (entry .pre) _ _ _ _ _ _ _ (c .before .before .before .before .before .before .before .before .before .before .before .before .before .before .before .before .before .bytes-of .ensures) _ (c .before .before .before .before .before .before .before .before .before .before .before .before .before .before .before .before .sum-within .ensures) (c .before .before .before .before .before .before .before .before .before .before .before .before .before .before .before .if1 .left) _ (c .before .before .before .before .before .before .before .before .before .before .before .before .change-of .ensures) _ _ _ (c .before .before .before .before .before .before .before .before .before .before .first .given .1) _ (c .before .before .before .before .before .before .before .set-range .ensures) _ (c .before .before .before .before .plugged-to .ensures) (c .before .before .ended3 .ensures)
 
 pub plug-spec : {M : Type 1} → statement M
 plug-spec =
     tie.close
     (tie.spec
+    cast-block-size
     bytes-of-requires
     sum-within-requires
     ended-requires

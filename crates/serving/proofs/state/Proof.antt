@@ -1,8 +1,13 @@
 -- SPDX-License-Identifier: Apache-2.0 AND BSD-3-Clause
 -- `serving::state` meets its contract.
+use native.Mathlib.Omega.{arith}
+use Rattle.record.proofs.Laws.{shaped-is}
 use borrow.Author.Needs.{needs}
 use Rattle.serving.proofs.state.Statement.{statement}
 use Rattle.serving.proofs.state.Tie as tie
+
+cast-block-size : tie.Need-cast-block-size
+cast-block-size c = let shape = shaped-is _ (c .before .before .before .pre) in omega arith
 
 range-of-requires : tie.Need-range-of-requires
 range-of-requires c κs = search needs
@@ -17,4 +22,4 @@ returns : tie.Need-returns
 returns c = rw (← c .before .before .range-of .ensures, ← c .before .state-type .ensures, ← c .state-of .ensures)
 
 pub state-spec : {M : Type 1} → statement M
-state-spec = tie.close (tie.spec range-of-requires state-type-requires state-of-requires returns)
+state-spec = tie.close (tie.spec cast-block-size range-of-requires state-type-requires state-of-requires returns)

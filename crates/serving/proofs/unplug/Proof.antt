@@ -1,10 +1,14 @@
 -- SPDX-License-Identifier: Apache-2.0 AND BSD-3-Clause
 -- `serving::unplug` meets its contract: every ERROR comes before 12, and 12 before the question.
 use native.Mathlib.Omega.{arith}
-use Rattle.serving.proofs.Ways.{size-fits, unplug-errs, unplug-refuses, unplug-asks}
+use Rattle.record.proofs.Laws.{shaped-is}
+use Rattle.serving.proofs.Ways.{unplug-errs, unplug-refuses, unplug-asks}
 use borrow.Author.Needs.{needs}
 use Rattle.serving.proofs.unplug.Statement.{statement}
 use Rattle.serving.proofs.unplug.Tie as tie
+
+cast-block-size : tie.Need-cast-block-size
+cast-block-size c = let shape = shaped-is _ (c .before .before .before .before .before .pre) in omega arith
 
 change-of-requires : tie.Need-change-of-requires
 change-of-requires c κs = search needs
@@ -19,7 +23,7 @@ same-length : tie.Need-same-length
 same-length c = search needs
 
 returns : tie.Need-returns
-returns c = unplug-errs _ _ _ (c .before .before .before .before .before .before .before .before .before .before .pre) _ _ _ _ _ _ (c .before .before .before .before .before .change-of .ensures) (c .before .before .before .before .match .keys2) (c .before .before .ended .ensures)
+returns c = unplug-errs _ _ _ (c .before .before .before .before .before .before .before .before .before .before .before .pre) _ _ _ _ _ _ (c .before .before .before .before .before .change-of .ensures) (c .before .before .before .before .match .keys2) (c .before .before .ended .ensures)
 
 bytes-of-requires : tie.Need-bytes-of-requires
 bytes-of-requires c κs = search needs
@@ -31,21 +35,21 @@ returns-2 : tie.Need-returns-2
 returns-2 c =
     let size = c .before .before .before in
     let changed = size .before .before .before .before in
-    let a = changed .before .before .before .before .before .args in
-    unplug-refuses _ _ _ (changed .before .before .before .before .before .pre) _ _ _ _ _ _ (changed .change-of .ensures) _ _ _ (size .before .before .first .given .1) _ (size-fits _ (changed .before .before .before .before .before .pre) _ (a .nb-blocks) (size .bytes-of .ensures) (omega arith)) (c .before .if1 .taken) (c .refuse .ensures)
+    unplug-refuses _ _ _ (changed .before .before .before .before .before .before .pre) _ _ _ _ _ _ (changed .change-of .ensures) _ _ _ (size .before .before .first .given .1) _ (size .bytes-of .ensures) (c .before .if1 .taken) (c .refuse .ensures)
 
 asked-requires : tie.Need-asked-requires
 asked-requires c κs = search needs
 
 returns-3 : tie.Need-returns-3
 returns-3 c =
-    let entry = c .before .before .before .before .before .before .before .before .before .before .before .before in
-    unplug-asks _ _ _ (entry .pre) _ _ _ _ _ _ (c .before .before .before .before .before .before .before .change-of .ensures) _ _ _ (c .before .before .before .before .before .first .given .1) _ (size-fits _ (entry .pre) _ (entry .args .nb-blocks) (c .before .before .before .bytes-of .ensures) (omega arith)) (c .before .if1 .left) (c .asked .ensures)
+    let entry = c .before .before .before .before .before .before .before .before .before .before .before .before .before in
+    unplug-asks _ _ _ (entry .pre) _ _ _ _ _ _ (c .before .before .before .before .before .before .before .change-of .ensures) _ _ _ (c .before .before .before .before .before .first .given .1) _ (c .before .before .before .bytes-of .ensures) (c .before .if1 .left) (c .asked .ensures)
 
 pub unplug-spec : {M : Type 1} → statement M
 unplug-spec =
     tie.close
     (tie.spec
+    cast-block-size
     change-of-requires
     enum-known-first
     ended-requires

@@ -1,5 +1,7 @@
 -- SPDX-License-Identifier: Apache-2.0 AND BSD-3-Clause
 -- `serving::unplug_one` meets its contract: neither sum is held, since the block lies in the region.
+use native.Mathlib.Omega.{arith}
+use Rattle.record.proofs.Laws.{shaped-is}
 use Rattle.serving.proofs.Ways.{one-errs, one-asks}
 use borrow.Author.Needs.{needs}
 use Rattle.serving.proofs.unplug_one.Statement.{statement}
@@ -10,6 +12,9 @@ of-block-requires c κs = search needs
 
 guest-from-requires : tie.Need-guest-from-requires
 guest-from-requires c κs = search needs
+
+cast-change-of : tie.Need-cast-change-of
+cast-change-of c = let shape = shaped-is _ (c .before .before .before .before .before .before .pre .0) in omega arith
 
 change-of-requires : tie.Need-change-of-requires
 change-of-requires c κs = search needs
@@ -41,6 +46,7 @@ unplug-one-spec =
     (tie.spec
     of-block-requires
     guest-from-requires
+    cast-change-of
     change-of-requires
     enum-known-offset
     pending-to-requires
