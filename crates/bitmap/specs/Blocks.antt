@@ -11,7 +11,7 @@ use Rattle.bitmap.specs.declared.Found.{Found}
 use Rattle.bitmap.specs.declared.Found.the-variants.{At, Nothing}
 
 -- the n lowest bits of x, the lowest first
-unfoldable pub lowBits : ℕ → ℕ → List Bool
+unfoldable pub lowBits : (n x : ℕ) → List Bool
 lowBits zero x = []
 lowBits (suc n) x = eqb (x % 2) 1 ∷ lowBits n (x / 2)
 
@@ -25,7 +25,7 @@ abbrev pub blockAt : List Bool → ℕ → Bool
 blockAt bs i = getD bs i false
 
 -- those of the `count` blocks from `first` on that exist: skip(first).take(count)
-abbrev pub range : List Bool → ℕ → ℕ → List Bool
+abbrev pub range : List Bool → (first count : ℕ) → List Bool
 range bs first count = take count (drop first bs)
 
 -- every one is v
@@ -34,7 +34,7 @@ every v [] = true
 every v (b ∷ bs) = Bool·beq b v && every v bs
 
 -- each block of a range that exists is in the state v
-abbrev pub allAre : List Bool → ℕ → ℕ → Bool → Bool
+abbrev pub allAre : List Bool → (first count : ℕ) → Bool → Bool
 allAre bs first count v = every v (range bs first count)
 
 -- how many are set
@@ -44,7 +44,7 @@ ones (true ∷ bs) = suc (ones bs)
 ones (false ∷ bs) = ones bs
 
 -- the blocks, with each that exists of a range put in the state v
-unfoldable pub fill : List Bool → ℕ → ℕ → Bool → List Bool
+unfoldable pub fill : List Bool → (first count : ℕ) → Bool → List Bool
 fill [] first count v = []
 fill (b ∷ bs) (suc first) count v = b ∷ fill bs first count v
 fill (b ∷ bs) zero zero v = b ∷ bs
@@ -56,13 +56,13 @@ firstFrom v i [] = Nothing
 firstFrom v i (b ∷ bs) = cond (Bool·beq b v) (At i) (firstFrom v (suc i) bs)
 
 -- the lowest block in the state v that exists from `from` up to, not including, `end`
-abbrev pub nextInState : Bool → List Bool → ℕ → ℕ → Found
+abbrev pub nextInState : Bool → List Bool → (from end : ℕ) → Found
 nextInState v bs from end = firstFrom v from (range bs from (end - from))
 
-abbrev pub nextSet : List Bool → ℕ → ℕ → Found
+abbrev pub nextSet : List Bool → (from end : ℕ) → Found
 nextSet bs from end = nextInState true bs from end
 
-abbrev pub nextClear : List Bool → ℕ → ℕ → Found
+abbrev pub nextClear : List Bool → (from end : ℕ) → Found
 nextClear bs from end = nextInState false bs from end
 
 -- R2.11: the lent bytes at entry and at exit differ in no byte that lies wholly outside the blocks from `first` to `end`

@@ -1,5 +1,5 @@
 -- SPDX-License-Identifier: Apache-2.0 AND BSD-3-Clause
--- The chain, test by test (R9), over the bytes of guest memory and its base address.
+-- The chain, test by test (R9): `mem` is the bytes of guest memory from the guest address `base` on, `table` the guest address of the descriptors, `status` that of the response.
 use Prim.Native.Nat.{ℕ, _-_}
 use mathlib.Core.Bool.{Bool, cond, not}
 use mathlib.Core.List.{List}
@@ -39,7 +39,7 @@ abbrev pub indirect : Parsed
 indirect = Bad 27
 
 -- R9.5; R9.6: no later descriptor is looked at
-unfoldable pub withSecond : VirtioMemReq → Link → Parsed
+unfoldable pub withSecond : (req : VirtioMemReq) (second : Link) → Parsed
 withSecond req Missing = missing
 withSecond req (Is second) =
     cond (isIndirect second) indirect
@@ -48,7 +48,7 @@ withSecond req (Is second) =
     (Request req (second .addr))))
 
 -- R9.4
-unfoldable pub withFirst : List ℕ → ℕ → ℕ → Link → Parsed
+unfoldable pub withFirst : (mem : List ℕ) (base table : ℕ) (first : Link) → Parsed
 withFirst mem base table Missing = missing
 withFirst mem base table (Is first) =
     cond (isIndirect first) indirect
@@ -58,7 +58,7 @@ withFirst mem base table (Is first) =
     (withSecond (requestAt mem (first .addr .0 - base)) (linkAfter mem base table first)))))
 
 -- the request and the status address, or the first reason against them
-unfoldable pub parsed : List ℕ → ℕ → ℕ → ℕ → Parsed
+unfoldable pub parsed : (mem : List ℕ) (base table head : ℕ) → Parsed
 parsed mem base table head = withFirst mem base table (linkAt mem base table head)
 
 -- the reason that the answer reports: 0 where there is a request
@@ -67,9 +67,9 @@ reasonOf (Request req status) = 0
 reasonOf (Bad reason) = reason
 
 -- R9.10: the response's 10 bytes are wholly inside
-unfoldable pub reaches : List ℕ → ℕ → ℕ → Bool
+unfoldable pub reaches : (mem : List ℕ) (base status : ℕ) → Bool
 reaches mem base status = inside (length mem) base status 10
 
 -- R9.10: guest memory afterwards
-unfoldable pub delivered : List ℕ → ℕ → ℕ → VirtioMemResp → List ℕ
+unfoldable pub delivered : (mem : List ℕ) (base status : ℕ) (resp : VirtioMemResp) → List ℕ
 delivered mem base status resp = cond (reaches mem base status) (put mem (status - base) (responseBytes resp)) mem

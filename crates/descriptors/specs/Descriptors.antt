@@ -13,20 +13,20 @@ use Rattle.descriptors.specs.declared.Link.the-variants.{Is, Missing}
 use Rattle.descriptors.specs.Standard.{descriptorAt, descriptorAddr, hasNext}
 
 -- R9.1: n bytes at addr are inside the len bytes at base
-unfoldable pub inside : ℕ → ℕ → ℕ → ℕ → Bool
+unfoldable pub inside : (len base addr n : ℕ) → Bool
 inside len base addr n = leb base addr && (leb (addr + n) (base + len) && leb (addr + n) (2 ^ 64))
 
 -- where they lie in the slice
-unfoldable pub placeOf : ℕ → ℕ → ℕ → ℕ → Place
+unfoldable pub placeOf : (len base addr n : ℕ) → Place
 placeOf len base addr n = cond (inside len base addr n) (At (addr - base)) Outside
 
 -- R9.3: the descriptor of an index
-unfoldable pub linkAt : List ℕ → ℕ → ℕ → ℕ → Link
+unfoldable pub linkAt : (mem : List ℕ) (base table index : ℕ) → Link
 linkAt mem base table index =
     cond (ltb index 128 && inside (length mem) base (descriptorAddr table index) 16)
     (Is (descriptorAt mem (descriptorAddr table index - base)))
     Missing
 
 -- R9.3: the descriptor after a descriptor
-unfoldable pub linkAfter : List ℕ → ℕ → ℕ → Descriptor → Link
+unfoldable pub linkAfter : (mem : List ℕ) (base table : ℕ) (d : Descriptor) → Link
 linkAfter mem base table d = cond (hasNext d) (linkAt mem base table (d .next)) Missing

@@ -8,11 +8,11 @@ use Rattle.little_endian.specs.Bytes.{value, littleEndian, part}
 use Rattle.descriptors.specs.declared.Descriptor.{Descriptor}
 
 -- Q1, virtq_desc: le64 addr; le32 len; le16 flags; le16 next
-unfoldable pub virtqDesc : ℕ → ℕ → ℕ → ℕ → List ℕ
+unfoldable pub virtqDesc : (addr len flags next : ℕ) → List ℕ
 virtqDesc addr len flags next = littleEndian 8 addr ++ littleEndian 4 len ++ littleEndian 2 flags ++ littleEndian 2 next
 
 -- R9.2: the descriptor that stands from byte `at` on
-unfoldable pub descriptorAt : List ℕ → ℕ → Descriptor
+unfoldable pub descriptorAt : (mem : List ℕ) (at : ℕ) → Descriptor
 descriptorAt mem at =
     record {
       addr = record { 0 = value (part mem at 8) };
@@ -22,11 +22,11 @@ descriptorAt mem at =
     }
 
 -- Q1: the table has one descriptor of 16 bytes after the other; the guest address of one
-unfoldable pub descriptorAddr : ℕ → ℕ → ℕ
+unfoldable pub descriptorAddr : (table index : ℕ) → ℕ
 descriptorAddr table index = table + 16 * index
 
 -- a flag is one bit of `flags`
-abbrev pub hasFlag : ℕ → Descriptor → Bool
+abbrev pub hasFlag : (flag : ℕ) (d : Descriptor) → Bool
 hasFlag flag d = eqb (d .flags / flag % 2) 1
 
 -- VIRTQ_DESC_F_NEXT 1: the chain goes on with the descriptor that `next` names

@@ -10,7 +10,7 @@ abbrev pub largest : ℕ
 largest = 2 ^ 64 - 1
 
 -- the digits of n, which is at most k: the last digit, after those of n / 10 if n has more than one
-unfoldable pub spell : ℕ → ℕ → List ℕ
+unfoldable pub spell : (k n : ℕ) → List ℕ
 spell zero n = (48 + n) ∷ []
 spell (suc k) n = cond (ltb n 10) ((48 + n) ∷ []) (spell k (n / 10) ++ (48 + n % 10) ∷ [])
 

@@ -50,5 +50,5 @@ answerIn s (got v rest) = At v (length s - length rest)
 answerIn s nothing = Bad
 
 -- the number at a position of the text s, and where s goes on after it
-abbrev pub numberAt : List ℕ → ℕ → Number
+abbrev pub numberAt : (s : List ℕ) (at : ℕ) → Number
 numberAt s at = answerIn s (wordOf (drop at s))

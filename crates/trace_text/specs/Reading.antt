@@ -32,7 +32,7 @@ formOf kind.UnplugAll = bytes "op=unplug_all"
 formOf kind.Size = bytes "op=size mib=#"
 
 -- the first line of these numbers, if they are in their ranges
-abbrev pub firstLineOf : ℕ → ℕ → ℕ → Node → ℕ → ℕ → ℕ → Line
+abbrev pub firstLineOf : (capacity requested multi : ℕ) (node : Node) (boot addr slot : ℕ) → Line
 firstLineOf capacity requested multi node boot addr slot =
     cond (leb multi 1 && leb slot 4294966000)
     (First (record { «capacity_mib» = capacity; «requested_mib» = requested; multi = eqb multi 1; node = node; boot = boot; addr = record { 0 = addr }; slot = slot }))

@@ -10,7 +10,7 @@ use Rattle.wire.specs.declared.Field.{Field}
 use Rattle.little_endian.specs.Bytes.{value, littleEndian, part, put}
 
 -- R7.2: the request that stands from byte `at` on
-unfoldable pub requestAt : List ℕ → ℕ → VirtioMemReq
+unfoldable pub requestAt : (xs : List ℕ) (at : ℕ) → VirtioMemReq
 requestAt xs at =
     record {
       «req_type» = value (part xs at 2);
@@ -59,7 +59,7 @@ unfoldable pub configBytes : VirtioMemConfig → List ℕ
 configBytes c = fieldsLaid (replicate 56 0) configFields (configValues c)
 
 -- R4.7: a config before the device is placed: no start, nothing usable, nothing plugged
-abbrev pub newConfig : ℕ → ℕ → ℕ → ℕ → VirtioMemConfig
+abbrev pub newConfig : (blockSize node region requested : ℕ) → VirtioMemConfig
 newConfig blockSize node region requested =
     record {
       «block_size» = blockSize;
