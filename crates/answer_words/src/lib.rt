@@ -7,7 +7,7 @@ ghost use mathlib.Core.Path.{_≡_};
 ghost use Prim.Native.Nat.{_≤_};
 ghost use lib.ListN.{length};
 ghost use Rattle.little_endian.specs.Bytes.{put};
-ghost use Rattle.step.specs.Answers.{answerWords, questionWords, numberOf};
+ghost use Rattle.step.specs.Answers.{answerLength, answerWords, questionWords, numberOf};
 
 // An answer's length in words.
 pub const ANSWER_WORDS: usize = 9;
@@ -59,7 +59,7 @@ pub fn number_of(answer: Answer) -> u64
 
 // The words of an answer, each stored at once, where there is room for all.
 fn store_answer(words: &mut [u64], all: [u64; ANSWER_WORDS])
-    requires { ⌜ 9 ≤ length (now words) ⌝ }
+    requires { ⌜ answerLength ≤ length (now words) ⌝ }
     ensures { λ _. ⌜ now (words .exit) ≡ put (now (words .entry)) 0 all ⌝ }
 {
     words[0] = all[0];

@@ -18,7 +18,7 @@ use Rattle.step.specs.Step.{step}
 use Rattle.step.specs.Promise.{Lent, on, leftBy, Leaves}
 use Rattle.words.specs.declared.Decoded.{Decoded}
 use Rattle.words.specs.declared.Decoded.the-variants.{Is, NoRecord}
-use Rattle.words.specs.Record.{wordsOf, decodedOf}
+use Rattle.words.specs.Record.{recordLength, wordsOf, decodedOf}
 use Rattle.step.specs.Answers.{answerWords, numberOf}
 
 -- ---- making
@@ -32,8 +32,8 @@ madeWords ws (Refused number) = ws
 
 -- R19.5: 12 where there is no room for a record, and nothing is written
 pub record MadeIn (words : List ℕ) (m : Made) (number : ℕ) (words′ : List ℕ) : Type 0 where
-  pub numbered : number ≡ cond (leb 15 (length words)) (madeNumber m) 12
-  pub recorded : words′ ≡ cond (leb 15 (length words)) (madeWords words m) words
+  pub numbered : number ≡ cond (leb recordLength (length words)) (madeNumber m) 12
+  pub recorded : words′ ≡ cond (leb recordLength (length words)) (madeWords words m) words
 
 -- ---- the calls of a device
 -- the slices that an export is handed: the record's words, the answer's words, and what its call is lent

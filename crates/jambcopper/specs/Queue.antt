@@ -15,7 +15,7 @@ use Rattle.words.specs.declared.Decoded.the-variants.{Is, NoRecord}
 use Rattle.words.specs.Record.{wordsOf, decodedOf}
 use Rattle.queue_words.specs.declared.DecodedQueue.{DecodedQueue}
 use Rattle.queue_words.specs.declared.DecodedQueue.the-variants.{Is as IsQueue, NoQueue}
-use Rattle.queue_words.specs.Words.{queueWords, decodedQueueOf}
+use Rattle.queue_words.specs.Words.{queueLength, queueWords, decodedQueueOf}
 use Rattle.step.specs.World.{World}
 use Rattle.step.specs.Promise.{Lent, on, guestIn, Leaves}
 use Rattle.jambcopper.specs.Exports.{Handed, Foreign}
@@ -35,8 +35,8 @@ newQueue descriptors available used =
 
 -- R19.5: 12 where there is no room for a queue, and nothing is written
 pub record QueueMadeIn (words : List ℕ) (q : Queue) (number : ℕ) (words′ : List ℕ) : Type 0 where
-  pub numbered : number ≡ cond (leb 6 (length words)) 0 12
-  pub queued : words′ ≡ cond (leb 6 (length words)) (put words 0 (queueWords q)) words
+  pub numbered : number ≡ cond (leb queueLength (length words)) 0 12
+  pub queued : words′ ≡ cond (leb queueLength (length words)) (put words 0 (queueWords q)) words
 
 -- ---- the calls on a queue
 -- the slices that an export is handed: the queue's words, and those of a device's call

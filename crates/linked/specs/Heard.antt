@@ -9,13 +9,13 @@ use lib.ListN.{length}
 use Rattle.record.specs.declared.HostCall.the-variants.{Create, Discard}
 use Rattle.step.specs.declared.Answer.{Answer}
 use Rattle.step.specs.declared.Answer.the-variants.{Refused, Wants, Sized, Unserved, Done}
-use Rattle.step.specs.Answers.{servedWith}
+use Rattle.step.specs.Answers.{answerLength, servedWith}
 use Rattle.words.specs.Record.{word}
 use Rattle.jambcopper.specs.Exports.{Handed}
 use Rattle.history.specs.History.{Event, Open, NoRequest, eventsOf, openAfter, Demand3}
 use Rattle.linked.specs.Runs.{Function, «jambcopper_place», «jambcopper_set_requested_size», «jambcopper_request», «jambcopper_host_answer», «jambcopper_read_config», «jambcopper_write_config», Use, callOf, Held, leaves, Run, heldAfter, first, inHand, Making, Makes}
 
--- the answer that nine words mean
+-- the answer that words mean
 unfoldable pub answerOf : List ℕ → Answer
 answerOf ws =
     cond (eqb (word ws 0) 0) (Refused (word ws 1))
@@ -37,12 +37,12 @@ heardBy («jambcopper_write_config» offset) after = Done
 abbrev pub heard : Use → Answer
 heard u = heardBy (u .function) (u .after)
 
--- the call was lent nine words for its answer, if it tells one
+-- the call was lent words for a whole answer, if it tells one
 unfoldable pub HasRoom : Function → (before : Handed) → Type 0
-HasRoom («jambcopper_place» start size slots) before = 9 ≤ length (before .answer)
-HasRoom («jambcopper_set_requested_size» mib) before = 9 ≤ length (before .answer)
-HasRoom («jambcopper_request» base descriptors head) before = 9 ≤ length (before .answer)
-HasRoom («jambcopper_host_answer» base ok host) before = 9 ≤ length (before .answer)
+HasRoom («jambcopper_place» start size slots) before = answerLength ≤ length (before .answer)
+HasRoom («jambcopper_set_requested_size» mib) before = answerLength ≤ length (before .answer)
+HasRoom («jambcopper_request» base descriptors head) before = answerLength ≤ length (before .answer)
+HasRoom («jambcopper_host_answer» base ok host) before = answerLength ≤ length (before .answer)
 HasRoom («jambcopper_read_config» offset) before = Unit {0}
 HasRoom («jambcopper_write_config» offset) before = Unit {0}
 

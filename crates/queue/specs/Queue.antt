@@ -200,7 +200,7 @@ pub record Settles (e : Ending) (head base : ℕ) (before out : Queue) (mem : Li
 abbrev pub turned : Device → Queue → QueueAnswer → Turn
 turned d q t = record { device = d; queue = q; answer = t }
 
--- the nine words of what is told: kind 7 where no head is there, and else the answer's (see crates/step/specs/Answers.antt)
+-- the words of what is told: kind 7 where no head is there, and else the answer's (see crates/step/specs/Answers.antt)
 abbrev pub queueAnswerWords : QueueAnswer → List ℕ
 queueAnswerWords Empty = 7 ∷ 0 ∷ 0 ∷ 0 ∷ 0 ∷ 0 ∷ 0 ∷ 0 ∷ 0 ∷ []
 queueAnswerWords (Of a) = answerWords a

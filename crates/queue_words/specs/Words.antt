@@ -1,5 +1,5 @@
 -- SPDX-License-Identifier: Apache-2.0 AND BSD-3-Clause
--- The queue as six words, and what words mean (R19.4).
+-- The queue as words, and what words mean (R19.4).
 use Prim.Native.Nat.{ℕ, _+_, _-_}
 use mathlib.Core.Bool.{Bool, cond, _&&_}
 use mathlib.Core.List.{List, [], _∷_}
@@ -13,6 +13,10 @@ use Rattle.queue.specs.declared.Ending.{Ending}
 use Rattle.queue.specs.declared.Ending.the-variants.{Stays, Out, Used}
 use Rattle.queue_words.specs.declared.DecodedQueue.{DecodedQueue}
 use Rattle.queue_words.specs.declared.DecodedQueue.the-variants.{Is, NoQueue}
+
+-- R19.4: how many words a queue is
+abbrev pub queueLength : ℕ
+queueLength = 6
 
 -- 0 where no head is out, else the head plus 1
 abbrev pub takenWord : Taken → ℕ
@@ -34,10 +38,10 @@ queueWords q =
 unfoldable pub takenOf : ℕ → Taken
 takenOf n = cond (eqb n 0) Nothing (Head (n - 1))
 
--- R19.4: words begin with a queue's: there are six, and the indices and a head are numbers of 16 bits
+-- R19.4: words begin with a queue's: there are as many, and the indices and a head are numbers of 16 bits
 unfoldable pub isQueue : List ℕ → Bool
 isQueue ws =
-    leb 6 (length ws) && (leb (word ws 3) 65535 && (leb (word ws 4) 65535 && leb (word ws 5) 65536))
+    leb queueLength (length ws) && (leb (word ws 3) 65535 && (leb (word ws 4) 65535 && leb (word ws 5) 65536))
 
 -- the queue that words begin with
 unfoldable pub queueOf : List ℕ → Queue
@@ -55,7 +59,7 @@ queueOf ws =
 unfoldable pub decodedQueueOf : List ℕ → DecodedQueue
 decodedQueueOf ws = cond (isQueue ws) (Is (queueOf ws)) NoQueue
 
--- ---- R19.3, R13.8: what the nine words of an answer mean for the head that it is about: kinds 1 and 2 ask the host, 4 serves no request, 5 responds with a used length of 10 or 0 (`ending-told`)
+-- ---- R19.3, R13.8: what the words of an answer mean for the head that it is about: kinds 1 and 2 ask the host, 4 serves no request, 5 responds with a used length of 10 or 0 (`ending-told`)
 unfoldable pub endingWords : List ℕ → Ending
 endingWords ws =
     cond (eqb (word ws 0) 1) Out

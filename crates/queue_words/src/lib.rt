@@ -15,7 +15,7 @@ ghost use lib.ListN.{length};
 ghost use Rattle.little_endian.specs.Bytes.{put};
 ghost use Rattle.queue.specs.Queue.{queueAnswerWords, queueNumberOf};
 ghost use Rattle.queue_words.specs.declared.DecodedQueue.the-variants.{Is};
-ghost use Rattle.queue_words.specs.Words.{takenWord, takenOf, queueWords, isQueue, decodedQueueOf, endingWords};
+ghost use Rattle.queue_words.specs.Words.{queueLength, takenWord, takenOf, queueWords, isQueue, decodedQueueOf, endingWords};
 
 // A queue's length in words.
 pub const QUEUE_WORDS: usize = 6;
@@ -94,7 +94,7 @@ fn queue_words(q: Queue) -> [u64; QUEUE_WORDS]
 
 // The words of a queue, each stored at once, where there is room for all.
 fn store_queue(words: &mut [u64], all: [u64; QUEUE_WORDS])
-    requires { ⌜ 6 ≤ length (now words) ⌝ }
+    requires { ⌜ queueLength ≤ length (now words) ⌝ }
     ensures { λ _. ⌜ now (words .exit) ≡ put (now (words .entry)) 0 all ⌝ }
 {
     words[0] = all[0];
@@ -108,7 +108,7 @@ fn store_queue(words: &mut [u64], all: [u64; QUEUE_WORDS])
 // Writes a queue as words; none past the end.
 pub fn encode_queue(q: Queue, words: &mut [u64])
     ensures { λ _. ⌜ now (words .exit) ≡ put (now (words .entry)) 0 (queueWords q) ⌝ }
-    ensures { λ _. ⌜ (6 ≤ length (now (words .entry)) → decodedQueueOf (now (words .exit)) ≡ Is q) ⌝ }
+    ensures { λ _. ⌜ (queueLength ≤ length (now (words .entry)) → decodedQueueOf (now (words .exit)) ≡ Is q) ⌝ }
 {
     if words.len() < QUEUE_WORDS {
         let all = queue_words(q);

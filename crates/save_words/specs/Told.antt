@@ -25,6 +25,10 @@ use Rattle.old_form.specs.Moves.{ToNew, ToOld}
 
 -- ---- words
 
+-- R19.7: how many words the fields of a state are
+abbrev pub fieldsLength : ℕ
+fieldsLength = 6
+
 abbrev pub fieldsFrom : List ℕ → Fields
 fieldsFrom ws =
     record { block = getD ws 0 0; start = getD ws 1 0; region = getD ws 2 0; requested = getD ws 3 0; usable = getD ws 4 0; plugged = getD ws 5 0 }
@@ -116,7 +120,7 @@ NewIf false f old scratch scratch′ text text′ length length′ number = NoRo
 
 abbrev pub ToNewTold : (fields old scratch scratch′ text text′ length length′ : List ℕ) → ℕ → Type 0
 ToNewTold fields old scratch scratch′ text text′ len len′ number =
-    NewIf (leb 6 (length fields) && leb 1 (length len)) (fieldsFrom fields) old scratch scratch′ text text′ len len′ number
+    NewIf (leb fieldsLength (length fields) && leb 1 (length len)) (fieldsFrom fields) old scratch scratch′ text text′ len len′ number
 
 abbrev pub gotNumber : Got → ℕ
 gotNumber (got.Fields f) = 0
@@ -138,4 +142,4 @@ OldIf false text scratch scratch′ old old′ fields fields′ number = NoRoom 
 
 abbrev pub ToOldTold : (text scratch scratch′ old old′ fields fields′ : List ℕ) → ℕ → Type 0
 ToOldTold text scratch scratch′ old old′ fields fields′ number =
-    OldIf (leb 6 (length fields)) text scratch scratch′ old old′ fields fields′ number
+    OldIf (leb fieldsLength (length fields)) text scratch scratch′ old old′ fields fields′ number

@@ -15,7 +15,7 @@ use words::write_words;
 ghost use mathlib.Core.Path.{_≡_};
 ghost use Prim.Native.Nat.{_≤_};
 ghost use lib.ListN.{length};
-ghost use Rattle.save_words.specs.Told.{fieldsFrom, lengthFrom};
+ghost use Rattle.save_words.specs.Told.{fieldsLength, fieldsFrom, lengthFrom};
 ghost use Rattle.save_words.specs.Told.{WroteTold, SaveTold, RestoreTold, ToNewTold, ToOldTold};
 
 // The fields' length in words: block size, start, region, requested, usable and plugged size.
@@ -26,7 +26,7 @@ const LENGTH_WORDS: usize = 1;
 
 // The fields that words begin with.
 fn fields_of(words: &[u64]) -> Fields
-    requires { ⌜ 6 ≤ length (now words) ⌝ }
+    requires { ⌜ fieldsLength ≤ length (now words) ⌝ }
     ensures { λ r. ⌜ r ≡ fieldsFrom (now (words .entry)) ⌝ }
 {
     Fields {

@@ -1,5 +1,5 @@
 -- SPDX-License-Identifier: Apache-2.0 AND BSD-3-Clause
--- The number and the values of an answer, case by case, as nine words (R18.2, R19.3): its kind, the number, the question (an address, a size, a slot or host address), the response (type and state), the used length, and the reason.
+-- The number and the values of an answer, case by case, as words (R18.2, R19.3): its kind, the number, the question (an address, a size, a slot or host address), the response (type and state), the used length, and the reason.
 use Prim.Native.Nat.{ℕ}
 use mathlib.Core.List.{List, [], _∷_}
 use mathlib.Core.Option.{Option, some, none}
@@ -9,6 +9,10 @@ use Rattle.record.specs.declared.HostCall.{HostCall}
 use Rattle.record.specs.declared.HostCall.the-variants.{Create, Discard}
 use Rattle.step.specs.declared.Answer.{Answer}
 use Rattle.step.specs.declared.Answer.the-variants.{Refused, Wants, Sized, Unserved, Served, Done}
+
+-- R19.3: how many words an answer is
+abbrev pub answerLength : ℕ
+answerLength = 9
 
 -- R11.2: a question: creation is kind 1, discard kind 2
 abbrev pub questionWords : HostCall → List ℕ

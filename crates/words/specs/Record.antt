@@ -1,5 +1,5 @@
 -- SPDX-License-Identifier: Apache-2.0 AND BSD-3-Clause
--- The record as fifteen words, and what words mean (R19.1, R19.2).
+-- The record as words, and what words mean (R19.1, R19.2).
 use Prim.Native.Nat.{ℕ}
 use mathlib.Core.Bool.{Bool, true, false, cond, _&&_}
 use mathlib.Core.List.{List, [], _∷_}
@@ -13,6 +13,10 @@ use Rattle.words.specs.declared.Call.{Call}
 use Rattle.words.specs.declared.Call.the-variants.{Known, Unknown}
 use Rattle.words.specs.declared.Decoded.{Decoded}
 use Rattle.words.specs.declared.Decoded.the-variants.{Is, NoRecord}
+
+-- R19.1: how many words a record is. A field that comes is appended
+abbrev pub recordLength : ℕ
+recordLength = 15
 
 -- a flag is 1 or 0
 abbrev pub bit : Bool → ℕ
@@ -46,12 +50,12 @@ wordsOf d =
 -- words with what a request may change of a record: the plugged size and the pending call
 unfoldable pub afterRequest : List ℕ → Device → List ℕ
 afterRequest ws d =
-    cond (leb 15 (length ws)) (put (put ws 5 (d .config .«plugged_size» ∷ [])) 11 (pendingWords (d .pending))) ws
+    cond (leb recordLength (length ws)) (put (put ws 5 (d .config .«plugged_size» ∷ [])) 11 (pendingWords (d .pending))) ws
 
 -- and with what a host's answer may change: the usable size and whether the device is placed too
 unfoldable pub afterAnswer : List ℕ → Device → List ℕ
 afterAnswer ws d =
-    cond (leb 15 (length ws))
+    cond (leb recordLength (length ws))
     (put (put ws 4 (d .config .«usable_region_size» ∷ d .config .«plugged_size» ∷ [])) 10 (bit (d .placed) ∷ pendingWords (d .pending)))
     ws
 
@@ -79,13 +83,13 @@ pendingCall kind first second status =
     cond (pendingFits kind first second status) (Known (pendingOf kind first second status)) Unknown
 
 -- the word at a place
-abbrev pub word : List ℕ → ℕ → ℕ
+abbrev pub word : (ws : List ℕ) (i : ℕ) → ℕ
 word ws i = getD ws i 0
 
--- R19.2: words begin with a record's: there are fifteen, the node is a number of 16 bits, the flags are flags, and the pending call fits
+-- R19.2: words begin with a record's: there are as many, the node is a number of 16 bits, the flags are flags, and the pending call fits
 unfoldable pub isRecord : List ℕ → Bool
 isRecord ws =
-    leb 15 (length ws)
+    leb recordLength (length ws)
     && (leb (word ws 1) 65535
     && (leb (word ws 8) 1
     && (leb (word ws 10) 1

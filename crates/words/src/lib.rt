@@ -9,7 +9,7 @@ ghost use Prim.Native.Nat.{_≤_};
 ghost use lib.ListN.{length};
 ghost use Rattle.little_endian.specs.Bytes.{put};
 ghost use Rattle.words.specs.declared.Decoded.the-variants.{Is};
-ghost use Rattle.words.specs.Record.{bit, pendingCall, decodedOf, wordsOf, pendingWords};
+ghost use Rattle.words.specs.Record.{recordLength, bit, pendingCall, decodedOf, wordsOf, pendingWords};
 ghost use Rattle.words.specs.Record.{afterRequest, afterAnswer};
 
 // A record's length in words.
@@ -147,11 +147,11 @@ fn pending_words(pending: Pending) -> [u64; 4]
 // Writes a record as words; none past the end.
 pub fn encode(d: Device, words: &mut [u64])
     ensures { λ _. ⌜ now (words .exit) ≡ put (now (words .entry)) 0 (wordsOf d) ⌝ }
-    ensures { λ _. ⌜ (15 ≤ length (now (words .entry)) → decodedOf (now (words .exit)) ≡ Is d) ⌝ }
+    ensures { λ _. ⌜ (recordLength ≤ length (now (words .entry)) → decodedOf (now (words .exit)) ≡ Is d) ⌝ }
 {
     let p = d.pending;
     let pending = pending_words(p);
-    let all: [u64; 15] = [
+    let all: [u64; RECORD_WORDS] = [
         d.config.block_size,
         d.config.node_id as u64,
         d.config.addr.0,
