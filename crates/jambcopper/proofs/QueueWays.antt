@@ -25,7 +25,7 @@ use Rattle.queue.specs.declared.Ending.{Ending}
 use Rattle.queue.specs.Queue.{endingOf, queueBy, unmoved, aside, about, Settles, queueAnswerWords, queueNumberOf}
 use Rattle.words.specs.declared.Decoded.{Decoded}
 use Rattle.words.specs.declared.Decoded.the-variants.{Is, NoRecord}
-use Rattle.words.specs.Record.{wordsOf, decodedOf}
+use Rattle.words.specs.Record.{decodedOf}
 use Rattle.words.proofs.Laws.{decoded-encodes}
 use Rattle.queue_words.specs.declared.DecodedQueue.{DecodedQueue}
 use Rattle.queue_words.specs.declared.DecodedQueue.the-variants.{Is as IsQueue, NoQueue}

@@ -5,7 +5,6 @@ use mathlib.Core.Bool.{true}
 use Rattle.bitmap.proofs.Bytes.{blocks-tell}
 use Rattle.rows.specs.Rows.{written}
 use Rattle.rows.proofs.Words.{whole}
-use Rattle.record.specs.declared.Device.{Device}
 use Rattle.step.specs.declared.Answer.{Answer}
 use Rattle.step.specs.declared.Answer.the-variants.{Refused, Wants, Sized, Unserved, Served, Done}
 use Rattle.record.specs.declared.HostCall.the-variants.{Create, Discard}

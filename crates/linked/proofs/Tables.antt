@@ -2,7 +2,7 @@
 -- What a call does to the tables, and where they do not matter: every call but placing keeps how many rows and blocks there are; before placing each call but placing is refused whatever tables are lent; placing ends alike whatever tables were there before.
 use Prim.Native.Nat.{ℕ}
 use mathlib.Core.Path.{_≡_, refl}
-use mathlib.Core.Bool.{Bool, true, false, cond, not, _&&_}
+use mathlib.Core.Bool.{Bool, true, false, cond, not}
 use mathlib.Core.List.{List, []}
 use lib.Dec.{eqb}
 use lib.ListN.{length}

@@ -17,7 +17,7 @@ use Rattle.resize.specs.declared.Growth.the-variants.{Asks, Settled}
 use Rattle.resize.specs.Resize.{growthOf}
 use Rattle.resize.proofs.Laws.{asking}
 use Rattle.step.specs.declared.Answered.{Answered}
-use Rattle.step.specs.World.{World, Outcome, answeredBy}
+use Rattle.step.specs.World.{World, answeredBy}
 use Rattle.step.specs.Step.{several, region, resizes, resized, asksCreate, placing}
 use Rattle.step.specs.Promise.{Lent, Gives}
 use Rattle.step.proofs.Giving.{as-answered}

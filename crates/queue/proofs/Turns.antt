@@ -1,13 +1,13 @@
 -- SPDX-License-Identifier: Apache-2.0 AND BSD-3-Clause
 -- What the ways through a call of the queue come to: each lemma takes what the code knows on a way and shows the ending of `Queue.antt` there.
-use Prim.Native.Nat.{ℕ, _*_, _/_}
+use Prim.Native.Nat.{ℕ, _*_}
 use mathlib.Core.Path.{_≡_, refl, sym, ap, _∙_}
-use mathlib.Core.Bool.{Bool, true, false, cond, not}
-use mathlib.Core.List.{List, [], _∷_}
+use mathlib.Core.Bool.{Bool, true, false, cond}
+use mathlib.Core.List.{List}
 use native.Mathlib.Omega.{arith}
 use lib.Dec.{eqb}
 use lib.ListN.{length}
-use Rattle.units.proofs.Tests.{by-test, passed, refused}
+use Rattle.units.proofs.Tests.{by-test}
 use Rattle.bitmap.proofs.Laws.{blocks-length}
 use Rattle.rows.specs.Rows.{rowsIn}
 use Rattle.rows.proofs.Words.{count, whole}
@@ -21,7 +21,7 @@ use Rattle.rings.specs.declared.Taken.{Taken}
 use Rattle.rings.specs.declared.Taken.the-variants.{Nothing, Head}
 use Rattle.rings.specs.declared.Next.{Next}
 use Rattle.rings.specs.declared.Next.the-variants.{Head as HasHead, Empty as HasNone, Refused as HasRefused}
-use Rattle.rings.specs.Rings.{ringsInside, nextHead}
+use Rattle.rings.specs.Rings.{nextHead}
 use Rattle.step.specs.declared.Answered.{Answered}
 use Rattle.step.specs.declared.Answer.the-variants.{Refused}
 use Rattle.step.specs.World.{World, Guest, Request, HostAnswer, Outcome, worldOf}
@@ -33,7 +33,7 @@ use Rattle.queue.specs.declared.Ending.{Ending}
 use Rattle.queue.specs.declared.Taking.{Taking}
 use Rattle.queue.specs.declared.Taking.the-variants.{Walk, NoHead}
 use Rattle.queue.specs.declared.Turn.{Turn}
-use Rattle.queue.specs.Queue.{QueueOutcome, queueOk, tookHead, endingOf, queueBy, bytesBy, unmoved, aside, about, takingRefusal, nextUnless, nextOf, noneTold, takes, serveNext, standing, takingOf, walks, discarding, canReport, outsideRefusal, outRefusal, answerRefusal, queueRefusal, answers, unlessRefused, hostAnswers, Settles, turned, GivesTurn}
+use Rattle.queue.specs.Queue.{queueOk, tookHead, endingOf, queueBy, bytesBy, unmoved, aside, about, takingRefusal, nextUnless, noneTold, takes, serveNext, standing, takingOf, walks, discarding, canReport, outsideRefusal, outRefusal, answerRefusal, queueRefusal, answers, unlessRefused, hostAnswers, Settles, turned, GivesTurn}
 
 clash : {A : Type 0} {t : Bool} → t ≡ true → t ≡ false → A
 clash p q = let z : _≡_ {A = ℕ} 0 1 = cc in absurd (omega arith)

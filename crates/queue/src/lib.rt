@@ -12,7 +12,6 @@ use rings::report;
 use rings::rings_inside;
 use serving::request;
 use step::Answer;
-use step::Answered;
 use step::ready_refusal;
 use step::tables_fit;
 use units::GuestAddr;

@@ -1,7 +1,7 @@
 -- SPDX-License-Identifier: Apache-2.0 AND BSD-3-Clause
 -- A run of the exported functions on a device and its queue is a run on the queue: from making on, whatever is lent besides what is held.
 use Prim.Native.Nat.{ℕ}
-use mathlib.Core.Path.{_≡_, refl, ap, sym, _∙_}
+use mathlib.Core.Path.{_≡_, refl, ap, _∙_}
 use mathlib.Core.Bool.{true}
 use mathlib.Core.List.{List, [], _∷_}
 use native.Mathlib.Omega.{arith}
@@ -12,7 +12,6 @@ use Rattle.units.proofs.Tests.{by-test}
 use Rattle.little_endian.specs.Bytes.{put}
 use Rattle.record.specs.Shape.{isIdle}
 use Rattle.rings.specs.declared.Queue.{Queue}
-use Rattle.step.specs.declared.Answer.{Answer}
 use Rattle.step.specs.World.{World, Call}
 use Rattle.step.specs.Step.{step}
 use Rattle.step.specs.Answers.{answerWords, numberOf}
@@ -23,15 +22,15 @@ use Rattle.step.specs.Promise.{Lent}
 use Rattle.jambcopper.specs.Queue.{QueueHanded}
 use Rattle.history.specs.History.{begun}
 use Rattle.history.specs.Reached.{from-making}
-use Rattle.linked.specs.Runs.{callBy as deviceCallBy, leaves, Making, Makes, Means, inHand}
+use Rattle.linked.specs.Runs.{callBy as deviceCallBy, Making, Makes}
 use Rattle.linked.proofs.Steps.{in-hand, one-goes}
 use Rattle.linked.proofs.Linked.{is-fresh, made-decodes, at-first, linked}
-use Rattle.queue_runs.specs.Runs.{besideCall as callOfBeside, QueueCall, PastIt, Writing, queueStep, QueueStory, nextStory, afterAll, New, opened, QueueReached, on-new-queue}
+use Rattle.queue_runs.specs.Runs.{besideCall as callOfBeside, PastIt, Writing, queueStep, QueueStory, nextStory, afterAll, New, opened, QueueReached, on-new-queue}
 use Rattle.queue_runs.proofs.Calls.{reached-after-all}
 use Rattle.queue_runs.proofs.Rules.{demand-3-on-queue}
 use Rattle.queue_linked.specs.Runs.{Side, «jambcopper_place», «jambcopper_set_requested_size», «jambcopper_read_config», «jambcopper_write_config», QueueFunction, «jambcopper_serve», «jambcopper_serve_answer», Past}
 use Rattle.queue_linked.specs.Runs.{QueueUse, functionOf, useOf, besideBy, callBy, callOf, QueueHeld, OneBy, One, leavesBy, leavesQueue, Run, heldAfter, callsOf, QueueMaking, madeQueue, QueueMakes, begins, QueueMeans, Tells, QueueLinked}
-use Rattle.queue_linked.proofs.Steps.{Goes, serve-goes, answer-goes}
+use Rattle.queue_linked.proofs.Steps.{serve-goes, answer-goes}
 
 -- a function that goes past the queue is the same call of the device to both
 same-call : (side : Side) (lent : Lent) → deviceCallBy (functionOf side) lent ≡ callOfBeside (besideBy side lent)

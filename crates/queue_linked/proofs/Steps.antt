@@ -19,10 +19,8 @@ use Rattle.record.specs.Shape.{shapedOf, isIdle}
 use Rattle.rings.specs.declared.Queue.{Queue}
 use Rattle.rings.specs.declared.Taken.{Taken}
 use Rattle.rings.specs.declared.Taken.the-variants.{Nothing, Head}
-use Rattle.rings.specs.declared.Next.{Next}
 use Rattle.rings.specs.declared.Next.the-variants.{Refused as HasRefused}
-use Rattle.step.specs.World.{World, Guest, Call, HostAnswer, worldOf}
-use Rattle.step.specs.Step.{step}
+use Rattle.step.specs.World.{World, Guest, Call, worldOf}
 use Rattle.words.specs.declared.Decoded.the-variants.{Is}
 use Rattle.words.specs.Record.{decodedOf}
 use Rattle.queue.specs.declared.QueueAnswer.{QueueAnswer}
@@ -34,7 +32,7 @@ use Rattle.step.specs.Promise.{Lent, guestIn}
 use Rattle.jambcopper.specs.Queue.{QueueHanded, QueueTold, QueueCalled}
 use Rattle.history.specs.Rules.{isPlace}
 use Rattle.history.proofs.Shaped.{clash}
-use Rattle.linked.specs.Runs.{Held, inUse, holding, Means}
+use Rattle.linked.specs.Runs.{inUse, holding}
 use Rattle.linked.proofs.Tables.{lengths-kept, with, not-ready, not-0, answer-early}
 use Rattle.linked.proofs.Steps.{not-in-use}
 use Rattle.queue_runs.specs.Runs.{QueueCall, TakeNext, Host, queueStep, deviceCalls}

@@ -2,7 +2,7 @@
 -- A refused export on a queue changes nothing: whatever is lent to it, in a run or not, a number other than 0 and 10 means that every lent word and byte but the answer's is as it was.
 use Prim.Native.Nat.{ℕ}
 use mathlib.Core.Path.{_≡_}
-use mathlib.Core.Bool.{Bool, true}
+use mathlib.Core.Bool.{true}
 use Rattle.jambcopper.specs.Queue.{QueueHanded}
 use Rattle.linked.specs.Refused.{AreBytes}
 use Rattle.step.specs.Promise.{Lent}

@@ -10,7 +10,7 @@ use Rattle.rows.specs.Rows.{rowsOf}
 use Rattle.little_endian.specs.Bytes.{put}
 use Rattle.record.specs.declared.Device.{Device}
 use Rattle.rings.specs.declared.Queue.{Queue}
-use Rattle.step.specs.World.{World, worldOf}
+use Rattle.step.specs.World.{World}
 use Rattle.making.specs.declared.Made.the-variants.{Device as MadeDevice}
 use Rattle.queue.specs.Queue.{queueAnswerWords, queueNumberOf}
 use Rattle.queue_words.specs.declared.DecodedQueue.the-variants.{Is as IsQueue}
@@ -18,8 +18,8 @@ use Rattle.queue_words.specs.Words.{decodedQueueOf}
 use Rattle.step.specs.Promise.{Lent, guestIn}
 use Rattle.jambcopper.specs.Queue.{newQueue, QueueMadeIn, QueueHanded, QueueExported}
 use Rattle.history.specs.History.{begun, Demand3}
-use Rattle.linked.specs.Runs.{Function, «jambcopper_place» as place, «jambcopper_set_requested_size» as resize, «jambcopper_read_config» as read, «jambcopper_write_config» as write, Use, Promised, Held, inUse, Lends, holding, leaves, Making, madeBy, Makes, first, Means, inHand}
-use Rattle.queue_runs.specs.Runs.{Beside, Placing, Sizing, Reading, Writing, QueueCall, TakeNext, Host, PastIt, queueStep, QueueStory, afterAll, opened}
+use Rattle.linked.specs.Runs.{Function, «jambcopper_place» as place, «jambcopper_set_requested_size» as resize, «jambcopper_read_config» as read, «jambcopper_write_config» as write, Use, Promised, Held, inUse, Lends, holding, leaves, Making, madeBy, first, Means, inHand}
+use Rattle.queue_runs.specs.Runs.{Beside, Placing, Sizing, Reading, Writing, QueueCall, TakeNext, Host, PastIt, queueStep, afterAll, opened}
 
 -- ---- one call
 -- the functions of a device that go past its queue, and those on the queue

@@ -15,7 +15,8 @@ ghost use lib.ListN.{length};
 ghost use Rattle.little_endian.specs.Bytes.{put};
 ghost use Rattle.queue.specs.Queue.{queueAnswerWords, queueNumberOf};
 ghost use Rattle.queue_words.specs.declared.DecodedQueue.the-variants.{Is};
-ghost use Rattle.queue_words.specs.Words.{queueLength, takenWord, takenOf, queueWords, isQueue, decodedQueueOf, endingWords};
+ghost use Rattle.queue_words.specs.Words.{queueLength, takenWord, takenOf, queueWords, isQueue};
+ghost use Rattle.queue_words.specs.Words.{decodedQueueOf, endingWords};
 
 // A queue's length in words.
 pub const QUEUE_WORDS: usize = 6;

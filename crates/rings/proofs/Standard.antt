@@ -1,6 +1,6 @@
 -- SPDX-License-Identifier: Apache-2.0 AND BSD-3-Clause
 -- What the device reads and writes in the rings is what Q2 lays out there.
-use Prim.Native.Nat.{ℕ, zero, suc, _+_, _*_, _≤_, _<_, _^_}
+use Prim.Native.Nat.{ℕ, zero, suc, _+_, _*_, _≤_, _<_}
 use mathlib.Core.Path.{_≡_, refl, sym, ap, _∙_}
 use mathlib.Core.List.{List, [], _∷_, _++_}
 use native.Mathlib.Omega.{arith}

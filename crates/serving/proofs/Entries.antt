@@ -1,6 +1,6 @@
 -- SPDX-License-Identifier: Apache-2.0 AND BSD-3-Clause
 -- What the calls come to: the refusals before them, a request by its chain, and the host's answer to a discard.
-use Prim.Native.Nat.{ℕ, _+_, _-_, _*_, _/_}
+use Prim.Native.Nat.{ℕ, _+_, _-_, _*_}
 use mathlib.Core.Path.{_≡_, refl, ap, _∙_}
 use mathlib.Core.Bool.{Bool, true, false, not}
 use mathlib.Core.List.{List, [], _∷_}
@@ -21,11 +21,10 @@ use Rattle.chain.proofs.Parsed.{the-type as parsed-type}
 use Rattle.chain.specs.Chain.{parsed, reasonOf}
 use Rattle.record.specs.declared.Device.{Device}
 use Rattle.record.specs.declared.Pending.{Pending}
-use Rattle.record.specs.declared.Pending.the-variants.{Nothing, Create, Discard, DiscardOne}
-use Rattle.record.proofs.Pending.{the-type as pending-type}
+use Rattle.record.specs.declared.Pending.the-variants.{Nothing, Discard, DiscardOne}
 use Rattle.record.specs.Shape.{shapedOf}
 use Rattle.record.specs.Changes.{pluggedTo, pendingTo}
-use Rattle.record.proofs.Laws.{shaped-is, block-less-keeps}
+use Rattle.record.proofs.Laws.{block-less-keeps}
 use Rattle.step.specs.declared.Answered.{Answered}
 use Rattle.step.specs.World.{World, Guest, Request, HostAnswer, worldOf}
 use Rattle.step.specs.Promise.{lent, Gives}

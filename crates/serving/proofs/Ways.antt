@@ -37,7 +37,7 @@ use Rattle.step.specs.declared.Answered.{Answered}
 use Rattle.step.specs.declared.Answer.the-variants.{Refused, Wants}
 use Rattle.step.specs.World.{World, Guest, worldOf}
 use Rattle.step.specs.Promise.{lent, Gives}
-use Rattle.step.specs.Step.{served, unserved, respond, serve, stateResp, ack, nack, error, plug, plugAs, unplug, unplugAs, unplugOne, oneAs, nextAs, unplugAll, stops, changing}
+use Rattle.step.specs.Step.{served, unserved, serve, stateResp, ack, nack, error, plug, plugAs, unplug, unplugAs, unplugOne, oneAs, nextAs, unplugAll, stops, changing}
 use Rattle.step.proofs.Giving.{Responded, serves, answers}
 
 -- the host is asked for a discard, and the record waits for its answer

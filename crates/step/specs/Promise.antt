@@ -2,7 +2,7 @@
 -- What a public function promises: the one relation between a call, what was lent, what came back and the answer.
 use Prim.Native.Nat.{ℕ}
 use mathlib.Core.Bool.{Bool}
-use mathlib.Core.List.{List, []}
+use mathlib.Core.List.{List}
 use mathlib.Core.Path.{_≡_}
 use Rattle.bitmap.specs.Blocks.{blocks}
 use Rattle.rows.specs.declared.MapRow.{MapRow}

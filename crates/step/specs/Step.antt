@@ -1,8 +1,8 @@
 -- SPDX-License-Identifier: Apache-2.0 AND BSD-3-Clause
 -- What each call does, in the order of the rules' tests (R2): `step` from a World and a Call to an Outcome. Every ending is a named leaf, and every decision a tree of tests over leaves.
-use Prim.Native.Nat.{ℕ, _+_, _-_, _*_, _%_}
+use Prim.Native.Nat.{ℕ, _+_, _-_, _*_}
 use mathlib.Core.Path.{_≡_}
-use mathlib.Core.Bool.{Bool, true, false, cond, not, _&&_, _||_}
+use mathlib.Core.Bool.{Bool, true, false, cond, not, _&&_}
 use mathlib.Core.List.{List, []}
 use lib.Dec.{leb, ltb, eqb}
 use lib.ListN.{length, drop}

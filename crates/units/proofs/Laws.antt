@@ -9,7 +9,7 @@ use lib.Dec.{leb}
 use borrow.Author.Tests.{leb-true, leb-false}
 use lib.Arith.{digits-div}
 use lib.Count.{trailingZeros, under}
-use Rattle.units.specs.Numbers.{MiB, top, saturated, bytesOf, twos, nextMultiple}
+use Rattle.units.specs.Numbers.{top, saturated, bytesOf, twos, nextMultiple}
 
 -- ---- what a test said of a sum or a product n: within the limit, or past it
 pub within : {n limit : ℕ} (r : Bool) → r ≡ leb n limit → r ≡ true → n ≤ limit

@@ -1,6 +1,5 @@
 -- SPDX-License-Identifier: Apache-2.0 AND BSD-3-Clause
 -- `jambcopper::jambcopper_serve_answer` meets its contract: 12 where there is no record, or no queue; a number of the queue's; or the device's answer, and the head that is out by it.
-use native.Mathlib.Omega.{arith}
 use mathlib.Core.Path.{refl}
 use borrow.Author.Tests.{eq-eqb, ne-eqb}
 use Rattle.step.proofs.Lengths.{answered-short}

@@ -2,11 +2,11 @@
 -- `placing::set_requested_size` meets its contract: the refusals 12, 7, 5, 11 and then 1, and the new requested size before anything is worked out.
 use Prim.Native.Nat.{_*_}
 use mathlib.Core.Path.{_≡_, refl, sym, _∙_}
-use mathlib.Core.Bool.{true, false, not}
+use mathlib.Core.Bool.{true}
 use native.Mathlib.Omega.{arith}
 use Rattle.bitmap.proofs.Laws.{blocks-length}
 use Rattle.rows.proofs.Words.{count, whole}
-use Rattle.record.specs.Shape.{shapedOf, sizeOk}
+use Rattle.record.specs.Shape.{shapedOf}
 use Rattle.record.proofs.Laws.{shaped-is, requested-keeps}
 use Rattle.record.specs.Changes.{requestedTo}
 use denote.Ref.{now}

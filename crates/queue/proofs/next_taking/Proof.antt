@@ -2,7 +2,7 @@
 -- `queue::next_taking` meets its contract: 12, no head, or the head that stands next.
 use Prim.Native.Nat.{ℕ}
 use mathlib.Core.List.{[], _∷_}
-use mathlib.Core.Path.{_≡_, refl, sym, _∙_}
+use mathlib.Core.Path.{_≡_, refl}
 use types.Run.{OneOf, miss}
 use denote.Enum.Declared.{tagOf}
 use Rattle.units.proofs.Tests.{passed, refused}

@@ -1,14 +1,11 @@
 -- SPDX-License-Identifier: Apache-2.0 AND BSD-3-Clause
 -- `queue_words::decode_queue` meets its contract, test by test and then field by field.
 use mathlib.Core.Path.{refl}
-use mathlib.Core.Bool.{_&&_}
 use native.Mathlib.Omega.{arith}
-use lib.Dec.{leb}
-use borrow.Author.Tests.{le-leb, lt-leb, leb-true}
-use Rattle.units.proofs.Tests.{refused, passed, and-left, and-right}
-use Rattle.words.specs.Record.{word}
+use borrow.Author.Tests.{lt-leb}
+use Rattle.units.proofs.Tests.{refused, passed}
 use Rattle.queue_words.specs.Words.{isQueue, queueOf, decodedQueueOf}
-use Rattle.queue_words.proofs.Laws.{Fits, bounds, unfit, fits-queue}
+use Rattle.queue_words.proofs.Laws.{bounds, unfit, fits-queue}
 use borrow.Author.Needs.{needs}
 use Rattle.queue_words.proofs.decode_queue.Statement.{statement}
 use Rattle.queue_words.proofs.decode_queue.Tie as tie

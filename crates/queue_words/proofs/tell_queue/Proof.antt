@@ -1,6 +1,5 @@
 -- SPDX-License-Identifier: Apache-2.0 AND BSD-3-Clause
 -- `queue_words::tell_queue` meets its contract, case by case.
-use mathlib.Core.Path.{_∙_}
 use borrow.Author.Needs.{needs}
 use Rattle.queue_words.proofs.tell_queue.Statement.{statement}
 use Rattle.queue_words.proofs.tell_queue.Tie as tie

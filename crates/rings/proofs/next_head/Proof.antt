@@ -12,7 +12,6 @@ use Rattle.rings.proofs.Laws.{RingsLie, rings-lie}
 use borrow.Author.Needs.{needs}
 use Rattle.rings.proofs.next_head.Statement.{statement}
 use Rattle.rings.proofs.next_head.Tie as tie
-use Rattle.little_endian.proofs.read_u16.Reads as read-u16-reads
 
 rings-inside-requires : tie.Need-rings-inside-requires
 rings-inside-requires c κs = search needs
