@@ -18,7 +18,7 @@ sets-append l i (x ∷ xs) ys =
     rw e (sets-append (set l i x) (suc i) xs ys)
 
 -- past the end nothing is stored
-sets-out : (l : List ℕ) (i : ℕ) (vs : List ℕ) → length l ≤ i → sets l i vs ≡ l
+pub sets-out : (l : List ℕ) (i : ℕ) (vs : List ℕ) → length l ≤ i → sets l i vs ≡ l
 sets-out l i [] h = refl
 sets-out l i (v ∷ vs) h = rw (set-out l i v h) (sets-out l (suc i) vs (omega arith))
 
