@@ -4,10 +4,10 @@ use text::Number;
 use units::smaller;
 ghost use mathlib.Core.Path.{_≡_};
 ghost use Prim.Native.Nat.{_+_, min};
-ghost use lib.ListN.{length, getD, drop};
+ghost use lib.ListN.{getD, drop};
 ghost use Rattle.text.specs.Putting.{Put};
 ghost use Rattle.forms.specs.Forms.{filled};
-ghost use Rattle.forms.specs.Scanning.{scanOf, Scanned, partOf, ScannedAt};
+ghost use Rattle.forms.specs.Scanning.{scanOf, Scanned, ScannedAt};
 
 const HOLE: u8 = b'#';
 
@@ -21,8 +21,8 @@ pub enum Place {
 // holes go into `values`.
 pub fn scan_at(s: &[u8], at: usize, form: &[u8], values: &mut [u64]) -> Place
     ensures { λ r. ⌜
-        ScannedAt (now (values .entry)) (now (s .entry))
-        (partOf (length (now (values .entry))) (now (form .entry)) (drop at (now (s .entry)))) r (now (values .exit))
+        ScannedAt (now (values .entry)) (now (s .entry)) (scanOf (now (form .entry)) (drop at (now (s .entry)))) r
+        (now (values .exit))
         ⌝ }
 {
     let mut i = smaller(at as u64, s.len() as u64) as usize;
@@ -57,8 +57,7 @@ pub fn scan_at(s: &[u8], at: usize, form: &[u8], values: &mut [u64]) -> Place
 // Whether a text is a filled form; the numbers that stand in its holes go into `values`.
 pub fn scan(s: &[u8], form: &[u8], values: &mut [u64]) -> bool
     ensures { λ r. ⌜
-        Scanned (now (values .entry))
-        (scanOf (length (now (values .entry))) (now (form .entry)) (now (s .entry))) r (now (values .exit))
+        Scanned (now (values .entry)) (scanOf (now (form .entry)) (now (s .entry))) r (now (values .exit))
         ⌝ }
 {
     let Place::At(i) = scan_at(s, 0, form, values) else {

@@ -14,11 +14,10 @@ use Rattle.text.specs.Reading.{isDigit, digitOf}
 use Rattle.bitmap.specs.Blocks.{blocks, Outside, Filled}
 use Rattle.bitmap.proofs.Bytes.{blocks-tell}
 use Rattle.forms.specs.Forms.{holes, filled, filledFrom}
-use Rattle.forms.specs.Scanning.{part, none, bytePart, partOf, ScannedAt}
+use Rattle.forms.specs.Scanning.{found, lost, byteThen, scanOf, ScannedAt}
 use Rattle.forms.specs.declared.Place.{Place}
 use Rattle.forms.specs.declared.Place.the-variants as place
-use Rattle.forms.proofs.Laws.{filled-length}
-use Rattle.forms.proofs.Parts.{opened-part, part-written, part-found, part-read}
+use Rattle.forms.proofs.Laws.{filled-length, opened, scan-written, missing, scan-read, scan-at-found, scan-at-nowhere}
 use Rattle.runs.specs.declared.Counted.{Counted}
 use Rattle.runs.specs.declared.Counted.the-variants.{Blocks, Bad}
 use Rattle.runs.specs.declared.RunLine.{RunLine}
@@ -32,18 +31,15 @@ use Rattle.runs.specs.Reading.{IsRunLine, runOk, Counts, Starts, Lays}
 pub runs-open : (rs : List Run) → 9 < digitOf (runsText rs)
 unfolding runsText digitOf isDigit
 runs-open [] = omega arith
-runs-open (r ∷ rs) = opened-part 0 runLine (r .first ∷ r .count ∷ []) (runsText rs) (runs-open rs) refl
+runs-open (r ∷ rs) = opened 0 runLine (r .first ∷ r .count ∷ []) (runsText rs) (runs-open rs) refl
 
-pub run-part : (r : Run) (rs : List Run) → r .first ≤ largest → r .count ≤ largest → partOf 2 runLine (runsText (r ∷ rs)) ≡ part (r .first ∷ r .count ∷ []) (runsText rs)
+pub run-written : (r : Run) (rs : List Run) → r .first ≤ largest → r .count ≤ largest → scanOf runLine (runsText (r ∷ rs)) ≡ found (r .first ∷ r .count ∷ []) (runsText rs)
 unfolding runsText holes isDigit
-run-part r rs p q = part-written 2 0 runLine (r .first ∷ r .count ∷ []) (runsText rs) (runs-open rs) refl (omega arith) (p, (q, tt))
+run-written r rs p q = scan-written 0 runLine (r .first ∷ r .count ∷ []) (runsText rs) (runs-open rs) refl (p, (q, tt))
 
-pub no-run : partOf 2 runLine (runsText []) ≡ none []
-unfolding runsText partOf bytePart
+pub no-run : scanOf runLine (runsText []) ≡ lost []
+unfolding runsText scanOf byteThen
 no-run = refl
-
-missing : {vs us end : List ℕ} → none vs ≡ part us end → ⊥
-missing h = let z : _≡_ {A = ℕ} 0 1 = cc in omega arith
 
 run-is : (r q : Run) → r .first ≡ q .first → r .count ≡ q .count → r ≡ q
 run-is r q a b = ap (λ (x : ℕ). record { first = x; count = r .count }) a ∙ ap (λ (y : ℕ). record { first = q .first; count = y }) b
@@ -51,12 +47,12 @@ run-is r q a b = ap (λ (x : ℕ). record { first = x; count = r .count }) a ∙
 pub same-runs : (i j end stop : ℕ) (rs qs : List Run) → end ≤ largest → stop ≤ largest → RunsApart i end rs → RunsApart j stop qs → runsText rs ≡ runsText qs → rs ≡ qs
 same-runs i j end stop [] [] u v a b h = refl
 same-runs i j end stop [] (q ∷ qs) u v a b h =
-    absurd (missing (sym no-run ∙ ap (partOf 2 runLine) h ∙ run-part q qs (omega (arith, b .2)) (omega (arith, b .2))))
+    absurd (missing (sym no-run ∙ ap (scanOf runLine) h ∙ run-written q qs (omega (arith, b .2)) (omega (arith, b .2))))
 same-runs i j end stop (r ∷ rs) [] u v a b h =
-    absurd (missing (sym no-run ∙ ap (partOf 2 runLine) (sym h) ∙ run-part r rs (omega (arith, a .2)) (omega (arith, a .2))))
+    absurd (missing (sym no-run ∙ ap (scanOf runLine) (sym h) ∙ run-written r rs (omega (arith, a .2)) (omega (arith, a .2))))
 same-runs i j end stop (r ∷ rs) (q ∷ qs) u v a b h =
-    let e : part (r .first ∷ r .count ∷ []) (runsText rs) ≡ part (q .first ∷ q .count ∷ []) (runsText qs) =
-    sym (run-part r rs (omega (arith, a .2)) (omega (arith, a .2))) ∙ ap (partOf 2 runLine) h ∙ run-part q qs (omega (arith, b .2)) (omega (arith, b .2)) in
+    let e : found (r .first ∷ r .count ∷ []) (runsText rs) ≡ found (q .first ∷ q .count ∷ []) (runsText qs) =
+    sym (run-written r rs (omega (arith, a .2)) (omega (arith, a .2))) ∙ ap (scanOf runLine) h ∙ run-written q qs (omega (arith, b .2)) (omega (arith, b .2)) in
     let f : r .first ≡ q .first = cc in
     let c : r .count ≡ q .count = cc in
     let t : runsText rs ≡ runsText qs = cc in
@@ -66,10 +62,14 @@ same-runs i j end stop (r ∷ rs) (q ∷ qs) u v a b h =
 
 -- ---- `run_at`
 
-pub run-found : (s l : List ℕ) {after : List ℕ} {r : Place} → ScannedAt (0 ∷ 0 ∷ []) s (partOf 2 runLine l) r after → (n : ℕ) → r ≡ place.At n
-    → partOf 2 runLine l ≡ part (getD after 0 0 ∷ getD after 1 0 ∷ []) (drop n s)
-unfolding holes
-run-found s l o n e = let f = part-found runLine s l o n e in rw (f .at 0 refl, f .at 1 refl) (f .is)
+module _ (s : List ℕ) (at : ℕ) {after : List ℕ} {r : Place} (o : ScannedAt (0 ∷ 0 ∷ []) s (scanOf runLine (drop at s)) r after) where
+  pub run-found : (n : ℕ) → r ≡ place.At n → scanOf runLine (drop at s) ≡ found (getD after 0 0 ∷ getD after 1 0 ∷ []) (drop n s)
+  unfolding holes
+  run-found n e = let f = scan-at-found runLine s at o n e in rw (f .stored 0 refl, f .stored 1 refl) (f .is)
+
+  pub run-nowhere : r ≡ place.Nowhere → (us rest : List ℕ) → scanOf runLine (drop at s) ≡ found us rest → ⊥
+  unfolding holes
+  run-nowhere e = scan-at-nowhere runLine s at o e (omega arith)
 
 -- ---- `count_runs`
 
@@ -77,13 +77,13 @@ bad-is : {n : ℕ} → Bad ≡ Blocks n → ⊥
 bad-is h = let z : _≡_ {A = ℕ} 0 1 = cc in omega arith
 
 -- a text that starts with no run's line is that of no run, and empty
-no-line : (from end : ℕ) (l : List ℕ) → end ≤ largest → ((us rest : List ℕ) → partOf 2 runLine l ≡ part us rest → ⊥) → (rs : List Run) → RunsApart from end rs → runsText rs ≡ l → l ≡ []
+no-line : (from end : ℕ) (l : List ℕ) → end ≤ largest → ((us rest : List ℕ) → scanOf runLine l ≡ found us rest → ⊥) → (rs : List Run) → RunsApart from end rs → runsText rs ≡ l → l ≡ []
 unfolding runsText
 no-line from end l h n [] a t = sym t
 no-line from end l h n (r ∷ rs) a t =
-    absurd (n _ _ (ap (partOf 2 runLine) (sym t) ∙ run-part r rs (omega (arith, a .2)) (omega (arith, a .2))))
+    absurd (n _ _ (ap (scanOf runLine) (sym t) ∙ run-written r rs (omega (arith, a .2)) (omega (arith, a .2))))
 
-pub counts-none : (from end sum : ℕ) (l : List ℕ) → end ≤ largest → 0 < length l → ((us rest : List ℕ) → partOf 2 runLine l ≡ part us rest → ⊥) → Counts from end sum l Bad
+pub counts-none : (from end sum : ℕ) (l : List ℕ) → end ≤ largest → 0 < length l → ((us rest : List ℕ) → scanOf runLine l ≡ found us rest → ⊥) → Counts from end sum l Bad
 counts-none from end sum l h p n =
     record {
       whole = λ rs a t. let e : length l ≡ 0 = ap length (no-line from end l h n rs a t) in absurd (omega arith);
@@ -97,7 +97,7 @@ counts-end from end sum h = record { whole = go; only = λ m e. ([], tt, refl, (
     go : (rs : List Run) → RunsApart from end rs → runsText rs ≡ [] → Blocks sum ≡ Blocks (sum + total rs)
     go [] a t = let z : sum ≡ sum + 0 = omega arith in ap Blocks z
     go (r ∷ rs) a t =
-        absurd (missing (sym no-run ∙ ap (partOf 2 runLine) (sym t) ∙ run-part r rs (omega (arith, a .2)) (omega (arith, a .2))))
+        absurd (missing (sym no-run ∙ ap (scanOf runLine) (sym t) ∙ run-written r rs (omega (arith, a .2)) (omega (arith, a .2))))
 
 run-ok : (first count from end : ℕ) → runOk first count from end ≡ true → (from ≤ first) × (0 < count) × (first + count ≤ end)
 unfolding runOk
@@ -109,15 +109,15 @@ ok-run : (first count from end : ℕ) → from ≤ first → 0 < count → first
 unfolding runOk
 ok-run first count from end p q r = rw (le-leb from first p, lt-ltb 0 count q) (le-leb (first + count) end r)
 
-module _ (from end sum : ℕ) (l : List ℕ) (h : end ≤ largest) (first count : ℕ) (rest : List ℕ) (e : partOf 2 runLine l ≡ part (first ∷ count ∷ []) rest) where
+module _ (from end sum : ℕ) (l : List ℕ) (h : end ≤ largest) (first count : ℕ) (rest : List ℕ) (e : scanOf runLine l ≡ found (first ∷ count ∷ []) rest) where
   -- runs whose text is l start with this one
   starts : (P : Type 0) (rs : List Run) → RunsApart from end rs → runsText rs ≡ l
       → ((qs : List Run) → runOk first count from end ≡ true → RunsApart (suc (first + count)) end qs → runsText qs ≡ rest → total rs ≡ count + total qs → P) → P
   unfolding total
-  starts P [] a t f = absurd (missing (sym no-run ∙ ap (partOf 2 runLine) t ∙ e))
+  starts P [] a t f = absurd (missing (sym no-run ∙ ap (scanOf runLine) t ∙ e))
   starts P (r ∷ rs) a t f =
-      let q : part (r .first ∷ r .count ∷ []) (runsText rs) ≡ part (first ∷ count ∷ []) rest =
-      sym (run-part r rs (omega (arith, a .2)) (omega (arith, a .2))) ∙ ap (partOf 2 runLine) t ∙ e in
+      let q : found (r .first ∷ r .count ∷ []) (runsText rs) ≡ found (first ∷ count ∷ []) rest =
+      sym (run-written r rs (omega (arith, a .2)) (omega (arith, a .2))) ∙ ap (scanOf runLine) t ∙ e in
       let x : r .first ≡ first = cc in
       let y : r .count ≡ count = cc in
       let w : runsText rs ≡ rest = cc in
@@ -144,7 +144,7 @@ module _ (from end sum : ℕ) (l : List ℕ) (h : end ≤ largest) (first count 
             λ m q.
             let d = c .only m q in
             let k = d .3 in
-            let p = part-read 2 runLine l (first ∷ count ∷ []) rest e .1 in (
+            let p = scan-read runLine l (first ∷ count ∷ []) rest e .1 in (
               record { first = first; count = count } ∷ d .0,
               (o .0, o .1, o .2, d .1),
               ap (λ (r : List ℕ). filled runLine (first ∷ count ∷ []) ++ r) (d .2) ∙ p,
@@ -156,15 +156,15 @@ module _ (from end sum : ℕ) (l : List ℕ) (h : end ≤ largest) (first count 
   pub shorter : length rest < length l
   unfolding filledFrom holes
   shorter =
-      let p = part-read 2 runLine l (first ∷ count ∷ []) rest e .1 in
+      let p = scan-read runLine l (first ∷ count ∷ []) rest e .1 in
       let q : length l ≡ length (filled runLine (first ∷ count ∷ []) ++ rest) = ap length (sym p) in
       let r = length-append (filled runLine (first ∷ count ∷ [])) rest in
       omega arith
 
-line-at : (s l : List ℕ) (r : RunLine) → IsRunLine s l r → (f c n : ℕ) → r ≡ line.At f c n → partOf 2 runLine l ≡ part (f ∷ c ∷ []) (drop n s)
+line-at : (s l : List ℕ) (r : RunLine) → IsRunLine s l r → (f c n : ℕ) → r ≡ line.At f c n → scanOf runLine l ≡ found (f ∷ c ∷ []) (drop n s)
 line-at s l r h f c n e = let g : IsRunLine s l (line.At f c n) = rw e at h in g
 
-line-bad : (s l : List ℕ) (r : RunLine) → IsRunLine s l r → r ≡ line.Bad → (us rest : List ℕ) → partOf 2 runLine l ≡ part us rest → ⊥
+line-bad : (s l : List ℕ) (r : RunLine) → IsRunLine s l r → r ≡ line.Bad → (us rest : List ℕ) → scanOf runLine l ≡ found us rest → ⊥
 line-bad s l r h e = let g : IsRunLine s l line.Bad = rw e at h in g
 
 -- the loop stands at i of the text, with `sum` blocks in runs that end before block `from`: what is right for the text that is left is right for the whole
@@ -225,8 +225,8 @@ module _ {s : List ℕ} {at end i from sum : ℕ} (h : end ≤ 1099511627776) (o
 
 -- ---- `lay_runs`
 
-nothing-there : partOf 2 runLine [] ≡ none []
-unfolding partOf bytePart
+nothing-there : scanOf runLine [] ≡ lost []
+unfolding scanOf byteThen
 nothing-there = refl
 
 same-outside : (entry : List ℕ) (end : ℕ) → Outside entry entry 0 end
@@ -240,11 +240,11 @@ then-outside entry mid exit f c end h a b =
       same-past = λ n k. b .same-past n k ∙ a .same-past n (omega arith);
     }
 
-lays-none : (l entry : List ℕ) → ((us rest : List ℕ) → partOf 2 runLine l ≡ part us rest → ⊥) → Lays l entry entry
+lays-none : (l entry : List ℕ) → ((us rest : List ℕ) → scanOf runLine l ≡ found us rest → ⊥) → Lays l entry entry
 unfolding laidOn
 lays-none l entry n = record { runs = []; starts = n; as-blocks = refl; long = refl; outside = λ from end a. same-outside entry end }
 
-lays-turn : (l rest : List ℕ) (f c : ℕ) (entry mid exit : List ℕ) → partOf 2 runLine l ≡ part (f ∷ c ∷ []) rest → Filled entry mid f c true → Lays rest mid exit → Lays l entry exit
+lays-turn : (l rest : List ℕ) (f c : ℕ) (entry mid exit : List ℕ) → scanOf runLine l ≡ found (f ∷ c ∷ []) rest → Filled entry mid f c true → Lays rest mid exit → Lays l entry exit
 unfolding laidOn
 lays-turn l rest f c entry mid exit e d o =
     record {
@@ -258,12 +258,12 @@ lays-turn l rest f c entry mid exit e d o =
 -- a text of runs that are apart starts with those, and with no others
 pub starts-are : (from end : ℕ) (rs qs : List Run) (l : List ℕ) → end ≤ largest → RunsApart from end rs → runsText rs ≡ l → Starts l qs → qs ≡ rs
 starts-are from end [] [] l h a t s = refl
-starts-are from end [] (q ∷ qs) l h a t s = absurd (missing (sym no-run ∙ ap (partOf 2 runLine) t ∙ s .1))
+starts-are from end [] (q ∷ qs) l h a t s = absurd (missing (sym no-run ∙ ap (scanOf runLine) t ∙ s .1))
 starts-are from end (r ∷ rs) [] l h a t s =
-    absurd (s _ _ (ap (partOf 2 runLine) (sym t) ∙ run-part r rs (omega (arith, a .2)) (omega (arith, a .2))))
+    absurd (s _ _ (ap (scanOf runLine) (sym t) ∙ run-written r rs (omega (arith, a .2)) (omega (arith, a .2))))
 starts-are from end (r ∷ rs) (q ∷ qs) l h a t s =
-    let p : part (r .first ∷ r .count ∷ []) (runsText rs) ≡ part (q .first ∷ q .count ∷ []) (s .0) =
-    sym (run-part r rs (omega (arith, a .2)) (omega (arith, a .2))) ∙ ap (partOf 2 runLine) t ∙ s .1 in
+    let p : found (r .first ∷ r .count ∷ []) (runsText rs) ≡ found (q .first ∷ q .count ∷ []) (s .0) =
+    sym (run-written r rs (omega (arith, a .2)) (omega (arith, a .2))) ∙ ap (scanOf runLine) t ∙ s .1 in
     let x : r .first ≡ q .first = cc in
     let y : r .count ≡ q .count = cc in
     let w : runsText rs ≡ s .0 = cc in
@@ -278,7 +278,7 @@ starts-once l [] [] a b = refl
 starts-once l [] (q ∷ qs) a b = absurd (a _ _ (b .1))
 starts-once l (r ∷ rs) [] a b = absurd (b _ _ (a .1))
 starts-once l (r ∷ rs) (q ∷ qs) a b =
-    let p : part (r .first ∷ r .count ∷ []) (a .0) ≡ part (q .first ∷ q .count ∷ []) (b .0) = sym (a .1) ∙ b .1 in
+    let p : found (r .first ∷ r .count ∷ []) (a .0) ≡ found (q .first ∷ q .count ∷ []) (b .0) = sym (a .1) ∙ b .1 in
     let x : r .first ≡ q .first = cc in
     let y : r .count ≡ q .count = cc in
     let w : a .0 ≡ b .0 = cc in
@@ -311,7 +311,7 @@ module _ {s : List ℕ} {at : ℕ} {entry : List ℕ} {i : ℕ} {cur : List ℕ}
   pub set-end : length s ≤ i → Lays (drop at s) entry cur
   set-end h = o .back cur (rw (drop-of-length-le s h) (lays-none [] cur empty))
     where
-      empty : (us rest : List ℕ) → partOf 2 runLine [] ≡ part us rest → ⊥
+      empty : (us rest : List ℕ) → scanOf runLine [] ≡ found us rest → ⊥
       empty us rest q = missing (sym nothing-there ∙ q)
 
   module _ (r : RunLine) (q : IsRunLine s (drop i s) r) (f c n : ℕ) (e : r ≡ line.At f c n) where

@@ -7,7 +7,7 @@ use mathlib.Core.List.{List, [], _∷_}
 use lib.Dec.{leb, ltb}
 use lib.ListN.{length, drop}
 use Rattle.bitmap.specs.Blocks.{blocks, Outside}
-use Rattle.forms.specs.Scanning.{part, partOf}
+use Rattle.forms.specs.Scanning.{found, scanOf}
 use Rattle.runs.specs.declared.RunLine.{RunLine}
 use Rattle.runs.specs.declared.RunLine.the-variants as line
 use Rattle.runs.specs.declared.Counted.{Counted}
@@ -17,8 +17,8 @@ use Rattle.runs.specs.Text.{runLine, runsText}
 
 -- the text l, which is s from some position on, starts with a run's line, or it does not
 abbrev pub IsRunLine : (s l : List ℕ) → RunLine → Type 0
-IsRunLine s l (line.At first count next) = partOf 2 runLine l ≡ part (first ∷ count ∷ []) (drop next s)
-IsRunLine s l line.Bad = (us rest : List ℕ) → partOf 2 runLine l ≡ part us rest → ⊥
+IsRunLine s l (line.At first count next) = scanOf runLine l ≡ found (first ∷ count ∷ []) (drop next s)
+IsRunLine s l line.Bad = (us rest : List ℕ) → scanOf runLine l ≡ found us rest → ⊥
 
 unfoldable pub runOk : (first count from end : ℕ) → Bool
 runOk first count from end = leb from first && (ltb 0 count && leb (first + count) end)
@@ -30,8 +30,8 @@ pub record Counts (from end sum : ℕ) (l : List ℕ) (w : Counted) : Type 0 whe
 
 -- the runs with whose lines a text starts, up to where no run's line follows
 abbrev pub Starts : List ℕ → List Run → Type 0
-Starts l [] = (us rest : List ℕ) → partOf 2 runLine l ≡ part us rest → ⊥
-Starts l (r ∷ rs) = (rest : List ℕ) × (partOf 2 runLine l ≡ part (r .first ∷ r .count ∷ []) rest) × Starts rest rs
+Starts l [] = (us rest : List ℕ) → scanOf runLine l ≡ found us rest → ⊥
+Starts l (r ∷ rs) = (rest : List ℕ) × (scanOf runLine l ≡ found (r .first ∷ r .count ∷ []) rest) × Starts rest rs
 
 -- their blocks were set, no other changed, and no byte past them was touched
 pub record Lays (l entry exit : List ℕ) : Type 0 where

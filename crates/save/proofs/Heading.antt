@@ -7,12 +7,12 @@ use mathlib.Core.List.{List, [], _∷_, _++_, append-assoc}
 use native.Mathlib.Omega.{arith}
 use borrow.Author.Tests.{lt-ltb, le-ltb}
 use lib.Dec.{ltb}
-use lib.ListN.{drop, getD}
+use lib.ListN.{length, drop, getD}
 use Rattle.forms.specs.Forms.{holes, filled}
-use Rattle.forms.specs.Scanning.{Part, part, none, partOf, ScannedAt}
+use Rattle.forms.specs.Scanning.{Scan, found, lost, scanOf, ScannedAt}
 use Rattle.forms.specs.declared.Place.{Place}
 use Rattle.forms.specs.declared.Place.the-variants as place
-use Rattle.forms.proofs.Parts.{part-found, part-read}
+use Rattle.forms.proofs.Laws.{scan-read, scan-at-found, scan-at-nowhere}
 use Rattle.save.specs.declared.Fields.{Fields}
 use Rattle.save.specs.declared.Head.{Head}
 use Rattle.save.specs.declared.Head.the-variants as head
@@ -21,43 +21,52 @@ use Rattle.save.specs.declared.Checked.the-variants as checked
 use Rattle.runs.specs.Runs.{runsOf}
 use Rattle.runs.specs.Text.{runsText}
 use Rattle.save.specs.Text.{formLine, fieldLines, fieldsOf, stateText, Says}
-use Rattle.save.specs.Reading.{IsRuns, laterPart, isLater, IsFields, Heads, Refuses, IsHead, Checks}
-use Rattle.save.proofs.Text.{says-form, fields-part, fields-are, state-words, state-block}
+use Rattle.save.specs.Reading.{IsRuns, laterForm, isLater, IsFields, Heads, Refuses, IsHead, Checks}
+use Rattle.save.proofs.Text.{says-form, fields-written, fields-are, state-words, state-block}
 
 -- ---- `fields_at`
 
-pub fields-found : (s l : List ℕ) {after : List ℕ} {r : Place} → ScannedAt (0 ∷ 0 ∷ 0 ∷ 0 ∷ 0 ∷ []) s (partOf 5 (fieldLines 2) l) r after → (n : ℕ) → r ≡ place.At n
-    → partOf 5 (fieldLines 2) l ≡ part (getD after 0 0 ∷ getD after 1 0 ∷ getD after 2 0 ∷ getD after 3 0 ∷ getD after 4 0 ∷ []) (drop n s)
-unfolding holes
-fields-found s l o n e =
-    let f = part-found (fieldLines 2) s l o n e in
-    rw (f .at 0 refl, f .at 1 refl, f .at 2 refl, f .at 3 refl, f .at 4 refl) (f .is)
+module _ (s : List ℕ) (at : ℕ) {after : List ℕ} {r : Place} (o : ScannedAt (0 ∷ 0 ∷ 0 ∷ 0 ∷ 0 ∷ []) s (scanOf (fieldLines 2) (drop at s)) r after) where
+  pub fields-found : (n : ℕ) → r ≡ place.At n
+      → (scanOf (fieldLines 2) (drop at s) ≡ found (getD after 0 0 ∷ getD after 1 0 ∷ getD after 2 0 ∷ getD after 3 0 ∷ getD after 4 0 ∷ []) (drop n s)) × (n ≤ length s)
+  unfolding holes
+  fields-found n e =
+      let f = scan-at-found (fieldLines 2) s at o n e in
+      (rw (f .stored 0 refl, f .stored 1 refl, f .stored 2 refl, f .stored 3 refl, f .stored 4 refl) (f .is), f .inside)
 
-pub form-found : (s l : List ℕ) {after : List ℕ} {r : Place} → ScannedAt (0 ∷ []) s (partOf 1 formLine l) r after → (n : ℕ) → r ≡ place.At n
-    → partOf 1 formLine l ≡ part (getD after 0 0 ∷ []) (drop n s)
-unfolding holes
-form-found s l o n e = let f = part-found formLine s l o n e in rw (f .at 0 refl) (f .is)
+  pub fields-nowhere : r ≡ place.Nowhere → (us rest : List ℕ) → scanOf (fieldLines 2) (drop at s) ≡ found us rest → ⊥
+  unfolding holes
+  fields-nowhere e = scan-at-nowhere (fieldLines 2) s at o e (omega arith)
 
 -- ---- `head_of`
 
-no-later : (w : Part) → ((us rest : List ℕ) → w ≡ part us rest → ⊥) → laterPart w ≡ false
-unfolding laterPart
-no-later (part us rest) n = absurd (n us rest refl)
-no-later (none us) n = refl
+module _ (s : List ℕ) {after : List ℕ} {r : Place} (o : ScannedAt (0 ∷ []) s (scanOf formLine s) r after) where
+  pub form-found : (n : ℕ) → r ≡ place.At n → scanOf formLine s ≡ found (getD after 0 0 ∷ []) (drop n s)
+  unfolding holes
+  form-found n e = let f = scan-at-found formLine s 0 o n e in rw (f .stored 0 refl) (f .is)
 
-pub head-none : (s : List ℕ) → ((us rest : List ℕ) → partOf 1 formLine s ≡ part us rest → ⊥) → Refuses s 18
+  pub form-nowhere : r ≡ place.Nowhere → (us rest : List ℕ) → scanOf formLine s ≡ found us rest → ⊥
+  unfolding holes
+  form-nowhere e = scan-at-nowhere formLine s 0 o e (omega arith)
+
+no-later : (w : Scan) → ((us rest : List ℕ) → w ≡ found us rest → ⊥) → laterForm w ≡ false
+unfolding laterForm
+no-later (found us rest) n = absurd (n us rest refl)
+no-later (lost us) n = refl
+
+pub head-none : (s : List ℕ) → ((us rest : List ℕ) → scanOf formLine s ≡ found us rest → ⊥) → Refuses s 18
 head-none s n =
-    let e = no-later (partOf 1 formLine s) n in
+    let e = no-later (scanOf formLine s) n in
     record { number-is = rw e; no-state = λ f bs h. n _ _ (says-form h) }
 
-module _ (s : List ℕ) (n : ℕ) (rest : List ℕ) (e : partOf 1 formLine s ≡ part (n ∷ []) rest) where
+module _ (s : List ℕ) (n : ℕ) (rest : List ℕ) (e : scanOf formLine s ≡ found (n ∷ []) rest) where
   later-is : isLater s ≡ ltb 2 n
-  unfolding laterPart
+  unfolding laterForm
   later-is = rw e
 
   form-is : (f : Fields) (bs : List Bool) → Says s f bs → (2 ≡ n) × (filled (fieldLines 2) (fieldsOf f) ++ runsText (runsOf bs) ≡ rest)
   form-is f bs h =
-      let q : part (2 ∷ []) (filled (fieldLines 2) (fieldsOf f) ++ runsText (runsOf bs)) ≡ part (n ∷ []) rest = sym (says-form h) ∙ e in
+      let q : found (2 ∷ []) (filled (fieldLines 2) (fieldsOf f) ++ runsText (runsOf bs)) ≡ found (n ∷ []) rest = sym (says-form h) ∙ e in
       (cc, cc)
 
   pub head-later : 2 < n → Refuses s 19
@@ -71,12 +80,12 @@ module _ (s : List ℕ) (n : ℕ) (rest : List ℕ) (e : partOf 1 formLine s ≡
       record { number-is = rw (l, le-ltb 2 n h); no-state = λ f bs t. d (sym (form-is f bs t .0)) }
 
 -- the text is of form 2, and goes on with `rest`
-module _ (s rest : List ℕ) (e : partOf 1 formLine s ≡ part (2 ∷ []) rest) where
+module _ (s rest : List ℕ) (e : scanOf formLine s ≡ found (2 ∷ []) rest) where
   now-later : isLater s ≡ false
   now-later = later-is s 2 rest e ∙ le-ltb 2 2 (omega arith)
 
-  fields-is : (f : Fields) (bs : List Bool) → Says s f bs → partOf 5 (fieldLines 2) rest ≡ part (fieldsOf f) (runsText (runsOf bs))
-  fields-is f bs h = ap (partOf 5 (fieldLines 2)) (sym (form-is s 2 rest e f bs h .1)) ∙ fields-part 2 f (runsOf bs) (state-words (h .state))
+  fields-is : (f : Fields) (bs : List Bool) → Says s f bs → scanOf (fieldLines 2) rest ≡ found (fieldsOf f) (runsText (runsOf bs))
+  fields-is f bs h = ap (scanOf (fieldLines 2)) (sym (form-is s 2 rest e f bs h .1)) ∙ fields-written 2 f (runsOf bs) (state-words (h .state))
 
   pub head-fields : (r : Head) → IsFields s rest r → IsHead s r
   head-fields (head.At f n) h = record { rest = rest; form = e; block = h .0; fields = h .1; inside = h .2 }
@@ -84,7 +93,7 @@ module _ (s rest : List ℕ) (e : partOf 1 formLine s ≡ part (2 ∷ []) rest) 
       let l = now-later in
       record { number-is = rw l (h .0); no-state = λ f bs t. h .1 _ _ (fields-is f bs t) }
 
-pub head-two : (s rest : List ℕ) (n : ℕ) → partOf 1 formLine s ≡ part (n ∷ []) rest → n ≡ 2 → (r : Head) → IsFields s rest r → IsHead s r
+pub head-two : (s rest : List ℕ) (n : ℕ) → scanOf formLine s ≡ found (n ∷ []) rest → n ≡ 2 → (r : Head) → IsFields s rest r → IsHead s r
 head-two s rest n e q r h = head-fields s rest (rw q at e) r h
 
 -- a state's text is of no later form
@@ -97,8 +106,8 @@ module _ (s : List ℕ) (f : Fields) (n : ℕ) (h : Heads s f n) where
   whole-text : (bs : List Bool) → runsText (runsOf bs) ≡ drop n s → stateText 2 f bs ≡ s
   unfolding stateText holes
   whole-text bs t =
-      let a = part-read 1 formLine s (2 ∷ []) (h .rest) (h .form) .1 in
-      let b = part-read 5 (fieldLines 2) (h .rest) (fieldsOf f) (drop n s) (h .fields) .1 in
+      let a = scan-read formLine s (2 ∷ []) (h .rest) (h .form) .1 in
+      let b = scan-read (fieldLines 2) (h .rest) (fieldsOf f) (drop n s) (h .fields) .1 in
       append-assoc (filled formLine (2 ∷ [])) (filled (fieldLines 2) (fieldsOf f)) (runsText (runsOf bs))
       ∙ ap (λ (l : List ℕ). filled formLine (2 ∷ []) ++ (filled (fieldLines 2) (fieldsOf f) ++ l)) t
       ∙ ap (λ (l : List ℕ). filled formLine (2 ∷ []) ++ l) b
@@ -106,7 +115,7 @@ module _ (s : List ℕ) (f : Fields) (n : ℕ) (h : Heads s f n) where
 
   same-fields : (g : Fields) (bs : List Bool) → Says s g bs → (g ≡ f) × (runsText (runsOf bs) ≡ drop n s)
   same-fields g bs t =
-      let q : part (fieldsOf g) (runsText (runsOf bs)) ≡ part (fieldsOf f) (drop n s) = sym (fields-is s (h .rest) (h .form) g bs t) ∙ h .fields in
+      let q : found (fieldsOf g) (runsText (runsOf bs)) ≡ found (fieldsOf f) (drop n s) = sym (fields-is s (h .rest) (h .form) g bs t) ∙ h .fields in
       (fields-are g f (state-block (t .state) ∙ sym (h .block)) (cc) (cc) (cc) (cc) (cc), cc)
 
   pub checked-whole : (r : Checked) → IsRuns f n (drop n s) r → Checks s r

@@ -11,8 +11,8 @@ use Rattle.text.specs.Decimal.{largest, decimal}
 use Rattle.text.specs.Reading.{isDigit, digitOf}
 use Rattle.text.proofs.Laws.{word-written}
 use Rattle.forms.specs.Forms.{holes, filled, filledFrom}
-use Rattle.forms.specs.Scanning.{Part, part, none, pushPart, holePart, bytePart, partOf}
-use Rattle.forms.proofs.Parts.{part-filled, part-read}
+use Rattle.forms.specs.Scanning.{Scan, found, lost, push, holeThen, byteThen, scanOf}
+use Rattle.forms.proofs.Laws.{scan-filled, scan-read}
 use Rattle.runs.specs.Runs.{runsOf}
 use Rattle.runs.specs.Text.{runsText}
 use Rattle.bitmap.proofs.Bytes.{blocks-tell}
@@ -25,7 +25,7 @@ use Rattle.save.specs.declared.Got.{Got}
 use Rattle.save.specs.declared.Got.the-variants as got
 use Rattle.save.specs.Text.{formLine, Says}
 use Rattle.save.specs.Writing.{Writes}
-use Rattle.save.specs.Reading.{laterPart, isLater, Accepts, Checks, HoldsBlocks, Takes, AtMost, noRoom, ReadsState}
+use Rattle.save.specs.Reading.{laterForm, isLater, Accepts, Checks, HoldsBlocks, Takes, AtMost, noRoom, ReadsState}
 use Rattle.save.proofs.Text.{one-text}
 
 -- ---- one outcome
@@ -81,15 +81,15 @@ accepted s f bs h (checked.Refused k) c = absurd (c .no-state f bs h)
 -- ---- 19 in words: exactly the texts that begin `form=N` and a newline, N a number of 64 bits above 2
 
 pub later-says : (s : List ℕ) → isLater s ≡ true → (n : ℕ) × (rest : List ℕ) × (2 < n) × (n ≤ largest) × (filled formLine (n ∷ []) ++ rest ≡ s)
-unfolding laterPart holes
-later-says s e = go (partOf 1 formLine s) refl e
+unfolding laterForm holes
+later-says s e = go (scanOf formLine s) refl e
   where
-    go : (w : Part) → partOf 1 formLine s ≡ w → laterPart w ≡ true → (n : ℕ) × (rest : List ℕ) × (2 < n) × (n ≤ largest) × (filled formLine (n ∷ []) ++ rest ≡ s)
-    go (part [] rest) p q = let z : _≡_ {A = ℕ} 0 1 = cc in absurd (omega arith)
-    go (part (n ∷ []) rest) p q = let r = part-read 1 formLine s (n ∷ []) rest p in (n, rest, ltb-true 2 n q, r .0 .0, r .1)
-    go (part (n ∷ m ∷ us) rest) p q = let c = part-filled 1 formLine s (n ∷ m ∷ us) rest p .within in absurd (omega arith)
-    go (none us) p q = let z : _≡_ {A = ℕ} 0 1 = cc in absurd (omega arith)
+    go : (w : Scan) → scanOf formLine s ≡ w → laterForm w ≡ true → (n : ℕ) × (rest : List ℕ) × (2 < n) × (n ≤ largest) × (filled formLine (n ∷ []) ++ rest ≡ s)
+    go (found [] rest) p q = let z : _≡_ {A = ℕ} 0 1 = cc in absurd (omega arith)
+    go (found (n ∷ []) rest) p q = let r = scan-read formLine s (n ∷ []) rest p in (n, rest, ltb-true 2 n q, r .0 .0, r .1)
+    go (found (n ∷ m ∷ us) rest) p q = let c = scan-filled formLine s (n ∷ m ∷ us) rest p .count in absurd (omega arith)
+    go (lost us) p q = let z : _≡_ {A = ℕ} 0 1 = cc in absurd (omega arith)
 
 pub says-later : (n : ℕ) (rest : List ℕ) → 2 < n → n ≤ largest → isLater (filled formLine (n ∷ []) ++ rest) ≡ true
-unfolding partOf filledFrom holePart bytePart pushPart laterPart isDigit digitOf
+unfolding scanOf filledFrom holeThen byteThen push laterForm isDigit digitOf
 says-later n rest h k = rw (append-assoc (decimal n) (10 ∷ []) rest, word-written n (10 ∷ rest) k (omega arith)) (lt-ltb 2 n h)

@@ -12,9 +12,8 @@ use Rattle.units.specs.Numbers.{bytesOf, blocksIn}
 use Rattle.text.specs.Decimal.{largest}
 use Rattle.text.specs.Reading.{isDigit, digitOf}
 use Rattle.forms.specs.Forms.{holes, filled}
-use Rattle.forms.specs.Scanning.{part, partOf}
-use Rattle.forms.proofs.Laws.{Words}
-use Rattle.forms.proofs.Parts.{opened-part, part-written}
+use Rattle.forms.specs.Scanning.{found, scanOf}
+use Rattle.forms.proofs.Laws.{Words, opened, scan-written}
 use Rattle.record.specs.Shape.{configShapedOf, ofConfig}
 use Rattle.record.proofs.Laws.{Shaped, shaped-is}
 use Rattle.save.specs.declared.Fields.{Fields}
@@ -29,17 +28,17 @@ use Rattle.save.specs.Text.{formLine, fieldLines, fieldsOf, stateText, s
 
 pub fields-open : (form : ℕ) (f : Fields) (rs : List Run) → 9 < digitOf (filled (fieldLines form) (fieldsOf f) ++ runsText rs)
 unfolding isDigit
-fields-open form f rs = opened-part 0 (fieldLines form) (fieldsOf f) (runsText rs) (runs-open rs) refl
+fields-open form f rs = opened 0 (fieldLines form) (fieldsOf f) (runsText rs) (runs-open rs) refl
 
-pub form-part : (form : ℕ) (f : Fields) (bs : List Bool) → form ≤ largest → partOf 1 formLine (stateText form f bs) ≡ part (form ∷ []) (filled (fieldLines form) (fieldsOf f) ++ runsText (runsOf bs))
+pub form-written : (form : ℕ) (f : Fields) (bs : List Bool) → form ≤ largest → scanOf formLine (stateText form f bs) ≡ found (form ∷ []) (filled (fieldLines form) (fieldsOf f) ++ runsText (runsOf bs))
 unfolding stateText holes isDigit
-form-part form f bs h =
+form-written form f bs h =
     rw (append-assoc (filled formLine (form ∷ [])) (filled (fieldLines form) (fieldsOf f)) (runsText (runsOf bs)))
-    (part-written 1 0 formLine (form ∷ []) _ (fields-open form f (runsOf bs)) refl (omega arith) (h, tt))
+    (scan-written 0 formLine (form ∷ []) _ (fields-open form f (runsOf bs)) refl (h, tt))
 
-pub fields-part : (form : ℕ) (f : Fields) (rs : List Run) → Words (fieldsOf f) → partOf 5 (fieldLines form) (filled (fieldLines form) (fieldsOf f) ++ runsText rs) ≡ part (fieldsOf f) (runsText rs)
+pub fields-written : (form : ℕ) (f : Fields) (rs : List Run) → Words (fieldsOf f) → scanOf (fieldLines form) (filled (fieldLines form) (fieldsOf f) ++ runsText rs) ≡ found (fieldsOf f) (runsText rs)
 unfolding holes isDigit
-fields-part form f rs w = part-written 5 0 (fieldLines form) (fieldsOf f) (runsText rs) (runs-open rs) refl (omega arith) w
+fields-written form f rs w = scan-written 0 (fieldLines form) (fieldsOf f) (runsText rs) (runs-open rs) refl w
 
 pub fields-are : (f g : Fields) → f .block ≡ g .block → f .start ≡ g .start → f .region ≡ g .region → f .requested ≡ g .requested → f .usable ≡ g .usable → f .plugged ≡ g .plugged → f ≡ g
 fields-are f g o a b c d e =
@@ -94,8 +93,8 @@ module _ {f : Fields} {bs : List Bool} (s : IsState f bs) where
       rw z at (runs-apart 0 0 bs (omega arith))
 
 -- a state's text is of form 2, and goes on with its fields and its runs
-pub says-form : {s : List ℕ} {f : Fields} {bs : List Bool} → Says s f bs → partOf 1 formLine s ≡ part (2 ∷ []) (filled (fieldLines 2) (fieldsOf f) ++ runsText (runsOf bs))
-says-form {s} {f} {bs} h = ap (partOf 1 formLine) (sym (h .text)) ∙ form-part 2 f bs (omega arith)
+pub says-form : {s : List ℕ} {f : Fields} {bs : List Bool} → Says s f bs → scanOf formLine s ≡ found (2 ∷ []) (filled (fieldLines 2) (fieldsOf f) ++ runsText (runsOf bs))
+says-form {s} {f} {bs} h = ap (scanOf formLine) (sym (h .text)) ∙ form-written 2 f bs (omega arith)
 
 -- what two states have in common that have one text: all
 pub record Same (m n : ℕ) (f g : Fields) (bs cs : List Bool) : Type 0 where
@@ -105,12 +104,12 @@ pub record Same (m n : ℕ) (f g : Fields) (bs cs : List Bool) : Type 0 where
 
 pub one-state : (m n : ℕ) (f g : Fields) (bs cs : List Bool) → m ≤ largest → n ≤ largest → IsState f bs → IsState g cs → stateText m f bs ≡ stateText n g cs → Same m n f g bs cs
 one-state m n f g bs cs u v s t h =
-    let a : part (m ∷ []) (filled (fieldLines m) (fieldsOf f) ++ runsText (runsOf bs)) ≡ part (n ∷ []) (filled (fieldLines n) (fieldsOf g) ++ runsText (runsOf cs)) =
-    sym (form-part m f bs u) ∙ ap (partOf 1 formLine) h ∙ form-part n g cs v in
+    let a : found (m ∷ []) (filled (fieldLines m) (fieldsOf f) ++ runsText (runsOf bs)) ≡ found (n ∷ []) (filled (fieldLines n) (fieldsOf g) ++ runsText (runsOf cs)) =
+    sym (form-written m f bs u) ∙ ap (scanOf formLine) h ∙ form-written n g cs v in
     let i : m ≡ n = cc in
     let j : filled (fieldLines m) (fieldsOf f) ++ runsText (runsOf bs) ≡ filled (fieldLines n) (fieldsOf g) ++ runsText (runsOf cs) = cc in
-    let k : part (fieldsOf f) (runsText (runsOf bs)) ≡ part (fieldsOf g) (runsText (runsOf cs)) =
-    sym (fields-part m f (runsOf bs) (state-words s)) ∙ ap (partOf 5 (fieldLines m)) j ∙ fields-part n g (runsOf cs) (state-words t) in
+    let k : found (fieldsOf f) (runsText (runsOf bs)) ≡ found (fieldsOf g) (runsText (runsOf cs)) =
+    sym (fields-written m f (runsOf bs) (state-words s)) ∙ ap (scanOf (fieldLines m)) j ∙ fields-written n g (runsOf cs) (state-words t) in
     let l : runsText (runsOf bs) ≡ runsText (runsOf cs) = cc in
     let e = fields-are f g (state-block s ∙ sym (state-block t)) (cc) (cc) (cc) (cc) (cc) in
     let r = same-runs 0 0 (length bs) (length cs) (runsOf bs) (runsOf cs) (omega (arith, state-few s)) (omega (arith, state-few t)) (state-apart s) (state-apart t) l in

@@ -8,7 +8,7 @@ use lib.Dec.{ltb}
 use lib.ListN.{length, drop}
 use Rattle.units.specs.Numbers.{MiB}
 use Rattle.bitmap.specs.Blocks.{blocks, Outside}
-use Rattle.forms.specs.Scanning.{Part, part, none, partOf}
+use Rattle.forms.specs.Scanning.{Scan, found, lost, scanOf}
 use Rattle.runs.specs.Runs.{runsOf}
 use Rattle.runs.specs.Text.{runsText}
 use Rattle.save.specs.declared.Fields.{Fields}
@@ -23,13 +23,13 @@ use Rattle.save.specs.Text.{formLine, fieldLines, fieldsOf, IsState, Say
 -- ---- 19 before 18
 
 -- R15.5, R1.19: the text begins `form=N` and a newline with N above 2, whatever follows
-unfoldable pub laterPart : Part → Bool
-laterPart (part [] rest) = false
-laterPart (part (n ∷ us) rest) = ltb 2 n
-laterPart (none us) = false
+unfoldable pub laterForm : Scan → Bool
+laterForm (found [] rest) = false
+laterForm (found (n ∷ us) rest) = ltb 2 n
+laterForm (lost us) = false
 
 abbrev pub isLater : List ℕ → Bool
-isLater s = laterPart (partOf 1 formLine s)
+isLater s = laterForm (scanOf formLine s)
 
 -- R15.5; R1.18 for any other that is refused
 abbrev pub refusalOf : List ℕ → ℕ
@@ -47,15 +47,15 @@ pub record Refuses (s : List ℕ) (number : ℕ) : Type 0 where
 
 -- the text l, which is s from some position on, starts with the lines of the fields, or it does not; form 2 has 4 MiB of block size
 abbrev pub IsFields : (s l : List ℕ) → Head → Type 0
-IsFields s l (head.At f next) = (f .block ≡ 4 * MiB) × (partOf 5 (fieldLines 2) l ≡ part (fieldsOf f) (drop next s)) × (next ≤ length s)
-IsFields s l (head.Refused number) = (number ≡ 18) × ((us rest : List ℕ) → partOf 5 (fieldLines 2) l ≡ part us rest → ⊥)
+IsFields s l (head.At f next) = (f .block ≡ 4 * MiB) × (scanOf (fieldLines 2) l ≡ found (fieldsOf f) (drop next s)) × (next ≤ length s)
+IsFields s l (head.Refused number) = (number ≡ 18) × ((us rest : List ℕ) → scanOf (fieldLines 2) l ≡ found us rest → ⊥)
 
 -- the text from the fields on, and the fields
 pub record Heads (s : List ℕ) (f : Fields) (next : ℕ) : Type 0 where
   pub rest : List ℕ
-  pub form : partOf 1 formLine s ≡ part (2 ∷ []) rest
+  pub form : scanOf formLine s ≡ found (2 ∷ []) rest
   pub block : f .block ≡ 4 * MiB
-  pub fields : partOf 5 (fieldLines 2) rest ≡ part (fieldsOf f) (drop next s)
+  pub fields : scanOf (fieldLines 2) rest ≡ found (fieldsOf f) (drop next s)
   pub inside : next ≤ length s
 
 abbrev pub IsHead : List ℕ → Head → Type 0

@@ -9,12 +9,12 @@ use native.Mathlib.Omega.{arith}
 use borrow.Author.Tests.{le-leb, leb-true}
 use lib.Dec.{leb, eqb}
 use lib.ListN.{length, getD, take, drop}
-use Rattle.units.proofs.Tests.{and-left, and-right}
+use Rattle.units.proofs.Tests.{by-test, and-left, and-right}
 use Rattle.text.specs.Decimal.{largest}
 use Rattle.text.specs.Reading.{isDigit}
 use Rattle.forms.specs.Forms.{holes, filled}
-use Rattle.forms.specs.Scanning.{Scan, found, lost, isFound, scanOf}
-use Rattle.forms.proofs.Laws.{Words, word, taken, apart, scan-written, scan-read}
+use Rattle.forms.specs.Scanning.{numbers, scanOf, isWhole}
+use Rattle.forms.proofs.Laws.{Words, word, taken, apart, whole-written, whole-read}
 use Rattle.forms.proofs.Clash.{clash, scan-clash}
 use Rattle.units.specs.declared.Node.{Node}
 use Rattle.units.specs.declared.Node.the-variants.{None, Number}
@@ -27,7 +27,7 @@ use Rattle.trace_text.specs.declared.RangeOp.the-variants as range
 use Rattle.trace_text.specs.declared.Kind.{Kind}
 use Rattle.trace_text.specs.declared.Kind.the-variants as kind
 use Rattle.trace_text.specs.Lines.{flag, firstText, opText, textOf, nodeInRange, FirstInRange, opInRange, InRange, Reads}
-use Rattle.trace_text.specs.Reading.{formOf, firstLineOf, madeOf, numbersOf, readAs, earlier, kindOf, anyOf, kinds}
+use Rattle.trace_text.specs.Reading.{formOf, firstLineOf, madeOf, numbersOf, earlier, kindOf, anyOf, kinds}
 
 -- ---- the kinds in their order, as the code tries them
 
@@ -53,10 +53,6 @@ earlier-good Bad q h = absurd h
 
 -- ---- a line that was written is read
 
-read-lost : (k : Kind) (w : Scan) → isFound w ≡ false → readAs k w ≡ Bad
-read-lost k (lost vs) e = refl
-read-lost k (found vs) e = let z : _≡_ {A = ℕ} 0 1 = cc in absurd (omega arith)
-
 -- no text of this form is of these kinds
 clear : List Kind → List ℕ → Bool
 clear [] form = true
@@ -67,11 +63,12 @@ module _ (k : Kind) (vs : List ℕ) (line : Line)
     (m : madeOf k (numbersOf (taken 0 (holes (formOf k)) vs)) ≡ line) (g : InRange line) where
   any-written : (before after : List Kind) → clear before (formOf k) ≡ true → anyOf (before ++ k ∷ after) (filled (formOf k) vs) ≡ line
   unfolding anyOf kindOf clear
-  any-written [] after c = rw (scan-written 7 0 (formOf k) vs a h w, m) (earlier-good line (anyOf after (filled (formOf k) vs)) g)
+  any-written [] after c =
+      let r = whole-written 7 (formOf k) vs a h w in
+      rw (r .0, r .1, m) (earlier-good line (anyOf after (filled (formOf k) vs)) g)
   any-written (b ∷ bs) after c =
-      let d = scan-clash 7 0 (formOf b) (formOf k) vs (and-left (clash (formOf b) (formOf k)) (clear bs (formOf k)) c) a w in
-      rw (read-lost b (scanOf 7 (formOf b) (filled (formOf k) vs)) d)
-      (any-written bs after (and-right (clash (formOf b) (formOf k)) (clear bs (formOf k)) c))
+      let d = scan-clash 0 (formOf b) (formOf k) vs (and-left (clash (formOf b) (formOf k)) (clear bs (formOf k)) c) a w in
+      rw (d .1) (any-written bs after (and-right (clash (formOf b) (formOf k)) (clear bs (formOf k)) c))
 
 flag-read : (b : Bool) → eqb (flag b) 1 ≡ b
 flag-read true = refl
@@ -178,16 +175,16 @@ sound kind.Size us w = inr (word us 0 w, refl)
 any-read : (ks : List Kind) (s : List ℕ) → Sound (anyOf ks s) s
 unfolding anyOf kindOf
 any-read [] s = inl refl
-any-read (k ∷ ks) s = go (scanOf 7 (formOf k) s) refl (any-read ks s)
-  where
-    go : (w : Scan) → scanOf 7 (formOf k) s ≡ w → Sound (anyOf ks s) s → Sound (earlier (readAs k w) (anyOf ks s)) s
-    go (lost vs) e i = i
-    go (found us) e i =
-        let r = scan-read 7 (formOf k) s us e in
-        ⊎-elim (λ b. rw b i)
-        (λ q.
-        rw (earlier-good (madeOf k (numbersOf us)) (anyOf ks s) (q .0)) (inr (q .0, q .1 ∙ r .1)))
-        (sound k us (r .0))
+any-read (k ∷ ks) s =
+    by-test (isWhole 7 (scanOf (formOf k) s))
+    (λ e.
+    let r = whole-read 7 (formOf k) s e in
+    let us = numbers (scanOf (formOf k) s) in
+    rw e
+    (⊎-elim (λ b. rw b (any-read ks s))
+    (λ q. rw (earlier-good (madeOf k (numbersOf us)) (anyOf ks s) (q .0)) (inr (q .0, q .1 ∙ r .1)))
+    (sound k us (r .0))))
+    (λ e. rw e (any-read ks s))
 
 -- ---- the promise of `read_line`
 

@@ -7,7 +7,7 @@ use lib.Dec.{leb, eqb}
 use lib.ListN.{getD}
 use Rattle.units.specs.declared.GuestAddr.{GuestAddr}
 use Rattle.text.specs.Words.{bytes}
-use Rattle.forms.specs.Scanning.{Scan, found, lost, scanOf}
+use Rattle.forms.specs.Scanning.{Scan, numbers, scanOf, isWhole}
 use Rattle.units.specs.declared.Node.{Node}
 use Rattle.units.specs.declared.Node.the-variants.{None, Number}
 use Rattle.trace_text.specs.declared.Op.{Op}
@@ -58,10 +58,9 @@ abbrev pub numbersOf : List ℕ → Numbers
 numbersOf vs =
     record { 0 = getD vs 0 0; 1 = getD vs 1 0; 2 = getD vs 2 0; 3 = getD vs 3 0; 4 = getD vs 4 0; 5 = getD vs 5 0; 6 = getD vs 6 0 }
 
--- the line of a scan
+-- the line of a scan of the whole text
 abbrev pub readAs : Kind → Scan → Line
-readAs k (found vs) = madeOf k (numbersOf vs)
-readAs k (lost vs) = Bad
+readAs k scan = cond (isWhole 7 scan) (madeOf k (numbersOf (numbers scan))) Bad
 
 -- the first of two lines that is good
 abbrev pub earlier : Line → Line → Line
@@ -71,7 +70,7 @@ earlier Bad q = q
 
 -- the line of a text that is to fill a form
 unfoldable pub kindOf : Kind → List ℕ → List ℕ → Line
-kindOf k form s = readAs k (scanOf 7 form s)
+kindOf k form s = readAs k (scanOf form s)
 
 -- the first kind that the text is of
 unfoldable pub anyOf : List Kind → List ℕ → Line

@@ -4,13 +4,13 @@ use Prim.Native.Nat.{_-_}
 use native.Mathlib.Omega.{arith}
 use borrow.Author.Needs.{needs}
 use lib.ListN.{length, drop}
-use Rattle.forms.specs.Scanning.{partOf}
+use Rattle.forms.specs.Scanning.{scanOf}
 use Rattle.forms.proofs.Turns.{Left, begin, long, no-room, no-number, hole-turn, no-byte, other-byte, byte-turn, at-end}
 use Rattle.forms.proofs.scan_at.Statement.{statement}
 use Rattle.forms.proofs.scan_at.Tie as tie
 
 abbrev Inv-loop : tie.InvT-loop
-Inv-loop s at form values₀ i₀ j₀ k₀ values i j k = Left (partOf (length values₀) form (drop at s)) values₀ s form values i j k
+Inv-loop s at form values₀ i₀ j₀ k₀ values i j k = Left (scanOf form (drop at s)) values₀ s form values i j k
 
 abbrev μ-loop : tie.MeasureT-loop
 μ-loop s at form values₀ i₀ j₀ k₀ values i j k = length form - j

@@ -1,8 +1,6 @@
 -- SPDX-License-Identifier: Apache-2.0 AND BSD-3-Clause
 -- `runs::run_at` meets its contract.
-use Rattle.forms.proofs.Parts.{part-nowhere}
-use Rattle.runs.specs.Text.{runLine}
-use Rattle.runs.proofs.Lines.{run-found}
+use Rattle.runs.proofs.Lines.{run-found, run-nowhere}
 use borrow.Author.Needs.{needs}
 use Rattle.runs.proofs.run_at.Statement.{statement}
 use Rattle.runs.proofs.run_at.Tie as tie
@@ -23,7 +21,7 @@ enum-told : tie.Need-enum-told
 enum-told c = search needs
 
 returns : tie.Need-returns
-returns c = part-nowhere runLine _ _ (c .before .before .before .scan-at .ensures) (c .enum-told .given .1)
+returns c = run-nowhere _ (c .before .before .before .before .before .before .before .args .at) (c .before .before .before .scan-at .ensures) (c .enum-told .given .1)
 
 array-read-t13 : tie.Need-array-read-t13
 array-read-t13 c = search needs
@@ -32,7 +30,7 @@ array-read-t16 : tie.Need-array-read-t16
 array-read-t16 c = search needs
 
 returns-2 : tie.Need-returns-2
-returns-2 c = run-found _ _ (c .before .before .before .before .scan-at .ensures) _ (c .before .next .given .1)
+returns-2 c = run-found _ (c .before .before .before .before .before .before .before .before .args .at) (c .before .before .before .before .scan-at .ensures) _ (c .before .next .given .1)
 
 pub run-at-spec : {M : Type 1} → statement M
 run-at-spec =

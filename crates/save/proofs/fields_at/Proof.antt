@@ -1,9 +1,7 @@
 -- SPDX-License-Identifier: Apache-2.0 AND BSD-3-Clause
 -- `save::fields_at` meets its contract.
 use mathlib.Core.Path.{refl}
-use Rattle.forms.proofs.Parts.{part-nowhere}
-use Rattle.save.specs.Text.{fieldLines}
-use Rattle.save.proofs.Heading.{fields-found}
+use Rattle.save.proofs.Heading.{fields-found, fields-nowhere}
 use borrow.Author.Needs.{needs}
 use Rattle.save.proofs.fields_at.Statement.{statement}
 use Rattle.save.proofs.fields_at.Tie as tie
@@ -24,7 +22,7 @@ enum-told : tie.Need-enum-told
 enum-told c = search needs
 
 returns : tie.Need-returns
-returns c = (refl, part-nowhere (fieldLines 2) _ _ (c .before .before .before .scan-at .ensures) (c .enum-told .given .1))
+returns c = (refl, fields-nowhere _ (c .before .before .before .before .before .before .before .args .at) (c .before .before .before .scan-at .ensures) (c .enum-told .given .1))
 
 array-read-t14 : tie.Need-array-read-t14
 array-read-t14 c = search needs
@@ -42,7 +40,7 @@ array-read-t26 : tie.Need-array-read-t26
 array-read-t26 c = search needs
 
 returns-2 : tie.Need-returns-2
-returns-2 c = (refl, fields-found _ _ (c .before .before .before .before .scan-at .ensures) _ (c .before .next .given .1), c .before .before .before .before .scan-at .ensures .inside _ (c .before .next .given .1))
+returns-2 c = let f = fields-found _ (c .before .before .before .before .before .before .before .before .args .at) (c .before .before .before .before .scan-at .ensures) _ (c .before .next .given .1) in (refl, f .0, f .1)
 
 pub fields-at-spec : {M : Type 1} → statement M
 fields-at-spec =

@@ -1,8 +1,6 @@
 -- SPDX-License-Identifier: Apache-2.0 AND BSD-3-Clause
 -- `save::head_of` meets its contract: a law for each of its ways out.
-use Rattle.forms.proofs.Parts.{part-nowhere}
-use Rattle.save.specs.Text.{formLine}
-use Rattle.save.proofs.Heading.{form-found, head-none, head-later, head-other, head-two}
+use Rattle.save.proofs.Heading.{form-found, form-nowhere, head-none, head-later, head-other, head-two}
 use borrow.Author.Needs.{needs}
 use Rattle.save.proofs.head_of.Statement.{statement}
 use Rattle.save.proofs.head_of.Tie as tie
@@ -23,22 +21,22 @@ enum-told : tie.Need-enum-told
 enum-told c = search needs
 
 returns : tie.Need-returns
-returns c = head-none _ (part-nowhere formLine _ _ (c .before .before .before .scan-at .ensures) (c .enum-told .given .1))
+returns c = head-none _ (form-nowhere _ (c .before .before .before .scan-at .ensures) (c .enum-told .given .1))
 
 array-read-form : tie.Need-array-read-form
 array-read-form c = search needs
 
 returns-2 : tie.Need-returns-2
-returns-2 c = head-later _ _ _ (form-found _ _ (c .before .before .before .before .before .scan-at .ensures) _ (c .before .before .at .given .1)) (c .if1 .taken)
+returns-2 c = head-later _ _ _ (form-found _ (c .before .before .before .before .before .scan-at .ensures) _ (c .before .before .at .given .1)) (c .if1 .taken)
 
 returns-3 : tie.Need-returns-3
-returns-3 c = head-other _ _ _ (form-found _ _ (c .before .before .before .before .before .before .scan-at .ensures) _ (c .before .before .before .at .given .1)) (c .before .if1 .left) (c .if2 .taken)
+returns-3 c = head-other _ _ _ (form-found _ (c .before .before .before .before .before .before .scan-at .ensures) _ (c .before .before .before .at .given .1)) (c .before .if1 .left) (c .if2 .taken)
 
 fields-at-requires : tie.Need-fields-at-requires
 fields-at-requires c κs = search needs
 
 returns-4 : tie.Need-returns-4
-returns-4 c = head-two _ _ _ (form-found _ _ (c .before .before .before .before .before .before .before .scan-at .ensures) _ (c .before .before .before .before .at .given .1)) (c .before .if2 .left) (c .fields-at .result) (c .fields-at .ensures)
+returns-4 c = head-two _ _ _ (form-found _ (c .before .before .before .before .before .before .before .scan-at .ensures) _ (c .before .before .before .before .at .given .1)) (c .before .if2 .left) (c .fields-at .result) (c .fields-at .ensures)
 
 pub head-of-spec : {M : Type 1} → statement M
 head-of-spec =

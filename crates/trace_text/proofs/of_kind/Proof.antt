@@ -1,7 +1,7 @@
 -- SPDX-License-Identifier: Apache-2.0 AND BSD-3-Clause
--- `trace_text::of_kind` meets its contract: the scan is found, or lost.
-use mathlib.Core.Path.{refl}
-use Rattle.forms.proofs.Laws.{scan-found, scan-lost}
+-- `trace_text::of_kind` meets its contract: the whole text is scanned, or it is not.
+use mathlib.Core.Path.{refl, sym, _∙_}
+use Rattle.forms.proofs.Laws.{scan-stored}
 use Rattle.trace_text.specs.Reading.{kindOf}
 use borrow.Author.Needs.{needs}
 use Rattle.trace_text.proofs.of_kind.Statement.{statement}
@@ -40,16 +40,14 @@ made-requires c κs = search needs
 returns : tie.Need-returns
 unfolding kindOf
 returns c =
-    let a = c .before .before .before .before .before .before .before .args in
-    let f = scan-found (a .form .now) (a .s .now) (c .before .before .before .scan .ensures) (c .before .if1 .taken) in
-    rw (f .is, ← f .at 0 refl, ← f .at 1 refl, ← f .at 2 refl, ← f .at 3 refl, ← f .at 4 refl, ← f .at 5 refl, ← f .at 6 refl)
-    (c .made .ensures)
+    let o = c .before .before .before .scan .ensures in
+    let e = c .before .if1 .taken in
+    let f = scan-stored o e in
+    rw (sym (o .answer) ∙ e, ← f 0 refl, ← f 1 refl, ← f 2 refl, ← f 3 refl, ← f 4 refl, ← f 5 refl, ← f 6 refl) (c .made .ensures)
 
 returns-2 : tie.Need-returns-2
 unfolding kindOf
-returns-2 c =
-    let a = c .before .before .before .before .before .before .args in
-    rw (scan-lost (a .form .now) (a .s .now) (c .before .before .scan .ensures) (c .if1 .left))
+returns-2 c = rw (sym (c .before .before .scan .ensures .answer) ∙ c .if1 .left)
 
 pub of-kind-spec : {M : Type 1} → statement M
 of-kind-spec =
