@@ -103,6 +103,14 @@ pub all-at : (bs : List Bool) (f c : ℕ) (v : Bool) (i : ℕ) → allAre bs f c
 all-at bs f c v i e p q h =
     sym (range-at bs f c i p q) ∙ every-at v (range bs f c) (i - f) e (omega (arith, range-length bs f c))
 
+-- and a block that is set is a range of one block that is all set
+pub one-set : (bs : List Bool) (i : ℕ) → blockAt bs i ≡ true → allAre bs i 1 true ≡ true
+unfolding every
+one-set [] i e = absurd (let z : _≡_ {A = ℕ} 0 1 = cc in omega arith)
+one-set (true ∷ bs) zero e = refl
+one-set (false ∷ bs) zero e = absurd (let z : _≡_ {A = ℕ} 0 1 = cc in omega arith)
+one-set (b ∷ bs) (suc i) e = one-set bs i e
+
 -- of clear blocks none need exist
 pub all-clear-at : (bs : List Bool) (f c i : ℕ) → allAre bs f c false ≡ true → f ≤ i → i < f + c → blockAt bs i ≡ false
 all-clear-at bs f c i e p q =

@@ -4,17 +4,17 @@ use Prim.Native.Nat.{ℕ, zero, suc, _+_, _-_, _*_, _/_, _%_, min, _≤_, _<_}
 use mathlib.Core.Path.{_≡_, refl, sym, ap, _∙_}
 use mathlib.Core.Bool.{Bool, true, false, cond, not}
 use mathlib.Core.List.{List, [], _∷_}
-use native.Mathlib.Nat.{div-add-mod', mod-mod, zero-add, add-mod, add-mul, mul-pos, add-mul-mod-self-right, le-div-iff-mul-le}
+use native.Mathlib.Nat.{div-add-mod', mod-mod, zero-add, one-mul, add-mod, add-mul, mul-pos, mul-le-mul-right, mul-div-cancel, add-mul-mod-self-right, le-div-iff-mul-le}
 use native.Mathlib.Omega.{arith}
 use lib.Dec.{leb, ltb, eqb}
 use lib.ListN.{take, length-take}
-use borrow.Author.Tests.{lt-ltb, le-ltb, lt-leb, eq-eqb, ne-eqb, ltb-false, eqb-true, eqb-false, not-false}
+use borrow.Author.Tests.{lt-ltb, le-ltb, lt-leb, le-leb, eq-eqb, ne-eqb, ltb-false, leb-true, leb-false, eqb-true, eqb-false, not-false}
 use Rattle.units.specs.declared.RegionOffset.{RegionOffset}
 use Rattle.units.specs.declared.HostAddr.{HostAddr}
 use Rattle.units.specs.Numbers.{top, bytesOf, blocksIn, mapRegion}
 use Rattle.units.proofs.Tests.{by-test}
-use Rattle.bitmap.specs.Blocks.{range, every, allAre}
-use Rattle.bitmap.proofs.Laws.{range-end}
+use Rattle.bitmap.specs.Blocks.{blockAt, range, every, allAre}
+use Rattle.bitmap.proofs.Laws.{range-end, one-set}
 use Rattle.rows.specs.declared.MapRow.{MapRow}
 use Rattle.rows.specs.declared.Mapping.{Mapping}
 use Rattle.rows.specs.declared.Mapping.the-variants.{At as MappedAt, Unmapped as NotMapped}
@@ -24,7 +24,8 @@ use Rattle.change.specs.declared.Range.{Range}
 use Rattle.change.specs.declared.Range.the-variants.{Inside, Outside as NotInside}
 use Rattle.change.specs.declared.HostRange.{HostRange}
 use Rattle.change.specs.declared.HostRange.the-variants.{At, CrossesBorder, Unmapped, SumPasses}
-use Rattle.change.specs.declared.Change.the-variants.{Legal}
+use Rattle.change.specs.declared.Part.the-variants.{PastUsable}
+use Rattle.change.specs.declared.Change.the-variants.{Legal, Outside}
 use Rattle.change.specs.Change.{insideOf, rangeOf, hostSum, hostIn, rowOf, hostOf, legalAt, changeIn, changeOf, stateIn, stateOf}
 
 -- ---- the blocks of a range that exist, where they end at block n
@@ -198,6 +199,30 @@ block-inside b start usable block h s t k =
       offset-is = omega arith;
       in-usable = end;
     }
+
+-- a block that starts below a size of whole blocks is one of them
+block-below : (b size block : ℕ) → size % b ≡ 0 → bytesOf b block < size → block < blocksIn b size
+block-below b size block m k =
+    by-test (leb (size / b) block)
+    (λ e. let most = mul-le-mul-right b (leb-true (size / b) block e) in absurd (omega (arith, div-add-mod' size b)))
+    (λ e. leb-false (size / b) block e)
+
+-- a plugged block of the region, taken alone: of (b) and (c) the usable size is left
+pub one-plugged : (b start usable : ℕ) (several : Bool) (block : ℕ) (bs : List Bool) (rows : List MapRow) → 0 < b → start % b ≡ 0 → usable % b ≡ 0 → start + bytesOf b (suc block) ≤ top → start + usable ≤ top → blockAt bs block ≡ true
+    → changeOf b start usable several (start + bytesOf b block) 1 false bs rows ≡ cond (leb usable (bytesOf b block)) (Outside PastUsable) (legalAt b (bytesOf b block) (hostOf several rows (bytesOf b block) b))
+unfolding changeIn rangeOf insideOf
+one-plugged b start usable several block bs rows h s u t v set =
+    let offset = bytesOf b block in
+    by-test (leb usable offset)
+    (λ e.
+    let past = leb-true usable offset e in
+    let end : start + offset + bytesOf b 1 ≤ top = omega (arith, add-mul 1 block b) in
+    rw
+    (e, add-mul-mod-self-right start block b ∙ s, le-ltb top (start + offset + bytesOf b 1) end, le-ltb (start + offset) start (omega arith), le-leb (start + usable) (start + offset) (omega arith)))
+    (λ e.
+    let r = block-inside b start usable block h s v (block-below b usable block u (leb-false usable offset e)) in
+    let n : blocksIn b offset ≡ block = mul-div-cancel block h in
+    rw (e, inside-when b start usable (start + offset) 1 offset h r, n, one-set bs block set, one-mul b))
 
 -- ---- what a decision depends on: of a range that passed (b), its one row and its blocks
 pub host-same : (several : Bool) (rs ss : List MapRow) (offset size : ℕ) → rowAt rs (rowOf several offset) ≡ rowAt ss (rowOf several offset) → hostOf several rs offset size ≡ hostOf several ss offset size

@@ -1,29 +1,33 @@
 -- SPDX-License-Identifier: Apache-2.0 AND BSD-3-Clause
 -- What the ways through a request come to: each lemma takes what the code knows on a way and shows the leaf of `Step.antt` there.
-use Prim.Native.Nat.{ℕ, _+_, _≤_, _<_}
+use Prim.Native.Nat.{ℕ, suc, _+_, _≤_, _<_}
 use mathlib.Core.Path.{_≡_, refl, sym, ap, _∙_}
-use mathlib.Core.Bool.{Bool, true, false, not}
+use mathlib.Core.Bool.{Bool, true, false, cond, not}
 use mathlib.Core.List.{List, [], _∷_}
 use native.Mathlib.Omega.{arith}
 use lib.Dec.{leb, ltb}
-use borrow.Author.Tests.{lt-ltb, le-ltb, leb-true, leb-false, ne-eqb}
+use borrow.Author.Tests.{lt-ltb, le-ltb, lt-leb, le-leb, leb-true, leb-false, ne-eqb}
 use types.Run.{OneOf, miss}
 use denote.Enum.Declared.{tagOf}
 use Rattle.units.proofs.Tests.{passed, refused}
-use Rattle.units.specs.Numbers.{saturated, bytesOf, blocksIn}
+use Rattle.units.specs.Numbers.{top, bytesOf, blocksIn}
 use Rattle.units.specs.declared.RegionOffset.{RegionOffset}
 use Rattle.units.specs.declared.HostAddr.{HostAddr}
 use Rattle.bitmap.specs.declared.Found.{Found}
 use Rattle.bitmap.specs.declared.Found.the-variants.{At, Nothing as NoneSet}
-use Rattle.bitmap.specs.Blocks.{blocks, nextSet, Filled}
+use Rattle.bitmap.specs.Blocks.{blocks, blockAt, nextSet, Filled}
 use Rattle.bitmap.proofs.Laws.{next-at}
-use Rattle.units.specs.declared.GuestAddr.{GuestAddr}
 use Rattle.rows.specs.Rows.{rowsOf}
 use Rattle.rows.proofs.Words.{count}
 use Rattle.change.specs.declared.Change.{Change}
 use Rattle.change.specs.declared.Change.the-variants.{Legal, Outside, WrongState, NoHost}
+use Rattle.change.specs.declared.Part.the-variants.{PastUsable}
+use Rattle.change.specs.declared.HostRange.{HostRange}
+use Rattle.change.specs.declared.HostRange.the-variants.{At as HostAt, CrossesBorder, Unmapped, SumPasses}
 use Rattle.change.proofs.Change.{the-type as change-type}
-use Rattle.change.specs.Change.{changeOf}
+use Rattle.change.proofs.HostRange.{the-type as host-type}
+use Rattle.change.proofs.Laws.{one-plugged}
+use Rattle.change.specs.Change.{hostOf, legalAt, changeOf}
 use Rattle.wire.specs.declared.VirtioMemReq.{VirtioMemReq}
 use Rattle.wire.specs.declared.VirtioMemResp.{VirtioMemResp}
 use Rattle.record.specs.declared.Device.{Device}
@@ -89,12 +93,12 @@ unplug-error (Outside part) k w count status g = refl
 unplug-error WrongState k w count status g = refl
 unplug-error (NoHost part) k w count status g = refl
 
-one-error : (ch : Change) → OneOf others (tagOf change-type ch) → (w : World) (block status : ℕ) (g : Guest) → oneAs ch w block status g ≡ stops w status g
-unfolding oneAs
-one-error (Legal first offset host) k w block status g = absurd (miss others 0 tt k)
-one-error (Outside part) k w block status g = refl
-one-error WrongState k w block status g = refl
-one-error (NoHost part) k w block status g = refl
+one-error : (found : HostRange) → OneOf others (tagOf host-type found) → (w : World) (b offset block status : ℕ) (g : Guest) → oneAs (legalAt b offset found) w block status g ≡ stops w status g
+unfolding oneAs legalAt
+one-error (HostAt host) k w b offset block status g = absurd (miss others 0 tt k)
+one-error CrossesBorder k w b offset block status g = refl
+one-error Unmapped k w b offset block status g = refl
+one-error SumPasses k w b offset block status g = refl
 
 module _ (d : Device) (bitmap table : List ℕ) (shape : shapedOf d ≡ true) (status : ℕ) (g : Guest) (s : Answered) where
   module _ (addr count : ℕ) (ch : Change) (ch-is : ch ≡ changeOf (d .config .«block_size») (d .config .addr .0) (d .config .«usable_region_size») (d .several) addr count false (blocks bitmap) (rowsOf table)) where
@@ -118,26 +122,37 @@ module _ (d : Device) (bitmap table : List ℕ) (shape : shapedOf d ≡ true) (s
           let fits : ltb (d .config .«plugged_size») (bytesOf (d .config .«block_size») count) ≡ false = rw (← size-is) (le-ltb (d .config .«plugged_size») size h) in
           rw (same-change, legal, fits) (answers _ _ (rw size-is at e) refl refl)
 
-  -- one block of an unplug-all
-  module _ (block : ℕ) (inside : block < blocksIn (d .config .«block_size») (d .config .«region_size»)) (offset : RegionOffset) (offset-is : offset .0 ≡ saturated (bytesOf (d .config .«block_size») block)) (addr : GuestAddr) (addr-is : addr .0 ≡ saturated (d .config .addr .0 + offset .0))
-      (ch : Change) (ch-is : ch ≡ changeOf (d .config .«block_size») (d .config .addr .0) (d .config .«usable_region_size») (d .several) (addr .0) 1 false (blocks bitmap) (rowsOf table)) where
-    same-block : changing (worldOf d bitmap table) (d .config .addr .0 + bytesOf (d .config .«block_size») block) 1 false ≡ ch
-    same-block =
+  -- one plugged block of an unplug-all: past the test of the usable size, (d) decides
+  module _ (block : ℕ) (inside : block < blocksIn (d .config .«block_size») (d .config .«region_size»)) (set : blockAt (blocks bitmap) block ≡ true) where
+    one-change : changing (worldOf d bitmap table) (d .config .addr .0 + bytesOf (d .config .«block_size») block) 1 false
+        ≡ cond (leb (d .config .«usable_region_size») (bytesOf (d .config .«block_size») block)) (Outside PastUsable)
+        (legalAt (d .config .«block_size») (bytesOf (d .config .«block_size») block) (hostOf (d .several) (rowsOf table) (bytesOf (d .config .«block_size») block) (d .config .«block_size»)))
+    one-change =
         let h = shaped-is d shape in
-        let i : block < blocksIn 4194304 (d .config .«region_size») = rw (h .block-size) at inside in
-        let o : offset .0 ≡ saturated (bytesOf 4194304 block) = rw (h .block-size) at offset-is in
-        let a : addr .0 ≡ d .config .addr .0 + bytesOf 4194304 block = omega arith in
-        let a′ : addr .0 ≡ d .config .addr .0 + bytesOf (d .config .«block_size») block = rw (h .block-size) a in
-        rw (← a′, ← ch-is)
+        let e = h .block-size in
+        let i : block < blocksIn 4194304 (d .config .«region_size») = rw e at inside in
+        let end : d .config .addr .0 + bytesOf 4194304 (suc block) ≤ top = omega (arith, h .start-region) in
+        one-plugged (d .config .«block_size») (d .config .addr .0) (d .config .«usable_region_size») (d .several) block (blocks bitmap) (rowsOf table)
+        (omega arith) (rw e (h .start-blocks)) (rw e (h .usable-blocks)) (rw e end) (omega (arith, h .start-region, h .usable-in)) set
 
-    pub one-errs : {bytes : List ℕ} → OneOf others (tagOf change-type ch) → (d′ : Device) → d′ ≡ pendingTo Nothing d → Responded g status error d′ s bytes → Gives (unplugOne (worldOf d bitmap table) block status g) (lent bitmap table (g .mem)) (lent bitmap table bytes) s
-    one-errs k d′ same p = rw (same-block, one-error ch k (worldOf d bitmap table) block status g) (serves g status _ bitmap (rw same at p) refl refl)
-
-    pub one-asks : (first : ℕ) (at : RegionOffset) (host : HostAddr) → ch ≡ Legal first at host → s ≡ asked d (DiscardOne block (record { 0 = status })) at (d .config .«block_size») host → Gives (unplugOne (worldOf d bitmap table) block status g) (lent bitmap table (g .mem)) (lent bitmap table (g .mem)) s
+    pub one-past : {bytes : List ℕ} → d .config .«usable_region_size» ≤ bytesOf (d .config .«block_size») block → (d′ : Device) → d′ ≡ pendingTo Nothing d → Responded g status error d′ s bytes → Gives (unplugOne (worldOf d bitmap table) block status g) (lent bitmap table (g .mem)) (lent bitmap table bytes) s
     unfolding oneAs
-    one-asks first at host legal e =
-        let same : d .config .«block_size» ≡ bytesOf (d .config .«block_size») 1 = omega arith in
-        rw (same-block, legal) (answers _ _ (e ∙ ap (λ n. asked d (DiscardOne block (record { 0 = status })) at n host) same) refl refl)
+    one-past k d′ same p =
+        rw (one-change, le-leb (d .config .«usable_region_size») (bytesOf (d .config .«block_size») block) k) (serves g status _ bitmap (rw same at p) refl refl)
+
+    module _ (usable : bytesOf (d .config .«block_size») block < d .config .«usable_region_size») (found : HostRange) (found-is : found ≡ hostOf (d .several) (rowsOf table) (bytesOf (d .config .«block_size») block) (d .config .«block_size»)) where
+      by-host : changing (worldOf d bitmap table) (d .config .addr .0 + bytesOf (d .config .«block_size») block) 1 false ≡ legalAt (d .config .«block_size») (bytesOf (d .config .«block_size») block) found
+      by-host = rw (one-change, lt-leb (d .config .«usable_region_size») (bytesOf (d .config .«block_size») block) usable, ← found-is)
+
+      pub one-errs : {bytes : List ℕ} → OneOf others (tagOf host-type found) → (d′ : Device) → d′ ≡ pendingTo Nothing d → Responded g status error d′ s bytes → Gives (unplugOne (worldOf d bitmap table) block status g) (lent bitmap table (g .mem)) (lent bitmap table bytes) s
+      one-errs k d′ same p =
+          rw (by-host, one-error found k (worldOf d bitmap table) (d .config .«block_size») (bytesOf (d .config .«block_size») block) block status g) (serves g status _ bitmap (rw same at p) refl refl)
+
+      pub one-asks : (host : HostAddr) → found ≡ HostAt host → s ≡ asked d (DiscardOne block (record { 0 = status })) (record { 0 = bytesOf (d .config .«block_size») block }) (d .config .«block_size») host → Gives (unplugOne (worldOf d bitmap table) block status g) (lent bitmap table (g .mem)) (lent bitmap table (g .mem)) s
+      unfolding oneAs legalAt
+      one-asks host legal e =
+          let same : d .config .«block_size» ≡ bytesOf (d .config .«block_size») 1 = omega arith in
+          rw (by-host, legal) (answers _ _ (e ∙ ap (λ n. asked d (DiscardOne block (record { 0 = status })) (record { 0 = bytesOf (d .config .«block_size») block }) n host) same) refl refl)
 
   -- the next block of an unplug-all
   module _ (from last : ℕ) (last-is : last ≡ blocksIn (d .config .«block_size») (d .config .«region_size»)) (found : Found) (found-is : found ≡ nextSet (blocks bitmap) from last) where
@@ -152,9 +167,20 @@ module _ (d : Device) (bitmap table : List ℕ) (shape : shapedOf d ≡ true) (s
     unfolding nextAs
     all-goes-on block e m = rw (same-found, e) m
 
--- the block that an unplug-all finds is one of the region
+-- the block that an unplug-all finds is one of the region, and plugged
 pub block-inside : (b region from last : ℕ) (bs : List Bool) {found : Found} (block : ℕ) → last ≡ blocksIn b region → found ≡ nextSet bs from last → found ≡ At block → block < blocksIn b region
 block-inside b region from last bs block last-is found-is e = rw last-is at (next-at true bs from last block (sym found-is ∙ e) .before-end)
+
+-- and where it starts fits
+pub block-fits : (d : Device) → shapedOf d ≡ true → (block : ℕ) → block < blocksIn (d .config .«block_size») (d .config .«region_size») → bytesOf (d .config .«block_size») block ≤ top
+block-fits d shape block inside =
+    let h = shaped-is d shape in
+    let i : block < blocksIn 4194304 (d .config .«region_size») = rw (h .block-size) at inside in
+    let fits : bytesOf 4194304 block ≤ top = omega (arith, h .region-top) in
+    rw (h .block-size) fits
+
+pub block-plugged : (bs : List Bool) (from last : ℕ) {found : Found} (block : ℕ) → found ≡ nextSet bs from last → found ≡ At block → blockAt bs block ≡ true
+block-plugged bs from last block found-is e = next-at true bs from last block (sym found-is ∙ e) .found
 
 module _ (w : World) (req : VirtioMemReq) (status : ℕ) (g : Guest) where
   pub serve-plug : req .«req_type» ≡ 0 → serve w req status g ≡ plug w (req .addr .0) (req .«nb_blocks») status g

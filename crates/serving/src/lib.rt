@@ -6,8 +6,10 @@ use bitmap::set_range;
 use chain::Parsed;
 use chain::parse;
 use change::Change;
+use change::HostRange;
 use change::Range;
 use change::change_of;
+use change::host_of;
 use change::range_of;
 use change::state_of;
 use record::Device;
@@ -44,6 +46,7 @@ ghost use Rattle.step.specs.Step.{served, plug as plugOf, unplug as unplugOf, u
 ghost use Rattle.step.specs.Step.{stateType, stateResp, creates, coveredBy, hostAnswer, respond as respondOf};
 ghost use Rattle.step.specs.Promise.{lent, Gives, Steps, Does, requestOn, answerOn};
 ghost use Rattle.units.specs.Numbers.{blocksIn};
+ghost use Rattle.bitmap.specs.Blocks.{blocks, blockAt};
 
 // The types of a response.
 const ACK: u16 = 0;
@@ -201,7 +204,8 @@ fn unplug(
     asked(d, pending, offset, size, host)
 }
 
-// One block of an unplug-all, which asks without a look at the plugged size.
+// One plugged block of an unplug-all, which asks without a look at the plugged size. It is whole and in the region, so of
+// the tests (b) and (c) the usable size is left.
 fn unplug_one(
     d: Device,
     bitmap: &[u8],
@@ -211,28 +215,22 @@ fn unplug_one(
     block: u64,
     status: GuestAddr,
 ) -> Answered
-    requires { ⌜ (shapedOf d ≡ true) × (block < blocksIn (d .config .«block_size») (d .config .«region_size»)) ⌝ }
+    requires { ⌜
+        (shapedOf d ≡ true) × (block < blocksIn (d .config .«block_size») (d .config .«region_size»)) ×
+        (blockAt (blocks (now bitmap)) block ≡ true)
+        ⌝ }
     ensures { λ r. ⌜
         Does (λ w. unplugOne w block (status .0)) d base
         (lent (now (bitmap .entry)) (now (table .entry)) (now (mem .entry)))
         (lent (now (bitmap .entry)) (now (table .entry)) (now (mem .exit))) r
         ⌝ }
 {
-    let start = d.config.addr;
-    let usable = d.config.usable_region_size;
     let block_size = d.config.block_size;
-    let addr = RegionOffset::of_block(block, block_size).guest_from(start);
-    let Change::Legal(_, offset, host) = change_of(
-        start,
-        usable,
-        block_size as u32,
-        d.several,
-        addr,
-        1,
-        false,
-        bitmap,
-        table,
-    ) else {
+    let offset = RegionOffset(block * block_size);
+    if d.config.usable_region_size <= offset.0 {
+        return ended(pending_to(d, Pending::Nothing), mem, base, status, ERROR);
+    }
+    let HostRange::At(host) = host_of(d.several, table, offset, block_size) else {
         return ended(pending_to(d, Pending::Nothing), mem, base, status, ERROR);
     };
     let pending = Pending::DiscardOne {

@@ -1,6 +1,6 @@
 -- SPDX-License-Identifier: Apache-2.0 AND BSD-3-Clause
 -- `serving::unplug_all` meets its contract: the search goes on from `from`, and where it finds nothing the unplug-all ends.
-use Rattle.serving.proofs.Ways.{block-inside, all-ends, all-goes-on}
+use Rattle.serving.proofs.Ways.{block-inside, block-plugged, all-ends, all-goes-on}
 use borrow.Author.Needs.{needs}
 use Rattle.serving.proofs.unplug_all.Statement.{statement}
 use Rattle.serving.proofs.unplug_all.Tie as tie
@@ -33,7 +33,7 @@ returns : tie.Need-returns
 returns c = all-ends _ _ _ (c .before .before .before .before .before .before .before .before .before .before .before .before .before .pre) _ _ _ _ _ (c .before .before .before .before .before .before .before .before .before .blocks-in .ensures) _ (c .before .before .before .before .before .before .before .before .next-set .ensures) (c .before .before .before .before .before .before .enum-told .given .1) _ _ (c .before .before .before .before .before .plugged-to .ensures) (c .before .before .before .before .pending-to .ensures) (c .before .before .ended .ensures)
 
 unplug-one-requires : tie.Need-unplug-one-requires
-unplug-one-requires c κs = (c .before .before .before .before .before .before .before .before .before .pre, block-inside _ _ _ _ _ _ (c .before .before .before .before .before .blocks-in .ensures) (c .before .before .before .before .next-set .ensures) (c .before .before .block .given .1))
+unplug-one-requires c κs = (c .before .before .before .before .before .before .before .before .before .pre, block-inside _ _ _ _ _ _ (c .before .before .before .before .before .blocks-in .ensures) (c .before .before .before .before .next-set .ensures) (c .before .before .block .given .1), block-plugged _ _ _ _ (c .before .before .before .before .next-set .ensures) (c .before .before .block .given .1))
 
 same-length-2 : tie.Need-same-length-2
 same-length-2 c = search needs
