@@ -63,7 +63,7 @@ fn inside_of(start: GuestAddr, usable: u64, addr: GuestAddr, size: u64) -> Range
     if usable <= offset.0 {
         return Range::Outside(Part::PastUsable);
     }
-    if !sum_within(offset.0, size, usable) {
+    if usable - offset.0 < size {
         return Range::Outside(Part::EndPastUsable);
     }
     Range::Inside(offset)
@@ -109,11 +109,11 @@ fn host_sum(host: HostAddr, offset: RegionOffset, size: u64) -> HostRange
     if !sum_within(host.0, offset.0, u64::MAX) {
         return HostRange::SumPasses;
     }
-    let at = offset.host_from(host);
-    if !sum_within(at.0, size, u64::MAX) {
+    let at = host.0 + offset.0;
+    if !sum_within(at, size, u64::MAX) {
         return HostRange::SumPasses;
     }
-    HostRange::At(at)
+    HostRange::At(HostAddr(at))
 }
 
 // A range at an offset from where a row is mapped.

@@ -144,6 +144,7 @@ fn several_ok(several: bool, region: u64) -> bool
 
 // The blocks and rows of a pending call lie inside the region, and an unplug is at most the plugged size (R3.8).
 fn pending_ok(pending: Pending, block_size: u64, region: u64, several: bool, plugged: u64) -> bool
+    requires { ⌜ 0 < «block_size» ⌝ }
     ensures { λ r. ⌜ r ≡ pendingOk pending «block_size» region several plugged ⌝ }
 {
     match pending {
@@ -155,7 +156,7 @@ fn pending_ok(pending: Pending, block_size: u64, region: u64, several: bool, plu
             status: _,
         } => {
             sum_within(first, count, MemTool::blocks_in(region, block_size))
-                & product_within(count, block_size, plugged)
+                & (count <= MemTool::blocks_in(plugged, block_size))
         }
         Pending::DiscardOne { block, status: _ } => block < MemTool::blocks_in(region, block_size),
     }
@@ -170,6 +171,7 @@ fn rest_ok(
     pending: Pending,
     plugged: u64,
 ) -> bool
+    requires { ⌜ 0 < «block_size» ⌝ }
     ensures { λ r. ⌜ r ≡ restOk «block_size» start region several pending plugged ⌝ }
 {
     span_within(start, region, several)

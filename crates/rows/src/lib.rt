@@ -1,5 +1,6 @@
 // SPDX-License-Identifier: Apache-2.0 AND BSD-3-Clause
-// The lent map table, one row for each map region (R8.3). Only `rows_in`, `row_at` and `put_row` speak of words.
+// The lent map table, one row for each map region (R8.3). Only `rows_in`, `row_at`, `put_row` and who counts a row's words
+// by `ROW_WORDS` speak of words.
 use units::HostAddr;
 use units::RegionOffset;
 ghost use mathlib.Core.Path.{_≡_};
@@ -8,12 +9,15 @@ ghost use lib.ListN.{length, set};
 ghost use Rattle.rows.specs.Rows.{rowsIn, rowsOf, written, filledTable, laidTable};
 ghost use Rattle.rows.specs.Rows.{rowAt, mappingOf, firstUnmapped};
 
-// A row's three words (R8.3). Mapped is 0 for no and anything else for yes.
+// A row's words (R8.3). Mapped is 0 for no and anything else for yes.
 pub struct MapRow {
     pub slot: u64,
     pub mapped: u64,
     pub host: HostAddr,
 }
+
+// How many words a row is.
+pub const ROW_WORDS: u64 = 3;
 
 // Whether a map region is mapped, and where.
 pub enum Mapping {
@@ -31,7 +35,7 @@ pub enum FirstUnmapped {
 pub fn rows_in(words: usize) -> u64
     ensures { λ r. ⌜ r ≡ rowsIn words ⌝ }
 {
-    words as u64 / 3
+    words as u64 / ROW_WORDS
 }
 
 // How many rows the table holds.

@@ -8,7 +8,7 @@ use record::is_idle;
 use record::shaped;
 use resize::grown_size;
 use resize::new_size;
-use rows::rows_in;
+use rows::ROW_WORDS;
 use units::GuestAddr;
 use units::MemTool;
 use units::map_regions;
@@ -69,7 +69,7 @@ pub fn tables_fit(d: Device, bytes: usize, words: usize) -> bool
     let region = d.config.region_size;
     let needed = bytes_for(region, d.config.block_size);
     let rows = map_regions(region, d.several);
-    (needed <= bytes as u64) & (rows <= rows_in(words))
+    (needed <= bytes as u64) & (rows * ROW_WORDS <= words as u64)
 }
 
 // Why a request or a size change is refused, or 0.

@@ -25,9 +25,6 @@ pub enum Node {
 // Boot memory from which on the guest uses large memory blocks.
 const BOOT_MEM_SIZE_FOR_LARGE_BLOCK: u64 = 64 * MemTool::GIB;
 
-// 2^32: two numbers below it have a product that fits 64 bits.
-const HALF: u64 = 1 << 32;
-
 // The sizes stay with `MemTool`, as in mem.rs.
 pub struct MemTool {}
 
@@ -74,13 +71,6 @@ impl GuestAddr {
 }
 
 impl RegionOffset {
-    // Where a block starts, saturating at 2^64 - 1.
-    pub fn of_block(block: u64, block_size: u64) -> RegionOffset
-        ensures { λ r. ⌜ r .0 ≡ saturated (bytesOf «block_size» block) ⌝ }
-    {
-        RegionOffset(saturating_mul(block, block_size))
-    }
-
     // Where a map region starts, saturating at 2^64 - 1.
     pub fn of_map_region(row: u64) -> RegionOffset
         ensures { λ r. ⌜ r .0 ≡ saturated (row * mapRegion) ⌝ }
@@ -154,13 +144,10 @@ pub fn sum_within(a: u64, b: u64, limit: u64) -> bool
     a <= limit - b
 }
 
-// Whether a * b is at most `limit`, as numbers without end: a product is made only where it fits.
+// Whether a * b is at most `limit`, as numbers without end: no product is made.
 pub fn product_within(a: u64, b: u64, limit: u64) -> bool
     ensures { λ r. ⌜ r ≡ leb (a * b) limit ⌝ }
 {
-    if (a < HALF) & (b < HALF) {
-        return a * b <= limit;
-    }
     if b == 0 {
         return true;
     }

@@ -3,8 +3,6 @@
 use Prim.Native.Nat.{_+_}
 use native.Mathlib.Omega.{arith}
 use borrow.Author.Tests.{lt-ltb, le-ltb}
-use mathlib.Core.Path.{_≡_, _∙_}
-use Rattle.units.proofs.Laws.{saturated-fits}
 use Rattle.units.specs.Numbers.{top}
 use Rattle.change.specs.Change.{hostSum}
 use borrow.Author.Needs.{needs}
@@ -22,8 +20,11 @@ returns c =
     let p = sum-past (a .host .0 + a .offset .0) top _ (c .before .sum-within .ensures) (c .if1 .taken) in
     simp (lt-ltb top (a .host .0 + a .offset .0 + a .size) (omega arith))
 
-host-from-requires : tie.Need-host-from-requires
-host-from-requires c κs = search needs
+add-at : tie.Need-add-at
+add-at c =
+    let a = c .before .before .before .before .args in
+    let p = sum-within (a .host .0 + a .offset .0) top _ (c .before .before .before .sum-within .ensures) (c .before .before .if1 .left) in
+    omega arith
 
 sum-within-requires-2 : tie.Need-sum-within-requires-2
 sum-within-requires-2 c κs = search needs
@@ -31,28 +32,18 @@ sum-within-requires-2 c κs = search needs
 returns-2 : tie.Need-returns-2
 unfolding hostSum
 returns-2 c =
-    let a = c .before .before .before .before .before .args in
-    let p = sum-within (a .host .0 + a .offset .0) top _ (c .before .before .before .before .sum-within .ensures) (c .before .before .before .if1 .left) in
-    let e = c .before .before .host-from .ensures in
-    let q = sum-past (c .before .before .host-from .result .0 + a .size) top _ (c .before .sum-within2 .ensures) (c .if2 .taken) in
-    simp (lt-ltb top (a .host .0 + a .offset .0 + a .size) (omega arith))
+    let a = c .before .before .before .before .before .before .args in
+    let p = sum-past (a .host .0 + a .offset .0 + a .size) top _ (c .before .sum-within2 .ensures) (c .if2 .taken) in
+    simp (lt-ltb top (a .host .0 + a .offset .0 + a .size) p)
 
 returns-3 : tie.Need-returns-3
 unfolding hostSum
 returns-3 c =
-    let a = c .before .before .before .before .before .args in
-    let p = sum-within (a .host .0 + a .offset .0) top _ (c .before .before .before .before .sum-within .ensures) (c .before .before .before .if1 .left) in
-    let e : c .before .before .host-from .result .0 ≡ a .host .0 + a .offset .0 = c .before .before .host-from .ensures ∙ saturated-fits p in
-    let q = sum-within (c .before .before .host-from .result .0 + a .size) top _ (c .before .sum-within2 .ensures) (c .if2 .left) in
-    simp (le-ltb top (a .host .0 + a .offset .0 + a .size) (omega arith), ← e)
+    let a = c .before .before .before .before .before .before .args in
+    let p = sum-within (a .host .0 + a .offset .0 + a .size) top _ (c .before .sum-within2 .ensures) (c .if2 .left) in
+    simp (le-ltb top (a .host .0 + a .offset .0 + a .size) p)
 
 pub host-sum-spec : {M : Type 1} → statement M
 host-sum-spec =
     tie.close
-    (tie.spec
-    sum-within-requires
-    returns
-    host-from-requires
-    sum-within-requires-2
-    returns-2
-    returns-3)
+    (tie.spec sum-within-requires returns add-at sum-within-requires-2 returns-2 returns-3)

@@ -5,7 +5,6 @@ use native.Mathlib.Omega.{arith}
 use borrow.Author.Needs.{needs}
 use borrow.Author.Tests.{lt-ltb, le-ltb, le-leb, lt-leb}
 use Rattle.change.specs.Change.{insideOf}
-use Rattle.change.proofs.Ends.{sum-within, sum-past}
 use Rattle.change.proofs.inside_of.Statement.{statement}
 use Rattle.change.proofs.inside_of.Tie as tie
 
@@ -23,15 +22,14 @@ returns-2 c =
     simp
     (le-ltb (a .addr .0) (a .start .0) (omega arith), le-leb (a .start .0 + a .usable) (a .addr .0) (omega (arith, c .before .before .offset-from .ensures)))
 
-sum-within-requires : tie.Need-sum-within-requires
-sum-within-requires c κs = search needs
+sub-if3 : tie.Need-sub-if3
+sub-if3 c = search needs
 
 returns-3 : tie.Need-returns-3
 unfolding insideOf
 returns-3 c =
     let a = c .before .before .before .before .before .before .before .before .args in
     let e = c .before .before .before .before .offset-from .ensures in
-    let p = sum-past (c .before .before .before .before .offset-from .result .0 + a .size) (a .usable) _ (c .before .sum-within .ensures) (c .if3 .taken) in
     simp
     (le-ltb (a .addr .0) (a .start .0) (omega arith), lt-leb (a .start .0 + a .usable) (a .addr .0) (omega arith), lt-ltb (a .start .0 + a .usable) (a .addr .0 + a .size) (omega arith))
 
@@ -40,11 +38,9 @@ unfolding insideOf
 returns-4 c =
     let a = c .before .before .before .before .before .before .before .before .args in
     let e = c .before .before .before .before .offset-from .ensures in
-    let p = sum-within (c .before .before .before .before .offset-from .result .0 + a .size) (a .usable) _ (c .before .sum-within .ensures) (c .if3 .left) in
     simp
     (le-ltb (a .addr .0) (a .start .0) (omega arith), lt-leb (a .start .0 + a .usable) (a .addr .0) (omega arith), le-ltb (a .start .0 + a .usable) (a .addr .0 + a .size) (omega arith), ← e)
 
 pub inside-of-spec : {M : Type 1} → statement M
 inside-of-spec =
-    tie.close
-    (tie.spec returns offset-from-requires returns-2 sum-within-requires returns-3 returns-4)
+    tie.close (tie.spec returns offset-from-requires returns-2 sub-if3 returns-3 returns-4)

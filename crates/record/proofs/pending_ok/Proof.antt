@@ -1,5 +1,10 @@
 -- SPDX-License-Identifier: Apache-2.0 AND BSD-3-Clause
--- `record::pending_ok` meets its contract: each arm is one row of `pendingOk`.
+-- `record::pending_ok` meets its contract: each arm is one row of `pendingOk`; a count is counted against the whole blocks of the plugged size.
+use Prim.Native.Nat.{_*_, _/_}
+use mathlib.Core.Path.{_≡_}
+use native.Mathlib.Nat.{le-div-iff-mul-le}
+use lib.Dec.{leb}
+use Rattle.units.proofs.Tests.{leb-same}
 use Rattle.record.specs.Shape.{pendingOk}
 use borrow.Author.Needs.{needs}
 use Rattle.record.proofs.pending_ok.Statement.{statement}
@@ -23,14 +28,14 @@ blocks-in-requires c κs = search needs
 sum-within-requires : tie.Need-sum-within-requires
 sum-within-requires c κs = search needs
 
-product-within-requires : tie.Need-product-within-requires
-product-within-requires c κs = search needs
+blocks-in-requires-2 : tie.Need-blocks-in-requires-2
+blocks-in-requires-2 c κs = search needs
 
 enum-known-pending-3 : tie.Need-enum-known-pending-3
 enum-known-pending-3 c = search needs
 
-blocks-in-requires-2 : tie.Need-blocks-in-requires-2
-blocks-in-requires-2 c κs = search needs
+blocks-in-requires-3 : tie.Need-blocks-in-requires-3
+blocks-in-requires-3 c κs = search needs
 
 returns : tie.Need-returns
 unfolding pendingOk
@@ -42,7 +47,12 @@ returns-2 c = rw (c .before .before .pending .given .1) (cc)
 
 returns-3 : tie.Need-returns-3
 unfolding pendingOk
-returns-3 c = rw (c .before .before .before .before .pending2 .given .1) (cc)
+returns-3 c =
+    let a = c .before .before .before .before .before .before .args in
+    let count = c .before .before .before .before .pending2 .given .0 .1 .0 in
+    let whole = le-div-iff-mul-le {x = count} {y = a .plugged} (c .before .before .before .before .before .before .pre) in
+    let same : leb count (a .plugged / a .block-size) ≡ leb (count * a .block-size) (a .plugged) = leb-same count (a .plugged / a .block-size) (count * a .block-size) (a .plugged) (whole .0) (whole .1) in
+    rw (c .before .before .before .before .pending2 .given .1, ← same) (cc)
 
 returns-4 : tie.Need-returns-4
 unfolding pendingOk
@@ -58,9 +68,9 @@ pending-ok-spec =
     enum-known-pending-2
     blocks-in-requires
     sum-within-requires
-    product-within-requires
-    enum-known-pending-3
     blocks-in-requires-2
+    enum-known-pending-3
+    blocks-in-requires-3
     returns
     returns-2
     returns-3
