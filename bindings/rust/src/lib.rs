@@ -42,6 +42,7 @@
 use std::fmt;
 
 pub mod driver;
+pub mod guest;
 mod queue;
 pub mod save;
 mod sys;

@@ -22,8 +22,13 @@ pub const PENDING_CREATE: u64 = 1;
 pub const PENDING_DISCARD: u64 = 2;
 pub const PENDING_DISCARD_ONE: u64 = 3;
 
-/// The kind of answer, word 0, that says that the available ring has no head.
+/// Kinds of an answer, word 0: the host is to discard, the request has ended, the available ring has no head.
+pub const KIND_DISCARD: u64 = 2;
+pub const KIND_SERVED: u64 = 5;
 pub const KIND_EMPTY: u64 = 7;
+
+/// The word of an answer that has the used length.
+pub const ANSWER_LENGTH: usize = 7;
 
 /// The functions as C has them.
 mod c {

@@ -1,0 +1,628 @@
+// SPDX-License-Identifier: Apache-2.0 AND BSD-3-Clause
+//! Serving a guest that runs: guest memory that vCPUs write at any time, in several regions.
+//!
+//! [`Device::serve_guest`] and [`Device::serve_guest_answer`] are [`Device::serve`] and [`Device::serve_answer`] for
+//! such memory: a [`GuestMemory`], as [`Regions`] is one. They copy what a call reads into a private memory, each byte
+//! once, call the proved function on that, and copy back what it has written.
+//!
+//! ```
+//! use jambcopper::driver::Request;
+//! use jambcopper::guest::{GuestMemory, Regions};
+//! use jambcopper::{Answer, Device, Error, HostAnswer, Queue};
+//! # let mut device = Device::new(256, 16, false, None, 1 << 30)?;
+//! # device.place(1 << 32, 256 << 20, &[1])?;
+//! # device.host_answer(&mut [], 0, HostAnswer::Created(0x7fff_0000_0000))?;
+//!
+//! // Two regions with a hole between them. A host has them from mmap.
+//! let (mut low, mut high) = (vec![0u64; 512], vec![0u64; 512]);
+//! let mut mem = Regions::new();
+//! // SAFETY: both stay where they are as long as `mem` is used, and nothing else touches them but as guest memory.
+//! unsafe {
+//!     mem.add(1 << 30, low.as_mut_ptr().cast(), 4096).unwrap();
+//!     mem.add(3 << 30, high.as_mut_ptr().cast(), 4096).unwrap();
+//! }
+//!
+//! // The guest has its queue in the low region, and a request and the room for its response in the high one.
+//! let (table, available, used) = (1 << 30, (1 << 30) + 2048, (1 << 30) + 2312);
+//! let (request, response) = (3 << 30, (3 << 30) + 24);
+//! let mut queue = Queue::new(table, available, used);
+//! let descriptor = |addr: u64, length: u32, flags: u16, next: u16| {
+//!     [&addr.to_le_bytes()[..], &length.to_le_bytes(), &flags.to_le_bytes(), &next.to_le_bytes()].concat()
+//! };
+//! mem.write(table, &descriptor(request, 24, 1, 1));
+//! mem.write(table + 16, &descriptor(response, 10, 2, 0));
+//! mem.write(request, &Request::plug(1 << 32, 2).to_bytes());
+//! mem.write_index(available + 2, 1);
+//!
+//! while let Some(mut answer) = device.serve_guest(&mut queue, &mem)? {
+//!     while let Answer::Wants(_) = answer {
+//!         // The host gives back the memory that is named, and says so.
+//!         answer = device.serve_guest_answer(&mut queue, &mem, HostAnswer::Discarded)?;
+//!     }
+//!     // The request has ended and its head is in the used ring: here the host notifies the guest.
+//! }
+//! assert_eq!((mem.read_index(used + 2), device.plugged_size()), (Some(1), 8 << 20));
+//! # Ok::<(), Error>(())
+//! ```
+//!
+//! # What is read, and what is written
+//!
+//! [`Device::serve_guest`] reads, in this order and each of them once:
+//!
+//! 1. the available ring's index, one access where it lies at an even address, with an acquire fence behind it, so that
+//!    what the guest wrote before it is seen;
+//! 2. the ring's next entry, where the index is 1 to 128 ahead;
+//! 3. the descriptor of that head;
+//! 4. the 24 bytes of the request, where that descriptor is of a request;
+//! 5. the descriptor behind it, where the request is inside and the first names one that is not itself.
+//!
+//! Where the request has ended, the 10 bytes of the response are written, then the 8 of the used element, then, behind
+//! a release fence, the used ring's index, one access where it lies at an even address. Nothing else is written.
+//! [`Device::serve_guest_answer`] reads nothing and writes the same. A refused call writes nothing and changes nothing.
+//!
+//! # Why the guest cannot bring about another result
+//!
+//! All that is proved is proved of a slice that nobody else writes during a call. Here that slice is the private memory,
+//! which no guest knows, and it is whole before the proved function is called. So whatever the guest writes meanwhile,
+//! the result is the proved function's on the bytes that were read: what the guest has changed behind a read is not
+//! seen in this call, and what it has changed before one is as if it had always been there. The proved function only
+//! writes what is copied back, and reads nothing that it or anyone has written meanwhile. Where a guest lets two things
+//! lie on one byte, as a request on its ring, the byte is read once for each, and may be another each time; in the
+//! private memory these are two bytes.
+//!
+//! What is assumed: that memory which [`GuestMemory::contains`] has named stays guest memory until the call returns; and
+//! the translation, which is this:
+//!
+//! - The rings and the descriptor table have places of their own in the private memory, and so have the request and the
+//!   response: the private addresses of these stand in the copies of the queue's words and of the two descriptors.
+//!   Index, heads, flags, lengths and links are the guest's.
+//! - What is not wholly inside guest memory gets a private address that is outside too: a ring (then the call is refused
+//!   with 14), the table where the head's descriptor is outside (21), a request (24), a response (the length is 0).
+//!   Where the second descriptor alone is outside, the copy of the first names 128, which is none (21).
+//! - The record of a device that waits for a discard has the response's guest address. It is translated just before the
+//!   proved function is called and put back just after, so that the parts that a host saves are the same as ever.
+//!
+//! `bin/queue --guest` holds both calls against [`Device::serve`] and [`Device::serve_answer`] on quiet memory, in one
+//! and in several regions, with random and hostile rings.
+//!
+//! # With vm-memory
+//!
+//! The types of the crate vm-memory need these lines, which are generic over its trait:
+//!
+//! ```ignore
+//! use std::sync::atomic::Ordering::Relaxed;
+//! use vm_memory::{Bytes, GuestAddress, GuestMemory};
+//!
+//! struct Vm<'a, M>(&'a M);
+//!
+//! impl<M: GuestMemory> jambcopper::guest::GuestMemory for Vm<'_, M> {
+//!     fn contains(&self, addr: u64, size: u64) -> bool {
+//!         self.0.check_range(GuestAddress(addr), size as usize)
+//!     }
+//!     fn read(&self, addr: u64, into: &mut [u8]) -> bool {
+//!         self.0.read_slice(into, GuestAddress(addr)).is_ok()
+//!     }
+//!     fn write(&self, addr: u64, bytes: &[u8]) -> bool {
+//!         // A range that is partly outside is not written in part.
+//!         self.contains(addr, bytes.len() as u64) && self.0.write_slice(bytes, GuestAddress(addr)).is_ok()
+//!     }
+//!     fn read_index(&self, addr: u64) -> Option<u16> {
+//!         self.0.load(GuestAddress(addr), Relaxed).ok().map(u16::from_le)
+//!     }
+//!     fn write_index(&self, addr: u64, index: u16) -> bool {
+//!         self.0.store(index.to_le(), GuestAddress(addr), Relaxed).is_ok()
+//!     }
+//! }
+//! ```
+//!
+//! vm-memory refuses to load or to store at an odd address, which no ring of a driver has (Virtio 1.2, 2.7): there
+//! [`Device::serve_guest`] is then refused with [`Error::RingOutside`].
+
+use std::fmt;
+use std::sync::atomic::{fence, AtomicU16, AtomicU32, AtomicU64, AtomicU8, Ordering};
+
+use crate::sys::{self, Lent, ANSWER_WORDS, QUEUE_WORDS, REQUEST_BYTES, RESPONSE_BYTES};
+use crate::{Answer, Device, Error, HostAnswer, Queue};
+
+/// Guest memory that vCPUs may write at any time.
+///
+/// What one call has named inside, by [`GuestMemory::contains`] or by a read, must stay inside until the device's call
+/// returns: a write behind it that is refused nevertheless is lost, as if the guest had written over it.
+pub trait GuestMemory {
+    /// Whether `size` bytes from a guest address on are all guest memory. None that would lie past 2^64 - 1 is.
+    fn contains(&self, addr: u64, size: u64) -> bool;
+
+    /// Copies bytes out of guest memory: all of them, or false. The copy is what counts: it must not change any more.
+    fn read(&self, addr: u64, into: &mut [u8]) -> bool;
+
+    /// Copies bytes into guest memory: all of them, or none and false.
+    fn write(&self, addr: u64, bytes: &[u8]) -> bool;
+
+    /// Reads the index of a ring, 16 bits little-endian, in one access where the address is even.
+    fn read_index(&self, addr: u64) -> Option<u16> {
+        let mut bytes = [0; 2];
+        self.read(addr, &mut bytes)
+            .then(|| u16::from_le_bytes(bytes))
+    }
+
+    /// Writes the index of a ring, 16 bits little-endian, in one access where the address is even.
+    fn write_index(&self, addr: u64, index: u16) -> bool {
+        self.write(addr, &index.to_le_bytes())
+    }
+}
+
+impl Device {
+    /// As [`Device::serve`], for a guest that runs: the module [`crate::guest`] says what is read and written.
+    pub fn serve_guest<M: GuestMemory + ?Sized>(
+        &mut self,
+        queue: &mut Queue,
+        mem: &M,
+    ) -> Result<Option<Answer>, Error> {
+        let mut private = Private::new(queue, mem);
+        let status = private.copy_chain(mem).unwrap_or(OUTSIDE);
+        let told = self.words_told(|device, answer| private.serve(device, answer))?;
+        if told[0] == sys::KIND_DISCARD {
+            self.record[STATUS] = status;
+        }
+        private.give_back(queue, mem, status, &told);
+        Ok((told[0] != sys::KIND_EMPTY).then(|| Answer::of(&told)))
+    }
+
+    /// As [`Device::serve_answer`], for a guest that runs: the module [`crate::guest`] says what is written.
+    pub fn serve_guest_answer<M: GuestMemory + ?Sized>(
+        &mut self,
+        queue: &mut Queue,
+        mem: &M,
+        told: HostAnswer,
+    ) -> Result<Answer, Error> {
+        let (ok, host) = self.given(told)?;
+        let mut private = Private::new(queue, mem);
+        let status = self.record[STATUS];
+        if self.is_discarding() {
+            self.record[STATUS] = private.response(mem, status);
+        }
+        let told = self.words_told(|device, answer| private.serve_answer(device, ok, host, answer));
+        if self.is_discarding() {
+            self.record[STATUS] = status;
+        }
+        let told = told?;
+        private.give_back(queue, mem, status, &told);
+        Ok(Answer::of(&told))
+    }
+
+    /// Whether a discard is pending.
+    fn is_discarding(&self) -> bool {
+        matches!(
+            self.record[11],
+            sys::PENDING_DISCARD | sys::PENDING_DISCARD_ONE
+        )
+    }
+}
+
+/// The record's word that has the response's guest address while a discard is pending.
+const STATUS: usize = 14;
+
+/// The queue's words that have the guest addresses of its parts, and the two indices.
+const DESCRIPTORS: usize = 0;
+const AVAILABLE: usize = 1;
+const USED: usize = 2;
+const NEXT_AVAILABLE: usize = 3;
+const NEXT_USED: usize = 4;
+
+const QUEUE_SIZE: u16 = 128;
+const DESCRIPTOR_BYTES: usize = 16;
+const ELEMENT_BYTES: usize = 8;
+const AVAILABLE_BYTES: u64 = 262;
+const USED_BYTES: u64 = 1030;
+
+/// Where a ring has its index, and where its entries begin.
+const INDEX: usize = 2;
+const ENTRIES: usize = 4;
+
+/// The flags of a descriptor.
+const NEXT: u16 = 1;
+const WRITE: u16 = 2;
+const INDIRECT: u16 = 4;
+
+/// The private memory, whose addresses begin at 0: where its parts lie, and an address that is not inside.
+const AVAILABLE_AT: usize = 0;
+const USED_AT: usize = 264;
+const TABLE_AT: usize = 1296;
+const REQUEST_AT: usize = 3344;
+const RESPONSE_AT: usize = 3368;
+const PRIVATE_BYTES: usize = RESPONSE_AT + RESPONSE_BYTES;
+const OUTSIDE: u64 = u64::MAX;
+
+/// The private memory of one call, and the queue's words with addresses in it.
+struct Private {
+    words: [u64; QUEUE_WORDS],
+    bytes: [u8; PRIVATE_BYTES],
+    table: u64,
+    available: u64,
+}
+
+impl Private {
+    fn new<M: GuestMemory + ?Sized>(queue: &Queue, mem: &M) -> Private {
+        let guest = queue.words;
+        let mut words = guest;
+        words[DESCRIPTORS] = OUTSIDE;
+        words[AVAILABLE] = placed(
+            mem.contains(guest[AVAILABLE], AVAILABLE_BYTES),
+            AVAILABLE_AT,
+        );
+        words[USED] = placed(mem.contains(guest[USED], USED_BYTES), USED_AT);
+        Private {
+            words,
+            bytes: [0; PRIVATE_BYTES],
+            table: guest[DESCRIPTORS],
+            available: guest[AVAILABLE],
+        }
+    }
+
+    /// Copies the next head and its chain, as far as the proved function will look at it, and gives the guest address of
+    /// the response, where it has got so far.
+    fn copy_chain<M: GuestMemory + ?Sized>(&mut self, mem: &M) -> Option<u64> {
+        let head = self.copy_head(mem)?;
+        let first = self.copy_descriptor(mem, head)?;
+        self.words[DESCRIPTORS] = TABLE_AT as u64;
+        let of_request =
+            first.flags & (WRITE | INDIRECT) == 0 && first.length == REQUEST_BYTES as u32;
+        if !of_request {
+            return None;
+        }
+        let inside = mem.read(
+            first.addr,
+            &mut self.bytes[REQUEST_AT..REQUEST_AT + REQUEST_BYTES],
+        );
+        self.set_addr(head, placed(inside, REQUEST_AT));
+        if !inside || first.flags & NEXT == 0 || first.next == head {
+            return None;
+        }
+        let Some(second) = self.copy_descriptor(mem, first.next) else {
+            self.put(descriptor_at(head) + 14, &QUEUE_SIZE.to_le_bytes());
+            return None;
+        };
+        let response = self.response(mem, second.addr);
+        self.set_addr(first.next, response);
+        Some(second.addr)
+    }
+
+    /// Copies the available ring's index and, where it is ahead, the next entry: the head.
+    fn copy_head<M: GuestMemory + ?Sized>(&mut self, mem: &M) -> Option<u16> {
+        if self.words[AVAILABLE] == OUTSIDE || self.words[USED] == OUTSIDE {
+            return None;
+        }
+        let Some(index) = mem.read_index(self.available + INDEX as u64) else {
+            self.words[AVAILABLE] = OUTSIDE;
+            return None;
+        };
+        fence(Ordering::Acquire);
+        self.put(AVAILABLE_AT + INDEX, &index.to_le_bytes());
+        let next = self.words[NEXT_AVAILABLE] as u16;
+        if !(1..=QUEUE_SIZE).contains(&index.wrapping_sub(next)) {
+            return None;
+        }
+        let entry = ENTRIES + 2 * usize::from(next % QUEUE_SIZE);
+        let Some(head) = mem.read_index(self.available + entry as u64) else {
+            self.words[AVAILABLE] = OUTSIDE;
+            return None;
+        };
+        self.put(AVAILABLE_AT + entry, &head.to_le_bytes());
+        Some(head)
+    }
+
+    /// Copies a descriptor, where the table has one of that index and it is inside.
+    fn copy_descriptor<M: GuestMemory + ?Sized>(
+        &mut self,
+        mem: &M,
+        index: u16,
+    ) -> Option<Descriptor> {
+        if index >= QUEUE_SIZE {
+            return None;
+        }
+        let addr = self
+            .table
+            .checked_add(DESCRIPTOR_BYTES as u64 * u64::from(index))?;
+        let at = descriptor_at(index);
+        let bytes: &mut [u8; DESCRIPTOR_BYTES] = (&mut self.bytes[at..at + DESCRIPTOR_BYTES])
+            .try_into()
+            .expect("16 bytes");
+        mem.read(addr, bytes).then(|| Descriptor::of(bytes))
+    }
+
+    /// The private address of a response.
+    fn response<M: GuestMemory + ?Sized>(&self, mem: &M, guest: u64) -> u64 {
+        placed(mem.contains(guest, RESPONSE_BYTES as u64), RESPONSE_AT)
+    }
+
+    /// Puts an address into the copy of a descriptor.
+    fn set_addr(&mut self, index: u16, addr: u64) {
+        self.put(descriptor_at(index), &addr.to_le_bytes());
+    }
+
+    fn put(&mut self, at: usize, bytes: &[u8]) {
+        self.bytes[at..at + bytes.len()].copy_from_slice(bytes);
+    }
+
+    fn serve(&mut self, device: Lent, answer: &mut [u64; ANSWER_WORDS]) -> u64 {
+        device.serve(&mut self.words, &mut self.bytes, 0, answer)
+    }
+
+    fn serve_answer(
+        &mut self,
+        device: Lent,
+        ok: bool,
+        host: u64,
+        answer: &mut [u64; ANSWER_WORDS],
+    ) -> u64 {
+        device.serve_answer(&mut self.words, &mut self.bytes, 0, ok, host, answer)
+    }
+
+    /// Gives the guest what the call has written: the response where it was delivered, and the head where it was
+    /// reported, its element first and then the index. The queue gets the words that have changed.
+    fn give_back<M: GuestMemory + ?Sized>(
+        &self,
+        queue: &mut Queue,
+        mem: &M,
+        status: u64,
+        told: &[u64; ANSWER_WORDS],
+    ) {
+        if told[0] == sys::KIND_SERVED && told[sys::ANSWER_LENGTH] != 0 {
+            mem.write(status, &self.bytes[RESPONSE_AT..]);
+        }
+        let before = queue.words[NEXT_USED];
+        if self.words[NEXT_USED] != before {
+            let used = queue.words[USED];
+            let element = ENTRIES + ELEMENT_BYTES * (before % u64::from(QUEUE_SIZE)) as usize;
+            let at = USED_AT + element;
+            mem.write(used + element as u64, &self.bytes[at..at + ELEMENT_BYTES]);
+            fence(Ordering::Release);
+            let index = [self.bytes[USED_AT + INDEX], self.bytes[USED_AT + INDEX + 1]];
+            mem.write_index(used + INDEX as u64, u16::from_le_bytes(index));
+        }
+        queue.words[NEXT_AVAILABLE..].copy_from_slice(&self.words[NEXT_AVAILABLE..]);
+    }
+}
+
+/// The private address of what is inside, or one that is not.
+fn placed(inside: bool, at: usize) -> u64 {
+    if inside {
+        at as u64
+    } else {
+        OUTSIDE
+    }
+}
+
+/// Where the private table has a descriptor.
+fn descriptor_at(index: u16) -> usize {
+    TABLE_AT + DESCRIPTOR_BYTES * usize::from(index)
+}
+
+/// A descriptor as the guest has it.
+struct Descriptor {
+    addr: u64,
+    length: u32,
+    flags: u16,
+    next: u16,
+}
+
+impl Descriptor {
+    fn of(bytes: &[u8; DESCRIPTOR_BYTES]) -> Descriptor {
+        let word = u128::from_le_bytes(*bytes);
+        Descriptor {
+            addr: word as u64,
+            length: (word >> 64) as u32,
+            flags: (word >> 96) as u16,
+            next: (word >> 112) as u16,
+        }
+    }
+}
+
+/// Guest memory of several regions: each a guest address, how many bytes, and where the process has them mapped.
+///
+/// Regions may touch, and a range may go from one into the next; between others there are holes. Bytes are loaded and
+/// stored by relaxed atomic accesses, each as wide as the host address allows, up to 8 bytes.
+#[derive(Debug, Default)]
+pub struct Regions {
+    /// By guest address, none on another.
+    regions: Vec<Region>,
+}
+
+#[derive(Debug)]
+struct Region {
+    guest: u64,
+    size: usize,
+    host: *mut u8,
+}
+
+// SAFETY: who adds a region promises that its bytes may be loaded and stored by any thread, and they are so by atomic
+// accesses alone.
+unsafe impl Send for Region {}
+// SAFETY: as above.
+unsafe impl Sync for Region {}
+
+/// Why a region is not added: it is empty, it would pass 2^64 - 1, or it lies on another.
+#[derive(Clone, Copy, Debug, PartialEq, Eq, Hash)]
+pub struct BadRegion;
+
+impl fmt::Display for BadRegion {
+    fn fmt(&self, f: &mut fmt::Formatter<'_>) -> fmt::Result {
+        f.write_str("a region that is empty, passes 2^64 - 1, or lies on another")
+    }
+}
+
+impl std::error::Error for BadRegion {}
+
+impl Regions {
+    /// No memory yet.
+    pub const fn new() -> Regions {
+        Regions {
+            regions: Vec::new(),
+        }
+    }
+
+    /// Adds `size` bytes of guest memory from the guest address `guest` on, which the process has mapped from `host` on.
+    /// [`BadRegion`] where there are none, the last would lie past 2^64 - 1, or one is in another region already.
+    ///
+    /// # Safety
+    ///
+    /// As long as these regions are used, all of these bytes stay mapped, readable and writable, and the process reads
+    /// and writes them only as guest memory: by atomic or volatile accesses, not through references to plain bytes. Any
+    /// thread may do so.
+    pub unsafe fn add(&mut self, guest: u64, host: *mut u8, size: usize) -> Result<(), BadRegion> {
+        let last = (size as u64).checked_sub(1).ok_or(BadRegion)?;
+        let last = guest.checked_add(last).ok_or(BadRegion)?;
+        let at = self.regions.partition_point(|region| region.guest <= guest);
+        let below = at.checked_sub(1).map(|below| &self.regions[below]);
+        let above = self.regions.get(at);
+        if below.is_some_and(|below| guest - below.guest < below.size as u64)
+            || above.is_some_and(|above| above.guest <= last)
+        {
+            return Err(BadRegion);
+        }
+        self.regions.insert(at, Region { guest, size, host });
+        Ok(())
+    }
+
+    /// The regions from the one on that has a guest address, and the address's offset in that one.
+    #[inline]
+    fn from(&self, addr: u64) -> Option<(&[Region], usize)> {
+        let behind = self.regions.partition_point(|region| region.guest <= addr);
+        let found = self.regions.get(behind.wrapping_sub(1)..)?;
+        let offset = addr - found[0].guest;
+        (offset < found[0].size as u64).then_some((found, offset as usize))
+    }
+
+    /// Where the process has a range, if one region has all of it.
+    #[inline]
+    fn whole(&self, addr: u64, size: usize) -> Option<*mut u8> {
+        let (found, offset) = self.from(addr)?;
+        // SAFETY: the offset is inside the region.
+        (size <= found[0].size - offset).then(|| unsafe { found[0].host.add(offset) })
+    }
+
+    /// The pieces of a range, region by region: where the process has each, and how many bytes. The last is the one
+    /// before a hole, where there is one.
+    fn pieces(&self, addr: u64, size: u64) -> impl Iterator<Item = (*mut u8, usize)> + '_ {
+        let (found, offset) = self.from(addr).unwrap_or((&[], 0));
+        let (mut next, mut left) = (addr, size);
+        let mut offset = offset;
+        found.iter().map_while(move |region| {
+            if left == 0 || next != region.guest + offset as u64 {
+                return None;
+            }
+            let piece = left.min((region.size - offset) as u64);
+            // SAFETY: the offset is inside the region.
+            let at = unsafe { region.host.add(offset) };
+            next = next.wrapping_add(piece);
+            left -= piece;
+            offset = 0;
+            Some((at, piece as usize))
+        })
+    }
+}
+
+impl GuestMemory for Regions {
+    #[inline]
+    fn contains(&self, addr: u64, size: u64) -> bool {
+        let one = usize::try_from(size).is_ok_and(|size| self.whole(addr, size).is_some());
+        one || self
+            .pieces(addr, size)
+            .map(|(_, piece)| piece as u64)
+            .sum::<u64>()
+            == size
+    }
+
+    #[inline]
+    fn read(&self, addr: u64, into: &mut [u8]) -> bool {
+        if let Some(from) = self.whole(addr, into.len()) {
+            // SAFETY: so many bytes are in the region.
+            unsafe { load(from, into) };
+            return true;
+        }
+        if !self.contains(addr, into.len() as u64) {
+            return false;
+        }
+        let mut rest = into;
+        for (from, piece) in self.pieces(addr, rest.len() as u64) {
+            let (into, behind) = rest.split_at_mut(piece);
+            // SAFETY: the piece is in its region.
+            unsafe { load(from, into) };
+            rest = behind;
+        }
+        true
+    }
+
+    #[inline]
+    fn write(&self, addr: u64, bytes: &[u8]) -> bool {
+        if let Some(to) = self.whole(addr, bytes.len()) {
+            // SAFETY: so many bytes are in the region.
+            unsafe { store(to, bytes) };
+            return true;
+        }
+        if !self.contains(addr, bytes.len() as u64) {
+            return false;
+        }
+        let mut rest = bytes;
+        for (to, piece) in self.pieces(addr, rest.len() as u64) {
+            let (bytes, behind) = rest.split_at(piece);
+            // SAFETY: the piece is in its region.
+            unsafe { store(to, bytes) };
+            rest = behind;
+        }
+        true
+    }
+}
+
+/// How many bytes the next access takes: 1, 2, 4 or 8, as many as there are at most, at an address that they divide.
+#[inline]
+fn width(at: *const u8, left: usize) -> usize {
+    let aligned = (at as usize | 8).trailing_zeros();
+    1 << aligned.min(left.ilog2())
+}
+
+/// Copies bytes out of guest memory, each loaded once.
+///
+/// # Safety
+/// As many bytes from there on are in a region.
+#[inline]
+unsafe fn load(mut from: *const u8, mut into: &mut [u8]) {
+    while !into.is_empty() {
+        let width = width(from, into.len());
+        let (part, rest) = into.split_at_mut(width);
+        match width {
+            8 => part.copy_from_slice(&(*from.cast::<AtomicU64>()).load(RELAXED).to_ne_bytes()),
+            4 => part.copy_from_slice(&(*from.cast::<AtomicU32>()).load(RELAXED).to_ne_bytes()),
+            2 => part.copy_from_slice(&(*from.cast::<AtomicU16>()).load(RELAXED).to_ne_bytes()),
+            _ => part[0] = (*from.cast::<AtomicU8>()).load(RELAXED),
+        }
+        from = from.add(width);
+        into = rest;
+    }
+}
+
+/// Copies bytes into guest memory.
+///
+/// # Safety
+/// As many bytes from there on are in a region.
+#[inline]
+unsafe fn store(mut to: *mut u8, mut bytes: &[u8]) {
+    while !bytes.is_empty() {
+        let width = width(to, bytes.len());
+        let (part, rest) = bytes.split_at(width);
+        match width {
+            8 => (*to.cast::<AtomicU64>()).store(u64::from_ne_bytes(whole(part)), RELAXED),
+            4 => (*to.cast::<AtomicU32>()).store(u32::from_ne_bytes(whole(part)), RELAXED),
+            2 => (*to.cast::<AtomicU16>()).store(u16::from_ne_bytes(whole(part)), RELAXED),
+            _ => (*to.cast::<AtomicU8>()).store(part[0], RELAXED),
+        }
+        to = to.add(width);
+        bytes = rest;
+    }
+}
+
+const RELAXED: Ordering = Ordering::Relaxed;
+
+fn whole<const N: usize>(part: &[u8]) -> [u8; N] {
+    part.try_into().expect("as many as the width")
+}
