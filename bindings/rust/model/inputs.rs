@@ -20,7 +20,7 @@ const SIZES: [u64; 3] = [2048, 262, 1030];
 /// Where the parts of most queues lie, in so many bytes for each queue; and what is free behind all of them.
 const APART: [u64; 3] = [0, 2048, 2312];
 const QUEUE_BYTES: u64 = 3344;
-const FREE_BYTES: u64 = 2000;
+pub const FREE_BYTES: u64 = 2000;
 
 /// A guest, with its devices.
 pub struct Guest {
@@ -41,7 +41,11 @@ impl Guest {
             _ => 1 << 30,
         };
         let bytes = bytes(random, length as usize);
-        let mut memory = Memory { bytes, base };
+        let mut memory = Memory {
+            bytes,
+            base,
+            holes: Vec::new(),
+        };
         let devices = 0..devices;
         let devices = devices.map(|nth| device(random, &mut memory, nth));
         let devices = devices.collect();

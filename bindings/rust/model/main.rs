@@ -1,31 +1,41 @@
 // SPDX-License-Identifier: Apache-2.0 AND BSD-3-Clause
 //! The library's calls on a queue against a model of them: after each, its number and every word and byte that was lent.
-//! `queue_model CALLS SEED` makes so many calls; the test makes a few.
+//! `queue_model CALLS SEED` makes so many calls, and `queue_model --guest CALLS SEED` as many of those for a guest that runs; the
+//! tests make a few.
 
 use std::env;
 use std::fmt;
 use std::process::exit;
 
+mod chain;
 mod fence;
 mod inputs;
 mod queue;
 #[path = "../../../compare/oracle/src/random.rs"]
 mod random;
+mod regions;
+mod running;
 #[allow(dead_code)] // the config's part, and the driver's
 #[path = "../src/sys.rs"]
 mod sys;
+mod tally;
 
 use fence::Fence;
 use inputs::Guest;
 use queue::{Held, Memory, Told};
 use random::Random;
+use tally::{Outcomes, Tally, TOLD};
 
 fn main() {
-    let args: Option<Vec<u64>> = env::args().skip(1).map(|arg| arg.parse().ok()).collect();
-    let Some(&[calls, seed]) = args.as_deref() else {
-        eprintln!("queue_model CALLS SEED");
+    let args: Vec<String> = env::args().skip(1).collect();
+    let guest = args.first().is_some_and(|arg| arg == "--guest");
+    let numbers = args[usize::from(guest)..].iter();
+    let numbers: Option<Vec<u64>> = numbers.map(|arg| arg.parse().ok()).collect();
+    let Some(&[calls, seed]) = numbers.as_deref() else {
+        eprintln!("queue_model [--guest] CALLS SEED");
         exit(2)
     };
+    let run = if guest { running::run } else { run };
     let tally = run(calls, seed);
     println!("{tally}");
     exit(i32::from(tally.differ > 0))
@@ -57,6 +67,15 @@ impl Call {
             1..=5 => Call::Answer(random.chance(50), host),
             6..=79 if pending => Call::Answer(random.chance(80), host),
             _ => Call::Serve,
+        }
+    }
+
+    /// Which of [`CALLS`] it is.
+    fn which(self) -> usize {
+        match self {
+            Call::Make(_) => 0,
+            Call::Serve => 1,
+            Call::Answer(..) => 2,
         }
     }
 
@@ -105,8 +124,7 @@ impl Library {
     }
 }
 
-/// The outcomes of each call: a number, or 16 and the kind of the answer.
-type Outcomes = &'static [(usize, &'static str)];
+/// The outcomes of each call: a number, or that of an answer.
 const MAKE: Outcomes = &[(16, "made"), (12, "12")];
 const SERVE: Outcomes = &[
     (23, "empty"),
@@ -131,70 +149,16 @@ const ANSWER: Outcomes = &[
     (9, "9"),
     (10, "10"),
 ];
-const CALLS: [(&str, Outcomes); 3] = [("make", MAKE), ("serve", SERVE), ("answer", ANSWER)];
+const CALLS: &[(&str, Outcomes)] = &[("make", MAKE), ("serve", SERVE), ("answer", ANSWER)];
 
-/// How often each outcome came up, and how many calls had another than the model's.
-struct Tally {
-    seed: u64,
-    calls: u64,
-    counts: [[u64; 24]; 3],
-    differ: u64,
-}
-
-impl Tally {
-    fn count(&mut self, call: Call, told: &Told) {
-        let which = match call {
-            Call::Make(_) => 0,
-            Call::Serve => 1,
-            Call::Answer(..) => 2,
-        };
-        let outcome = told.map_or_else(|number| number, |words| 16 + words[0]);
-        self.counts[which][outcome as usize] += 1;
-        self.calls += 1;
-    }
-
-    /// Each call and outcome, with how often it came up.
-    fn outcomes(&self) -> impl Iterator<Item = (&'static str, &'static str, u64)> + '_ {
-        let calls = CALLS.iter().zip(&self.counts);
-        calls.flat_map(|((call, outcomes), counts)| {
-            let outcomes = outcomes.iter();
-            outcomes.map(|(at, outcome)| (*call, *outcome, counts[*at]))
-        })
-    }
-
-    /// The outcomes that never came up.
-    #[cfg(test)]
-    fn missing(&self) -> Vec<(&'static str, &'static str)> {
-        let never = self.outcomes().filter(|(_, _, count)| *count == 0);
-        never.map(|(call, outcome, _)| (call, outcome)).collect()
-    }
-}
-
-impl fmt::Display for Tally {
-    fn fmt(&self, f: &mut fmt::Formatter<'_>) -> fmt::Result {
-        write!(f, "queue: {} calls from seed {}:", self.calls, self.seed)?;
-        let mut last = "";
-        for (call, outcome, count) in self.outcomes() {
-            if call != last {
-                let separator = if last.is_empty() { "" } else { ";" };
-                write!(f, "{separator} {call}")?;
-                last = call;
-            }
-            write!(f, " {outcome}={count}")?;
-        }
-        write!(f, "; {} differ", self.differ)
-    }
+fn outcome(told: &Told) -> usize {
+    told.map_or_else(|number| number as usize, |words| TOLD + words[0] as usize)
 }
 
 fn run(calls: u64, seed: u64) -> Tally {
     let mut random = Random::new(seed);
     let mut library = Library(std::array::from_fn(|_| Fence::new()));
-    let mut tally = Tally {
-        seed,
-        calls: 0,
-        counts: [[0; 24]; 3],
-        differ: 0,
-    };
+    let mut tally = Tally::new("queue", seed, CALLS);
     while tally.calls < calls {
         let mut guest = Guest::any(&mut random);
         let turns = random.pick(&[40, 100, 300]).min(calls - tally.calls);
@@ -221,7 +185,8 @@ fn turn(random: &mut Random, library: &mut Library, guest: &mut Guest, tally: &m
     let told = call.by_model(&mut modelled, &mut modelled_memory);
     let queue = held.queue.clone();
     let number = library.call(call, held, memory, random.chance(70));
-    tally.count(call, &told);
+    tally.calls += 1;
+    tally.count(call.which(), outcome(&told));
     let modelled = (told.err().unwrap_or(0), modelled, modelled_memory);
     if (number, &*held, &*memory) != (modelled.0, &modelled.1, &modelled.2) {
         tally.differ += 1;

@@ -2,15 +2,17 @@
 //! The split queue by the words of Virtio 1.2 (docs/STANDARD.md, Q1 to Q7) and of docs/RULES.md, R13. The device's own part is the
 //! library's `request` and `host_answer`.
 
-use crate::sys::{self, ANSWER_WORDS, KIND_EMPTY, PENDING_DISCARD, PENDING_DISCARD_ONE};
+use std::ops::Range;
+
+use crate::chain;
+use crate::sys::{self, ANSWER_LENGTH, ANSWER_WORDS, KIND_EMPTY, KIND_SERVED};
+use crate::sys::{PENDING_DISCARD, PENDING_DISCARD_ONE};
 
 /// What a call tells: the words of its answer, or the number of its refusal.
 pub type Told = Result<[u64; ANSWER_WORDS], u64>;
 
-/// Two kinds of answer, word 0, and the word that has the used length.
-const UNSERVED: u64 = 4;
-const SERVED: u64 = 5;
-const LENGTH: usize = 7;
+/// The kind of answer, word 0, to a chain that is no request.
+pub const UNSERVED: u64 = 4;
 
 /// "Queue size 128", and the sizes of the rings (Q1).
 const SIZE: u16 = 128;
@@ -22,21 +24,30 @@ const USED_BYTES: u64 = 6 + 8 * SIZE as u64;
 pub struct Memory {
     pub bytes: Vec<u8>,
     pub base: u64,
+    /// Bytes that are no guest memory.
+    pub holes: Vec<Range<usize>>,
 }
 
 impl Memory {
     /// Where bytes at a guest address stand, if all of them are inside; no byte past 2^64 - 1 is.
-    fn place(&self, addr: u64, size: u64) -> Option<usize> {
+    pub fn place(&self, addr: u64, size: u64) -> Option<usize> {
         let (base, addr) = (u128::from(self.base), u128::from(addr));
         let end = (base + self.bytes.len() as u128).min(1 << 64);
-        (base <= addr && addr + u128::from(size) <= end).then(|| (addr - base) as usize)
+        let inside = base <= addr && addr + u128::from(size) <= end;
+        let at = inside.then(|| (addr - base) as usize)?;
+        let behind = at + size as usize;
+        let holed = self
+            .holes
+            .iter()
+            .any(|hole| hole.start < behind && at < hole.end);
+        (!holed).then_some(at)
     }
 
-    fn read(&self, at: usize) -> u16 {
+    pub fn read(&self, at: usize) -> u16 {
         u16::from_le_bytes([self.bytes[at], self.bytes[at + 1]])
     }
 
-    fn write(&mut self, at: usize, bytes: &[u8]) {
+    pub fn write(&mut self, at: usize, bytes: &[u8]) {
         self.bytes[at..at + bytes.len()].copy_from_slice(bytes);
     }
 }
@@ -61,9 +72,12 @@ impl Held {
     }
 
     /// What the device itself tells of a chain.
-    fn request(&mut self, memory: &mut Memory, table: u64, head: u16) -> Told {
+    pub fn request(&mut self, memory: &mut Memory, table: u64, head: u16) -> Told {
+        if !memory.holes.is_empty() {
+            return chain::request(self, memory, table, head);
+        }
         let mut words = [0; ANSWER_WORDS];
-        let Memory { bytes, base } = memory;
+        let Memory { bytes, base, .. } = memory;
         match self.device().request(bytes, *base, table, head, &mut words) {
             0 => Ok(words),
             number => Err(number),
@@ -71,9 +85,12 @@ impl Held {
     }
 
     /// What the device itself tells of a host's answer.
-    fn host_answer(&mut self, memory: &mut Memory, ok: bool, host: u64) -> Told {
+    pub fn host_answer(&mut self, memory: &mut Memory, ok: bool, host: u64) -> Told {
+        if !memory.holes.is_empty() {
+            return chain::host_answer(self, memory, ok, host);
+        }
         let mut words = [0; ANSWER_WORDS];
-        let Memory { bytes, base } = memory;
+        let Memory { bytes, base, .. } = memory;
         match self
             .device()
             .host_answer(bytes, *base, ok, host, &mut words)
@@ -85,11 +102,15 @@ impl Held {
 
     /// The queue of the words. 12: "too few, or one out of its bounds", or a head is out while no discard is pending.
     fn queue(&self) -> Result<Queue, u64> {
-        let pending = self.record.get(11).copied().unwrap_or(0);
-        let discarding = pending == PENDING_DISCARD || pending == PENDING_DISCARD_ONE;
         Queue::of(&self.queue)
-            .filter(|queue| queue.taken.is_none() || discarding)
+            .filter(|queue| queue.taken.is_none() || self.discarding())
             .ok_or(12)
+    }
+
+    /// Whether a discard is pending.
+    pub fn discarding(&self) -> bool {
+        let pending = self.record.get(11).copied();
+        pending.is_some_and(|pending| pending == PENDING_DISCARD || pending == PENDING_DISCARD_ONE)
     }
 
     /// Writes the answer's words, as far as there is room.
@@ -148,7 +169,7 @@ impl Queue {
     fn report_where_ended(&mut self, told: &[u64; ANSWER_WORDS], memory: &mut Memory, used: usize) {
         let length = match told[0] {
             UNSERVED => 0,
-            SERVED => told[LENGTH] as u32,
+            KIND_SERVED => told[ANSWER_LENGTH] as u32,
             _ => return,
         };
         let head = self.taken.take().expect("a head is out");

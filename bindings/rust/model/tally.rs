@@ -1,0 +1,73 @@
+// SPDX-License-Identifier: Apache-2.0 AND BSD-3-Clause
+//! How often each outcome of each call came up, and how many calls differ, as one line.
+
+use std::fmt;
+
+/// The outcomes of a call: a number below [`OUTCOMES`], and its name.
+pub type Outcomes = &'static [(usize, &'static str)];
+pub const OUTCOMES: usize = 64;
+
+/// The outcome of a refusal is its number; that of an answer is this and its kind.
+pub const TOLD: usize = 16;
+
+/// How often each outcome came up, and how many calls had another than they should.
+pub struct Tally {
+    what: &'static str,
+    seed: u64,
+    table: &'static [(&'static str, Outcomes)],
+    counts: Vec<[u64; OUTCOMES]>,
+    pub calls: u64,
+    pub differ: u64,
+}
+
+impl Tally {
+    pub fn new(what: &'static str, seed: u64, table: &'static [(&'static str, Outcomes)]) -> Tally {
+        Tally {
+            what,
+            seed,
+            table,
+            counts: vec![[0; OUTCOMES]; table.len()],
+            calls: 0,
+            differ: 0,
+        }
+    }
+
+    pub fn count(&mut self, call: usize, outcome: usize) {
+        self.counts[call][outcome] += 1;
+    }
+
+    /// Each call and outcome, with how often it came up.
+    fn outcomes(&self) -> impl Iterator<Item = (&'static str, &'static str, u64)> + '_ {
+        let calls = self.table.iter().zip(&self.counts);
+        calls.flat_map(|((call, outcomes), counts)| {
+            let outcomes = outcomes.iter();
+            outcomes.map(|(at, outcome)| (*call, *outcome, counts[*at]))
+        })
+    }
+
+    /// The outcomes that never came up.
+    #[cfg(test)]
+    pub fn missing(&self) -> Vec<(&'static str, &'static str)> {
+        let never = self.outcomes().filter(|(_, _, count)| *count == 0);
+        never.map(|(call, outcome, _)| (call, outcome)).collect()
+    }
+}
+
+impl fmt::Display for Tally {
+    fn fmt(&self, f: &mut fmt::Formatter<'_>) -> fmt::Result {
+        let Tally {
+            what, calls, seed, ..
+        } = self;
+        write!(f, "{what}: {calls} calls from seed {seed}:")?;
+        let mut last = "";
+        for (call, outcome, count) in self.outcomes() {
+            if call != last {
+                let separator = if last.is_empty() { "" } else { ";" };
+                write!(f, "{separator} {call}")?;
+                last = call;
+            }
+            write!(f, " {outcome}={count}")?;
+        }
+        write!(f, "; {} differ", self.differ)
+    }
+}
