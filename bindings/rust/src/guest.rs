@@ -119,6 +119,7 @@
 //! [`Device::serve_guest`] is then refused with [`Error::RingOutside`].
 
 use std::fmt;
+use std::mem::MaybeUninit;
 use std::sync::atomic::{fence, AtomicU16, AtomicU32, AtomicU64, AtomicU8, Ordering};
 
 use crate::sys::{self, Lent, ANSWER_WORDS, QUEUE_WORDS, REQUEST_BYTES, RESPONSE_BYTES};
@@ -159,12 +160,12 @@ impl Device {
         mem: &M,
     ) -> Result<Option<Answer>, Error> {
         let mut private = Private::new(queue, mem);
-        let status = private.copy_chain(mem).unwrap_or(OUTSIDE);
+        let status = private.copy_chain(mem, queue).unwrap_or(OUTSIDE);
         let told = self.words_told(|device, answer| private.serve(device, answer))?;
         if told[0] == sys::KIND_DISCARD {
             self.record[STATUS] = status;
         }
-        private.give_back(queue, mem, status, &told);
+        private.give_back(mem, queue, status, &told);
         Ok((told[0] != sys::KIND_EMPTY).then(|| Answer::of(&told)))
     }
 
@@ -179,14 +180,14 @@ impl Device {
         let mut private = Private::new(queue, mem);
         let status = self.record[STATUS];
         if self.is_discarding() {
-            self.record[STATUS] = private.response(mem, status);
+            self.record[STATUS] = response_address(mem, status);
         }
         let told = self.words_told(|device, answer| private.serve_answer(device, ok, host, answer));
         if self.is_discarding() {
             self.record[STATUS] = status;
         }
         let told = told?;
-        private.give_back(queue, mem, status, &told);
+        private.give_back(mem, queue, status, &told);
         Ok(Answer::of(&told))
     }
 
@@ -202,7 +203,7 @@ impl Device {
 /// The record's word that has the response's guest address while a discard is pending.
 const STATUS: usize = 14;
 
-/// The queue's words that have the guest addresses of its parts, and the two indices.
+/// The queue's words: the guest addresses of its parts, the indices.
 const DESCRIPTORS: usize = 0;
 const AVAILABLE: usize = 1;
 const USED: usize = 2;
@@ -210,10 +211,10 @@ const NEXT_AVAILABLE: usize = 3;
 const NEXT_USED: usize = 4;
 
 const QUEUE_SIZE: u16 = 128;
-const DESCRIPTOR_BYTES: usize = 16;
-const ELEMENT_BYTES: usize = 8;
 const AVAILABLE_BYTES: u64 = 262;
 const USED_BYTES: u64 = 1030;
+const DESCRIPTOR_BYTES: usize = 16;
+const ELEMENT_BYTES: usize = 8;
 
 /// Where a ring has its index, and where its entries begin.
 const INDEX: usize = 2;
@@ -233,119 +234,103 @@ const RESPONSE_AT: usize = 3368;
 const PRIVATE_BYTES: usize = RESPONSE_AT + RESPONSE_BYTES;
 const OUTSIDE: u64 = u64::MAX;
 
-/// The private memory of one call, and the queue's words with addresses in it.
+/// The private memory of one call, and the queue's words with addresses in it. Only what is copied is ever written or
+/// read, so the rest is left as it is.
 struct Private {
     words: [u64; QUEUE_WORDS],
-    bytes: [u8; PRIVATE_BYTES],
-    table: u64,
-    available: u64,
+    bytes: [MaybeUninit<u8>; PRIVATE_BYTES],
 }
 
 impl Private {
+    /// Without a descriptor table yet.
+    #[inline]
     fn new<M: GuestMemory + ?Sized>(queue: &Queue, mem: &M) -> Private {
-        let guest = queue.words;
-        let mut words = guest;
+        let mut words = queue.words;
         words[DESCRIPTORS] = OUTSIDE;
-        words[AVAILABLE] = placed(
-            mem.contains(guest[AVAILABLE], AVAILABLE_BYTES),
+        words[AVAILABLE] = address(
+            mem.contains(queue.available(), AVAILABLE_BYTES),
             AVAILABLE_AT,
         );
-        words[USED] = placed(mem.contains(guest[USED], USED_BYTES), USED_AT);
+        words[USED] = address(mem.contains(queue.used(), USED_BYTES), USED_AT);
         Private {
             words,
-            bytes: [0; PRIVATE_BYTES],
-            table: guest[DESCRIPTORS],
-            available: guest[AVAILABLE],
+            bytes: [MaybeUninit::uninit(); PRIVATE_BYTES],
         }
     }
 
     /// Copies the next head and its chain, as far as the proved function will look at it, and gives the guest address of
     /// the response, where it has got so far.
-    fn copy_chain<M: GuestMemory + ?Sized>(&mut self, mem: &M) -> Option<u64> {
-        let head = self.copy_head(mem)?;
-        let first = self.copy_descriptor(mem, head)?;
+    fn copy_chain<M: GuestMemory + ?Sized>(&mut self, mem: &M, queue: &Queue) -> Option<u64> {
+        let head = self.copy_head(mem, queue)?;
+        let mut first = Descriptor::read(mem, queue, head)?;
         self.words[DESCRIPTORS] = TABLE_AT as u64;
-        let of_request =
-            first.flags & (WRITE | INDIRECT) == 0 && first.length == REQUEST_BYTES as u32;
-        if !of_request {
-            return None;
-        }
-        let inside = mem.read(
-            first.addr,
-            &mut self.bytes[REQUEST_AT..REQUEST_AT + REQUEST_BYTES],
-        );
-        self.set_addr(head, placed(inside, REQUEST_AT));
-        if !inside || first.flags & NEXT == 0 || first.next == head {
-            return None;
-        }
-        let Some(second) = self.copy_descriptor(mem, first.next) else {
-            self.put(descriptor_at(head) + 14, &QUEUE_SIZE.to_le_bytes());
-            return None;
-        };
-        let response = self.response(mem, second.addr);
-        self.set_addr(first.next, response);
-        Some(second.addr)
+        let status = self.copy_rest(mem, queue, head, &mut first);
+        self.put(descriptor_at(head), first.bytes());
+        status
     }
 
     /// Copies the available ring's index and, where it is ahead, the next entry: the head.
-    fn copy_head<M: GuestMemory + ?Sized>(&mut self, mem: &M) -> Option<u16> {
+    fn copy_head<M: GuestMemory + ?Sized>(&mut self, mem: &M, queue: &Queue) -> Option<u16> {
         if self.words[AVAILABLE] == OUTSIDE || self.words[USED] == OUTSIDE {
             return None;
         }
-        let Some(index) = mem.read_index(self.available + INDEX as u64) else {
-            self.words[AVAILABLE] = OUTSIDE;
-            return None;
-        };
+        let index = self.copy_u16(mem, queue, INDEX)?;
         fence(Ordering::Acquire);
-        self.put(AVAILABLE_AT + INDEX, &index.to_le_bytes());
-        let next = self.words[NEXT_AVAILABLE] as u16;
+        let next = queue.next_available();
         if !(1..=QUEUE_SIZE).contains(&index.wrapping_sub(next)) {
             return None;
         }
-        let entry = ENTRIES + 2 * usize::from(next % QUEUE_SIZE);
-        let Some(head) = mem.read_index(self.available + entry as u64) else {
-            self.words[AVAILABLE] = OUTSIDE;
-            return None;
-        };
-        self.put(AVAILABLE_AT + entry, &head.to_le_bytes());
-        Some(head)
+        self.copy_u16(mem, queue, ENTRIES + 2 * usize::from(next % QUEUE_SIZE))
     }
 
-    /// Copies a descriptor, where the table has one of that index and it is inside.
-    fn copy_descriptor<M: GuestMemory + ?Sized>(
+    /// Copies 16 bits of the available ring. Where they cannot be read, the ring is not inside.
+    fn copy_u16<M: GuestMemory + ?Sized>(
         &mut self,
         mem: &M,
-        index: u16,
-    ) -> Option<Descriptor> {
-        if index >= QUEUE_SIZE {
+        queue: &Queue,
+        at: usize,
+    ) -> Option<u16> {
+        let number = mem.read_index(queue.available() + at as u64);
+        match number {
+            Some(number) => self.put(AVAILABLE_AT + at, number.to_le_bytes()),
+            None => self.words[AVAILABLE] = OUTSIDE,
+        }
+        number
+    }
+
+    /// Copies the request and the second descriptor, where the first is of a request, and translates the first.
+    fn copy_rest<M: GuestMemory + ?Sized>(
+        &mut self,
+        mem: &M,
+        queue: &Queue,
+        head: u16,
+        first: &mut Descriptor,
+    ) -> Option<u64> {
+        let other = first.flags & (WRITE | INDIRECT) != 0;
+        if other || first.length != REQUEST_BYTES as u32 {
             return None;
         }
-        let addr = self
-            .table
-            .checked_add(DESCRIPTOR_BYTES as u64 * u64::from(index))?;
-        let at = descriptor_at(index);
-        let bytes: &mut [u8; DESCRIPTOR_BYTES] = (&mut self.bytes[at..at + DESCRIPTOR_BYTES])
-            .try_into()
-            .expect("16 bytes");
-        mem.read(addr, bytes).then(|| Descriptor::of(bytes))
-    }
-
-    /// The private address of a response.
-    fn response<M: GuestMemory + ?Sized>(&self, mem: &M, guest: u64) -> u64 {
-        placed(mem.contains(guest, RESPONSE_BYTES as u64), RESPONSE_AT)
-    }
-
-    /// Puts an address into the copy of a descriptor.
-    fn set_addr(&mut self, index: u16, addr: u64) {
-        self.put(descriptor_at(index), &addr.to_le_bytes());
-    }
-
-    fn put(&mut self, at: usize, bytes: &[u8]) {
-        self.bytes[at..at + bytes.len()].copy_from_slice(bytes);
+        let mut request = [0; REQUEST_BYTES];
+        let inside = mem.read(first.addr, &mut request);
+        first.addr = address(inside, REQUEST_AT);
+        self.put(REQUEST_AT, request);
+        if !inside || first.flags & NEXT == 0 || first.next == head {
+            return None;
+        }
+        let Some(mut second) = Descriptor::read(mem, queue, first.next) else {
+            first.next = QUEUE_SIZE;
+            return None;
+        };
+        let status = second.addr;
+        second.addr = response_address(mem, status);
+        self.put(descriptor_at(first.next), second.bytes());
+        Some(status)
     }
 
     fn serve(&mut self, device: Lent, answer: &mut [u64; ANSWER_WORDS]) -> u64 {
-        device.serve(&mut self.words, &mut self.bytes, 0, answer)
+        let Private { words, bytes } = self;
+        // SAFETY: `copy_chain` has copied what the call reads.
+        unsafe { device.serve_at(words, bytes.as_mut_ptr().cast(), bytes.len(), 0, answer) }
     }
 
     fn serve_answer(
@@ -355,37 +340,55 @@ impl Private {
         host: u64,
         answer: &mut [u64; ANSWER_WORDS],
     ) -> u64 {
-        device.serve_answer(&mut self.words, &mut self.bytes, 0, ok, host, answer)
+        let Private { words, bytes } = self;
+        let mem = bytes.as_mut_ptr().cast();
+        // SAFETY: the call reads nothing of the memory.
+        unsafe { device.serve_answer_at(words, mem, bytes.len(), 0, ok, host, answer) }
     }
 
     /// Gives the guest what the call has written: the response where it was delivered, and the head where it was
     /// reported, its element first and then the index. The queue gets the words that have changed.
     fn give_back<M: GuestMemory + ?Sized>(
         &self,
-        queue: &mut Queue,
         mem: &M,
+        queue: &mut Queue,
         status: u64,
         told: &[u64; ANSWER_WORDS],
     ) {
         if told[0] == sys::KIND_SERVED && told[sys::ANSWER_LENGTH] != 0 {
-            mem.write(status, &self.bytes[RESPONSE_AT..]);
+            // SAFETY: a response that is delivered is written, here to its private place.
+            let response: [u8; RESPONSE_BYTES] = unsafe { self.written(RESPONSE_AT) };
+            mem.write(status, &response);
         }
-        let before = queue.words[NEXT_USED];
-        if self.words[NEXT_USED] != before {
-            let used = queue.words[USED];
-            let element = ENTRIES + ELEMENT_BYTES * (before % u64::from(QUEUE_SIZE)) as usize;
-            let at = USED_AT + element;
-            mem.write(used + element as u64, &self.bytes[at..at + ELEMENT_BYTES]);
+        if self.words[NEXT_USED] != queue.words[NEXT_USED] {
+            let entry = usize::from(queue.next_used() % QUEUE_SIZE);
+            let at = ENTRIES + ELEMENT_BYTES * entry;
+            // SAFETY: a head that is reported is written, its element and the index.
+            let (element, index): ([u8; ELEMENT_BYTES], _) =
+                unsafe { (self.written(USED_AT + at), self.written(USED_AT + INDEX)) };
+            mem.write(queue.used() + at as u64, &element);
             fence(Ordering::Release);
-            let index = [self.bytes[USED_AT + INDEX], self.bytes[USED_AT + INDEX + 1]];
-            mem.write_index(used + INDEX as u64, u16::from_le_bytes(index));
+            mem.write_index(queue.used() + INDEX as u64, u16::from_le_bytes(index));
         }
         queue.words[NEXT_AVAILABLE..].copy_from_slice(&self.words[NEXT_AVAILABLE..]);
+    }
+
+    fn put<const N: usize>(&mut self, at: usize, bytes: [u8; N]) {
+        self.bytes[at..at + N].copy_from_slice(&bytes.map(MaybeUninit::new));
+    }
+
+    /// Bytes of the private memory.
+    ///
+    /// # Safety
+    /// They are written.
+    unsafe fn written<const N: usize>(&self, at: usize) -> [u8; N] {
+        let bytes = &self.bytes[at..at + N];
+        std::array::from_fn(|nth| bytes[nth].assume_init())
     }
 }
 
 /// The private address of what is inside, or one that is not.
-fn placed(inside: bool, at: usize) -> u64 {
+fn address(inside: bool, at: usize) -> u64 {
     if inside {
         at as u64
     } else {
@@ -393,12 +396,17 @@ fn placed(inside: bool, at: usize) -> u64 {
     }
 }
 
+/// The private address of a response.
+fn response_address<M: GuestMemory + ?Sized>(mem: &M, guest: u64) -> u64 {
+    address(mem.contains(guest, RESPONSE_BYTES as u64), RESPONSE_AT)
+}
+
 /// Where the private table has a descriptor.
 fn descriptor_at(index: u16) -> usize {
     TABLE_AT + DESCRIPTOR_BYTES * usize::from(index)
 }
 
-/// A descriptor as the guest has it.
+/// A descriptor.
 struct Descriptor {
     addr: u64,
     length: u32,
@@ -407,14 +415,29 @@ struct Descriptor {
 }
 
 impl Descriptor {
-    fn of(bytes: &[u8; DESCRIPTOR_BYTES]) -> Descriptor {
-        let word = u128::from_le_bytes(*bytes);
-        Descriptor {
-            addr: word as u64,
-            length: (word >> 64) as u32,
-            flags: (word >> 96) as u16,
-            next: (word >> 112) as u16,
+    /// Reads one, where the table has that index and the descriptor is inside.
+    fn read<M: GuestMemory + ?Sized>(mem: &M, queue: &Queue, index: u16) -> Option<Descriptor> {
+        if index >= QUEUE_SIZE {
+            return None;
         }
+        let offset = DESCRIPTOR_BYTES as u64 * u64::from(index);
+        let mut bytes = [0; DESCRIPTOR_BYTES];
+        if !mem.read(queue.descriptors().checked_add(offset)?, &mut bytes) {
+            return None;
+        }
+        let all = u128::from_le_bytes(bytes);
+        Some(Descriptor {
+            addr: all as u64,
+            length: (all >> 64) as u32,
+            flags: (all >> 96) as u16,
+            next: (all >> 112) as u16,
+        })
+    }
+
+    fn bytes(&self) -> [u8; DESCRIPTOR_BYTES] {
+        let behind =
+            u64::from(self.length) | u64::from(self.flags) << 32 | u64::from(self.next) << 48;
+        (u128::from(self.addr) | u128::from(behind) << 64).to_le_bytes()
     }
 }
 
@@ -453,6 +476,9 @@ impl fmt::Display for BadRegion {
 
 impl std::error::Error for BadRegion {}
 
+/// So many regions are looked through; of more, the one is searched by halving.
+const FEW: usize = 8;
+
 impl Regions {
     /// No memory yet.
     pub const fn new() -> Regions {
@@ -487,18 +513,64 @@ impl Regions {
     /// The regions from the one on that has a guest address, and the address's offset in that one.
     #[inline]
     fn from(&self, addr: u64) -> Option<(&[Region], usize)> {
-        let behind = self.regions.partition_point(|region| region.guest <= addr);
-        let found = self.regions.get(behind.wrapping_sub(1)..)?;
-        let offset = addr - found[0].guest;
-        (offset < found[0].size as u64).then_some((found, offset as usize))
+        let has = |region: &Region| addr.wrapping_sub(region.guest) < region.size as u64;
+        let nth = if self.regions.len() <= FEW {
+            self.regions.iter().position(has)?
+        } else {
+            let behind = self.regions.partition_point(|region| region.guest <= addr);
+            behind
+                .checked_sub(1)
+                .filter(|&nth| has(&self.regions[nth]))?
+        };
+        let found = &self.regions[nth..];
+        Some((found, (addr - found[0].guest) as usize))
     }
 
     /// Where the process has a range, if one region has all of it.
     #[inline]
-    fn whole(&self, addr: u64, size: usize) -> Option<*mut u8> {
+    fn whole(&self, addr: u64, size: u64) -> Option<*mut u8> {
         let (found, offset) = self.from(addr)?;
         // SAFETY: the offset is inside the region.
-        (size <= found[0].size - offset).then(|| unsafe { found[0].host.add(offset) })
+        (size <= (found[0].size - offset) as u64).then(|| unsafe { found[0].host.add(offset) })
+    }
+
+    /// Whether a range lies in regions that touch.
+    #[cold]
+    fn touching(&self, addr: u64, size: u64) -> bool {
+        let pieces = self.pieces(addr, size);
+        pieces.map(|(_, piece)| piece as u64).sum::<u64>() == size
+    }
+
+    /// Reads a range of regions that touch.
+    #[cold]
+    fn read_across(&self, addr: u64, into: &mut [u8]) -> bool {
+        if !self.touching(addr, into.len() as u64) {
+            return false;
+        }
+        let mut rest = into;
+        for (from, piece) in self.pieces(addr, rest.len() as u64) {
+            let (into, behind) = rest.split_at_mut(piece);
+            // SAFETY: the piece is in its region.
+            unsafe { load(from, into) };
+            rest = behind;
+        }
+        true
+    }
+
+    /// Writes a range of regions that touch.
+    #[cold]
+    fn write_across(&self, addr: u64, bytes: &[u8]) -> bool {
+        if !self.touching(addr, bytes.len() as u64) {
+            return false;
+        }
+        let mut rest = bytes;
+        for (to, piece) in self.pieces(addr, rest.len() as u64) {
+            let (bytes, behind) = rest.split_at(piece);
+            // SAFETY: the piece is in its region.
+            unsafe { store(to, bytes) };
+            rest = behind;
+        }
+        true
     }
 
     /// The pieces of a range, region by region: where the process has each, and how many bytes. The last is the one
@@ -525,60 +597,34 @@ impl Regions {
 impl GuestMemory for Regions {
     #[inline]
     fn contains(&self, addr: u64, size: u64) -> bool {
-        let one = usize::try_from(size).is_ok_and(|size| self.whole(addr, size).is_some());
-        one || self
-            .pieces(addr, size)
-            .map(|(_, piece)| piece as u64)
-            .sum::<u64>()
-            == size
+        self.whole(addr, size).is_some() || self.touching(addr, size)
     }
 
     #[inline]
     fn read(&self, addr: u64, into: &mut [u8]) -> bool {
-        if let Some(from) = self.whole(addr, into.len()) {
-            // SAFETY: so many bytes are in the region.
-            unsafe { load(from, into) };
-            return true;
-        }
-        if !self.contains(addr, into.len() as u64) {
-            return false;
-        }
-        let mut rest = into;
-        for (from, piece) in self.pieces(addr, rest.len() as u64) {
-            let (into, behind) = rest.split_at_mut(piece);
-            // SAFETY: the piece is in its region.
-            unsafe { load(from, into) };
-            rest = behind;
-        }
+        let Some(from) = self.whole(addr, into.len() as u64) else {
+            return self.read_across(addr, into);
+        };
+        // SAFETY: so many bytes are in the region.
+        unsafe { load(from, into) };
         true
     }
 
     #[inline]
     fn write(&self, addr: u64, bytes: &[u8]) -> bool {
-        if let Some(to) = self.whole(addr, bytes.len()) {
-            // SAFETY: so many bytes are in the region.
-            unsafe { store(to, bytes) };
-            return true;
-        }
-        if !self.contains(addr, bytes.len() as u64) {
-            return false;
-        }
-        let mut rest = bytes;
-        for (to, piece) in self.pieces(addr, rest.len() as u64) {
-            let (bytes, behind) = rest.split_at(piece);
-            // SAFETY: the piece is in its region.
-            unsafe { store(to, bytes) };
-            rest = behind;
-        }
+        let Some(to) = self.whole(addr, bytes.len() as u64) else {
+            return self.write_across(addr, bytes);
+        };
+        // SAFETY: so many bytes are in the region.
+        unsafe { store(to, bytes) };
         true
     }
 }
 
-/// How many bytes the next access takes: 1, 2, 4 or 8, as many as there are at most, at an address that they divide.
+/// How many bytes each access takes: 8, 4, 2 or 1, which both the address and the length are a multiple of.
 #[inline]
-fn width(at: *const u8, left: usize) -> usize {
-    let aligned = (at as usize | 8).trailing_zeros();
-    1 << aligned.min(left.ilog2())
+fn width(at: *const u8, length: usize) -> usize {
+    1 << (at as usize | length | 8).trailing_zeros()
 }
 
 /// Copies bytes out of guest memory, each loaded once.
@@ -586,18 +632,25 @@ fn width(at: *const u8, left: usize) -> usize {
 /// # Safety
 /// As many bytes from there on are in a region.
 #[inline]
-unsafe fn load(mut from: *const u8, mut into: &mut [u8]) {
-    while !into.is_empty() {
-        let width = width(from, into.len());
-        let (part, rest) = into.split_at_mut(width);
-        match width {
-            8 => part.copy_from_slice(&(*from.cast::<AtomicU64>()).load(RELAXED).to_ne_bytes()),
-            4 => part.copy_from_slice(&(*from.cast::<AtomicU32>()).load(RELAXED).to_ne_bytes()),
-            2 => part.copy_from_slice(&(*from.cast::<AtomicU16>()).load(RELAXED).to_ne_bytes()),
-            _ => part[0] = (*from.cast::<AtomicU8>()).load(RELAXED),
-        }
-        from = from.add(width);
-        into = rest;
+unsafe fn load(from: *const u8, into: &mut [u8]) {
+    match width(from, into.len()) {
+        8 => load_by(from, into, |at| {
+            (*at.cast::<AtomicU64>()).load(RELAXED).to_ne_bytes()
+        }),
+        4 => load_by(from, into, |at| {
+            (*at.cast::<AtomicU32>()).load(RELAXED).to_ne_bytes()
+        }),
+        2 => load_by(from, into, |at| {
+            (*at.cast::<AtomicU16>()).load(RELAXED).to_ne_bytes()
+        }),
+        _ => load_by(from, into, |at| [(*at.cast::<AtomicU8>()).load(RELAXED)]),
+    }
+}
+
+#[inline]
+fn load_by<const N: usize>(from: *const u8, into: &mut [u8], one: impl Fn(*const u8) -> [u8; N]) {
+    for (nth, part) in into.chunks_exact_mut(N).enumerate() {
+        part.copy_from_slice(&one(from.wrapping_add(N * nth)));
     }
 }
 
@@ -606,23 +659,28 @@ unsafe fn load(mut from: *const u8, mut into: &mut [u8]) {
 /// # Safety
 /// As many bytes from there on are in a region.
 #[inline]
-unsafe fn store(mut to: *mut u8, mut bytes: &[u8]) {
-    while !bytes.is_empty() {
-        let width = width(to, bytes.len());
-        let (part, rest) = bytes.split_at(width);
-        match width {
-            8 => (*to.cast::<AtomicU64>()).store(u64::from_ne_bytes(whole(part)), RELAXED),
-            4 => (*to.cast::<AtomicU32>()).store(u32::from_ne_bytes(whole(part)), RELAXED),
-            2 => (*to.cast::<AtomicU16>()).store(u16::from_ne_bytes(whole(part)), RELAXED),
-            _ => (*to.cast::<AtomicU8>()).store(part[0], RELAXED),
-        }
-        to = to.add(width);
-        bytes = rest;
+unsafe fn store(to: *mut u8, bytes: &[u8]) {
+    match width(to, bytes.len()) {
+        8 => store_by(to, bytes, |at, part| {
+            (*at.cast::<AtomicU64>()).store(u64::from_ne_bytes(part), RELAXED)
+        }),
+        4 => store_by(to, bytes, |at, part| {
+            (*at.cast::<AtomicU32>()).store(u32::from_ne_bytes(part), RELAXED)
+        }),
+        2 => store_by(to, bytes, |at, part| {
+            (*at.cast::<AtomicU16>()).store(u16::from_ne_bytes(part), RELAXED)
+        }),
+        _ => store_by(to, bytes, |at, [byte]| {
+            (*at.cast::<AtomicU8>()).store(byte, RELAXED)
+        }),
+    }
+}
+
+#[inline]
+fn store_by<const N: usize>(to: *mut u8, bytes: &[u8], one: impl Fn(*mut u8, [u8; N])) {
+    for (nth, part) in bytes.chunks_exact(N).enumerate() {
+        one(to.wrapping_add(N * nth), part.try_into().expect("N bytes"));
     }
 }
 
 const RELAXED: Ordering = Ordering::Relaxed;
-
-fn whole<const N: usize>(part: &[u8]) -> [u8; N] {
-    part.try_into().expect("as many as the width")
-}

@@ -372,23 +372,37 @@ impl Lent<'_> {
 
     #[inline]
     pub fn serve(self, queue: &mut [u64], mem: &mut [u8], base: u64, answer: &mut [u64]) -> u64 {
-        unsafe {
-            c::jambcopper_serve(
-                self.record.as_mut_ptr(),
-                self.record.len(),
-                queue.as_mut_ptr(),
-                queue.len(),
-                self.bitmap.as_mut_ptr(),
-                self.bitmap.len(),
-                self.table.as_ptr(),
-                self.table.len(),
-                mem.as_mut_ptr(),
-                mem.len(),
-                base,
-                answer.as_mut_ptr(),
-                answer.len(),
-            )
-        }
+        unsafe { self.serve_at(queue, mem.as_mut_ptr(), mem.len(), base, answer) }
+    }
+
+    /// As `serve`, in memory of which some bytes may not be written yet.
+    ///
+    /// # Safety
+    /// All of it is lent, and what the call reads of it is written.
+    #[inline]
+    pub unsafe fn serve_at(
+        self,
+        queue: &mut [u64],
+        mem: *mut u8,
+        mem_bytes: usize,
+        base: u64,
+        answer: &mut [u64],
+    ) -> u64 {
+        c::jambcopper_serve(
+            self.record.as_mut_ptr(),
+            self.record.len(),
+            queue.as_mut_ptr(),
+            queue.len(),
+            self.bitmap.as_mut_ptr(),
+            self.bitmap.len(),
+            self.table.as_ptr(),
+            self.table.len(),
+            mem,
+            mem_bytes,
+            base,
+            answer.as_mut_ptr(),
+            answer.len(),
+        )
     }
 
     #[inline]
@@ -401,25 +415,41 @@ impl Lent<'_> {
         host: u64,
         answer: &mut [u64],
     ) -> u64 {
-        unsafe {
-            c::jambcopper_serve_answer(
-                self.record.as_mut_ptr(),
-                self.record.len(),
-                queue.as_mut_ptr(),
-                queue.len(),
-                self.bitmap.as_mut_ptr(),
-                self.bitmap.len(),
-                self.table.as_mut_ptr(),
-                self.table.len(),
-                mem.as_mut_ptr(),
-                mem.len(),
-                base,
-                ok,
-                host,
-                answer.as_mut_ptr(),
-                answer.len(),
-            )
-        }
+        unsafe { self.serve_answer_at(queue, mem.as_mut_ptr(), mem.len(), base, ok, host, answer) }
+    }
+
+    /// As `serve_answer`, in memory of which some bytes may not be written yet.
+    ///
+    /// # Safety
+    /// All of it is lent; the call reads none of it.
+    #[inline]
+    pub unsafe fn serve_answer_at(
+        self,
+        queue: &mut [u64],
+        mem: *mut u8,
+        mem_bytes: usize,
+        base: u64,
+        ok: bool,
+        host: u64,
+        answer: &mut [u64],
+    ) -> u64 {
+        c::jambcopper_serve_answer(
+            self.record.as_mut_ptr(),
+            self.record.len(),
+            queue.as_mut_ptr(),
+            queue.len(),
+            self.bitmap.as_mut_ptr(),
+            self.bitmap.len(),
+            self.table.as_mut_ptr(),
+            self.table.len(),
+            mem,
+            mem_bytes,
+            base,
+            ok,
+            host,
+            answer.as_mut_ptr(),
+            answer.len(),
+        )
     }
 }
 
