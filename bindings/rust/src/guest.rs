@@ -328,9 +328,8 @@ impl Private {
     }
 
     fn serve(&mut self, device: Lent, answer: &mut [u64; ANSWER_WORDS]) -> u64 {
-        let Private { words, bytes } = self;
         // SAFETY: `copy_chain` has copied what the call reads.
-        unsafe { device.serve_at(words, bytes.as_mut_ptr().cast(), bytes.len(), 0, answer) }
+        unsafe { device.serve_at(&mut self.words, &mut self.bytes, 0, answer) }
     }
 
     fn serve_answer(
@@ -340,10 +339,8 @@ impl Private {
         host: u64,
         answer: &mut [u64; ANSWER_WORDS],
     ) -> u64 {
-        let Private { words, bytes } = self;
-        let mem = bytes.as_mut_ptr().cast();
         // SAFETY: the call reads nothing of the memory.
-        unsafe { device.serve_answer_at(words, mem, bytes.len(), 0, ok, host, answer) }
+        unsafe { device.serve_answer_at(&mut self.words, &mut self.bytes, 0, ok, host, answer) }
     }
 
     /// Gives the guest what the call has written: the response where it was delivered, and the head where it was

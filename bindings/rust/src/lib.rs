@@ -39,7 +39,9 @@
 
 #![warn(missing_docs)]
 
+use std::cell::Cell;
 use std::fmt;
+use std::marker::PhantomData;
 
 pub mod driver;
 pub mod guest;
@@ -267,7 +269,11 @@ pub struct Device {
     record: [u64; RECORD_WORDS],
     bitmap: Vec<u8>,
     table: Vec<u64>,
+    not_shared: NotShared,
 }
+
+/// Makes a type `Send` and not `Sync`: see the crate's documentation.
+type NotShared = PhantomData<Cell<()>>;
 
 impl Device {
     /// Makes a device from sizes in MiB; `boot` is the boot memory's size in bytes, which decides the alignment.
@@ -293,6 +299,7 @@ impl Device {
             record,
             bitmap: Vec::new(),
             table: Vec::new(),
+            not_shared: PhantomData,
         };
         device.bitmap = vec![0; device.bitmap_bytes()];
         device.table = vec![0; ROW_WORDS * device.map_regions()];
@@ -319,6 +326,7 @@ impl Device {
             record: *record,
             bitmap: bitmap.to_vec(),
             table: table.to_vec(),
+            not_shared: PhantomData,
         };
         let short =
             bitmap.len() < device.bitmap_bytes() || table.len() / ROW_WORDS < device.map_regions();

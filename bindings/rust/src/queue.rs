@@ -1,8 +1,10 @@
 // SPDX-License-Identifier: Apache-2.0 AND BSD-3-Clause
 //! The guest's queue, as the words that the library takes.
 
+use std::marker::PhantomData;
+
 use crate::sys::{self, QUEUE_WORDS};
-use crate::Error;
+use crate::{Error, NotShared};
 
 /// The guest's split queue of 128: where its three parts lie, and where the device stands in it.
 ///
@@ -58,6 +60,7 @@ use crate::Error;
 #[derive(Clone, Debug, PartialEq, Eq)]
 pub struct Queue {
     pub(crate) words: [u64; QUEUE_WORDS],
+    not_shared: NotShared,
 }
 
 impl Queue {
@@ -67,7 +70,10 @@ impl Queue {
         let mut words = [0; QUEUE_WORDS];
         let number = sys::queue_make(&mut words, descriptors, available, used);
         debug_assert_eq!(number, 0);
-        Queue { words }
+        Queue {
+            words,
+            not_shared: PhantomData,
+        }
     }
 
     /// Makes a queue of the words that [`Queue::words`] gives, so that a host can restart: they are saved and put back
@@ -78,7 +84,10 @@ impl Queue {
         if next_available > 65_535 || next_used > 65_535 || taken > 65_536 {
             return Err(Error::BadRecord);
         }
-        Ok(Queue { words: *words })
+        Ok(Queue {
+            words: *words,
+            not_shared: PhantomData,
+        })
     }
 
     /// The words, to save: see [`Queue::from_words`].

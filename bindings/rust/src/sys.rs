@@ -2,6 +2,8 @@
 //! What the static library exports, as `bindings/c/jambcopper.h` has it, with slices in the place of pointers and lengths. Every
 //! function answers a number (docs/RULES.md, R1), and any slice of any length and contents is allowed.
 
+use std::mem::MaybeUninit;
+
 pub const RECORD_WORDS: usize = 15;
 pub const QUEUE_WORDS: usize = 6;
 pub const ANSWER_WORDS: usize = 9;
@@ -276,6 +278,14 @@ pub fn queue_make(queue: &mut [u64], descriptors: u64, available: u64, used: u64
     }
 }
 
+/// Memory, all of which is written.
+///
+/// # Safety
+/// Only the library gets it, which leaves every byte written.
+unsafe fn all_written(mem: &mut [u8]) -> &mut [MaybeUninit<u8>] {
+    &mut *(mem as *mut [u8] as *mut [MaybeUninit<u8>])
+}
+
 impl Lent<'_> {
     #[inline]
     pub fn place(self, start: u64, size: u64, slots: &[u32], answer: &mut [u64]) -> u64 {
@@ -372,19 +382,18 @@ impl Lent<'_> {
 
     #[inline]
     pub fn serve(self, queue: &mut [u64], mem: &mut [u8], base: u64, answer: &mut [u64]) -> u64 {
-        unsafe { self.serve_at(queue, mem.as_mut_ptr(), mem.len(), base, answer) }
+        unsafe { self.serve_at(queue, all_written(mem), base, answer) }
     }
 
     /// As `serve`, in memory of which some bytes may not be written yet.
     ///
     /// # Safety
-    /// All of it is lent, and what the call reads of it is written.
+    /// What the call reads of it is written.
     #[inline]
     pub unsafe fn serve_at(
         self,
         queue: &mut [u64],
-        mem: *mut u8,
-        mem_bytes: usize,
+        mem: &mut [MaybeUninit<u8>],
         base: u64,
         answer: &mut [u64],
     ) -> u64 {
@@ -397,8 +406,8 @@ impl Lent<'_> {
             self.bitmap.len(),
             self.table.as_ptr(),
             self.table.len(),
-            mem,
-            mem_bytes,
+            mem.as_mut_ptr().cast(),
+            mem.len(),
             base,
             answer.as_mut_ptr(),
             answer.len(),
@@ -415,19 +424,18 @@ impl Lent<'_> {
         host: u64,
         answer: &mut [u64],
     ) -> u64 {
-        unsafe { self.serve_answer_at(queue, mem.as_mut_ptr(), mem.len(), base, ok, host, answer) }
+        unsafe { self.serve_answer_at(queue, all_written(mem), base, ok, host, answer) }
     }
 
     /// As `serve_answer`, in memory of which some bytes may not be written yet.
     ///
     /// # Safety
-    /// All of it is lent; the call reads none of it.
+    /// What the call reads of it, which is nothing, is written.
     #[inline]
     pub unsafe fn serve_answer_at(
         self,
         queue: &mut [u64],
-        mem: *mut u8,
-        mem_bytes: usize,
+        mem: &mut [MaybeUninit<u8>],
         base: u64,
         ok: bool,
         host: u64,
@@ -442,8 +450,8 @@ impl Lent<'_> {
             self.bitmap.len(),
             self.table.as_mut_ptr(),
             self.table.len(),
-            mem,
-            mem_bytes,
+            mem.as_mut_ptr().cast(),
+            mem.len(),
             base,
             ok,
             host,

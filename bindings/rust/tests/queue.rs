@@ -1,112 +1,15 @@
 // SPDX-License-Identifier: Apache-2.0 AND BSD-3-Clause
 //! A guest's queue over the static library: which head is taken, what is refused, and what stands in the used ring.
 
-use jambcopper::driver::{Request, REQUEST_BYTES, RESPONSE_BYTES};
+use jambcopper::driver::Request;
 use jambcopper::{Answer, Device, Error, HostAnswer, Queue, BLOCK_SIZE, QUEUE_WORDS};
 
 mod common;
+#[path = "common/rings.rs"]
+mod rings;
 
 use common::{again, discard, placed, served, BASE, HOST, START};
-
-/// Where the parts of the queue lie in guest memory; behind them an exchange for each two descriptors.
-const AVAILABLE: usize = 2048;
-const USED: usize = 2312;
-const EXCHANGES: usize = 3344;
-const EXCHANGE: usize = REQUEST_BYTES + RESPONSE_BYTES;
-const MEMORY: usize = EXCHANGES + 64 * EXCHANGE;
-
-/// A guest with its queue, and the device on it.
-#[derive(Clone, Debug, PartialEq, Eq)]
-struct Machine {
-    device: Device,
-    queue: Queue,
-    mem: Vec<u8>,
-}
-
-impl Machine {
-    fn new() -> Machine {
-        Machine {
-            device: placed(),
-            queue: Queue::new(BASE, BASE + AVAILABLE as u64, BASE + USED as u64),
-            mem: vec![0; MEMORY],
-        }
-    }
-
-    /// With words of the queue changed.
-    fn with(mut self, words: &[(usize, u64)]) -> Machine {
-        let mut all = *self.queue.words();
-        for &(at, word) in words {
-            all[at] = word;
-        }
-        self.queue = Queue::from_words(&all).unwrap();
-        self
-    }
-
-    fn put(&mut self, at: usize, bytes: &[u8]) {
-        self.mem[at..at + bytes.len()].copy_from_slice(bytes);
-    }
-
-    fn get(&self, at: usize) -> u16 {
-        u16::from_le_bytes([self.mem[at], self.mem[at + 1]])
-    }
-
-    fn descriptor(&mut self, index: u16, addr: usize, length: u32, flags: u16, next: u16) {
-        let at = 16 * usize::from(index);
-        self.put(at, &(BASE + addr as u64).to_le_bytes());
-        self.put(at + 8, &length.to_le_bytes());
-        self.put(at + 12, &flags.to_le_bytes());
-        self.put(at + 14, &next.to_le_bytes());
-    }
-
-    /// Lays down a request from an even descriptor on.
-    fn lay(&mut self, head: u16, request: Request) {
-        let at = EXCHANGES + EXCHANGE * usize::from(head / 2);
-        self.put(at, &request.to_bytes());
-        self.descriptor(head, at, 24, 1, head + 1);
-        self.descriptor(head + 1, at + REQUEST_BYTES, 10, 2, 0);
-    }
-
-    /// Puts a head into the available ring: the entry, then the index.
-    fn offer(&mut self, head: u16) {
-        let index = self.get(AVAILABLE + 2);
-        let entry = AVAILABLE + 4 + 2 * usize::from(index % 128);
-        self.put(entry, &head.to_le_bytes());
-        self.put(AVAILABLE + 2, &index.wrapping_add(1).to_le_bytes());
-    }
-
-    fn ask(&mut self, head: u16, request: Request) {
-        self.lay(head, request);
-        self.offer(head);
-    }
-
-    fn used_index(&self) -> u16 {
-        self.get(USED + 2)
-    }
-
-    /// Id and length of the element that the used ring has for an index.
-    fn used(&self, index: u16) -> (u32, u32) {
-        let at = USED + 4 + 8 * usize::from(index % 128);
-        let word = |at: usize| u32::from_le_bytes(self.mem[at..at + 4].try_into().unwrap());
-        (word(at), word(at + 4))
-    }
-
-    fn serve(&mut self) -> Result<Option<Answer>, Error> {
-        self.device.serve(&mut self.queue, &mut self.mem, BASE)
-    }
-
-    fn answer(&mut self, told: HostAnswer) -> Result<Answer, Error> {
-        self.device
-            .serve_answer(&mut self.queue, &mut self.mem, BASE, told)
-    }
-
-    /// Both calls are refused so, and all is as before.
-    fn refuses(&mut self, serve: Error, answer: Error) {
-        let before = self.clone();
-        assert_eq!(self.serve(), Err(serve));
-        assert_eq!(self.answer(HostAnswer::Failed), Err(answer));
-        assert_eq!(*self, before);
-    }
-}
+use rings::{Machine, AVAILABLE, MEMORY, USED};
 
 #[test]
 fn the_next_head_by_how_far_the_index_is_ahead() {
