@@ -413,6 +413,20 @@ fn a_range_may_go_through_regions_that_touch_and_not_over_a_hole() {
 }
 
 #[test]
+fn a_table_does_not_go_on_at_0() {
+    // Descriptor 1 would lie at 2^64, and there is guest memory at 0.
+    let mut machine = Machine::new().with(&[(0, 0u64.wrapping_sub(16))]);
+    machine.lay(0, Request::state(START, 1));
+    machine.offer(1);
+    let mut parts = [
+        (0, machine.mem[..2048].to_vec()),
+        (BASE, machine.mem.clone()),
+    ];
+    let told = call(&mut machine, &regions(&mut parts), None);
+    assert_eq!(told, Ok(Some(Answer::Unserved { reason: 21 })));
+}
+
+#[test]
 fn regions_do_not_lie_on_one_another() {
     let mut parts = [(1000, vec![0; 10]), (1020, vec![0; 10])];
     let mut mem = regions(&mut parts);
