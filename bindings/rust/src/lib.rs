@@ -46,6 +46,7 @@ use std::marker::PhantomData;
 pub mod driver;
 pub mod guest;
 mod queue;
+pub mod recorder;
 pub mod save;
 mod sys;
 
