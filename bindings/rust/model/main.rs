@@ -3,6 +3,8 @@
 //! `queue_model CALLS SEED` makes so many calls, and `queue_model --guest CALLS SEED` as many of those for a guest that runs; the
 //! tests make a few.
 
+#![allow(clippy::incompatible_msrv)] // which is the library's
+
 use std::env;
 use std::fmt;
 use std::process::exit;

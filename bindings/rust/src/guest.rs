@@ -317,14 +317,18 @@ impl Private {
         if !inside || first.flags & NEXT == 0 || first.next == head {
             return None;
         }
-        let Some(mut second) = Descriptor::read(mem, queue, first.next) else {
-            first.next = QUEUE_SIZE;
-            return None;
-        };
-        let status = second.addr;
-        second.addr = response_address(mem, status);
-        self.put(descriptor_at(first.next), second.bytes());
-        Some(status)
+        match Descriptor::read(mem, queue, first.next) {
+            None => {
+                first.next = QUEUE_SIZE;
+                None
+            }
+            Some(mut second) => {
+                let status = second.addr;
+                second.addr = response_address(mem, status);
+                self.put(descriptor_at(first.next), second.bytes());
+                Some(status)
+            }
+        }
     }
 
     fn serve(&mut self, device: Lent, answer: &mut [u64; ANSWER_WORDS]) -> u64 {
@@ -496,11 +500,10 @@ impl Regions {
         let last = (size as u64).checked_sub(1).ok_or(BadRegion)?;
         let last = guest.checked_add(last).ok_or(BadRegion)?;
         let at = self.regions.partition_point(|region| region.guest <= guest);
-        let below = at.checked_sub(1).map(|below| &self.regions[below]);
-        let above = self.regions.get(at);
-        if below.is_some_and(|below| guest - below.guest < below.size as u64)
-            || above.is_some_and(|above| above.guest <= last)
-        {
+        let (below, above) = self.regions.split_at(at);
+        let in_below = |below: &Region| guest - below.guest < below.size as u64;
+        let in_above = |above: &Region| above.guest <= last;
+        if below.last().map_or(false, in_below) || above.first().map_or(false, in_above) {
             return Err(BadRegion);
         }
         self.regions.insert(at, Region { guest, size, host });
@@ -599,22 +602,26 @@ impl GuestMemory for Regions {
 
     #[inline]
     fn read(&self, addr: u64, into: &mut [u8]) -> bool {
-        let Some(from) = self.whole(addr, into.len() as u64) else {
-            return self.read_across(addr, into);
-        };
-        // SAFETY: so many bytes are in the region.
-        unsafe { load(from, into) };
-        true
+        match self.whole(addr, into.len() as u64) {
+            None => self.read_across(addr, into),
+            Some(from) => {
+                // SAFETY: so many bytes are in the region.
+                unsafe { load(from, into) };
+                true
+            }
+        }
     }
 
     #[inline]
     fn write(&self, addr: u64, bytes: &[u8]) -> bool {
-        let Some(to) = self.whole(addr, bytes.len() as u64) else {
-            return self.write_across(addr, bytes);
-        };
-        // SAFETY: so many bytes are in the region.
-        unsafe { store(to, bytes) };
-        true
+        match self.whole(addr, bytes.len() as u64) {
+            None => self.write_across(addr, bytes),
+            Some(to) => {
+                // SAFETY: so many bytes are in the region.
+                unsafe { store(to, bytes) };
+                true
+            }
+        }
     }
 }
 

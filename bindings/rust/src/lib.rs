@@ -541,7 +541,7 @@ impl Device {
     /// How many map regions there are: so many slots does [`Device::place`] take.
     pub fn map_regions(&self) -> usize {
         if self.record[8] == 1 {
-            self.region_size().div_ceil(MAP_REGION_SIZE) as usize
+            pieces(self.region_size(), MAP_REGION_SIZE)
         } else {
             1
         }
@@ -574,8 +574,13 @@ impl Device {
 
     /// How many bytes of bitmap the region needs.
     fn bitmap_bytes(&self) -> usize {
-        self.region_size().div_ceil(8 * BLOCK_SIZE) as usize
+        pieces(self.region_size(), 8 * BLOCK_SIZE)
     }
+}
+
+/// How many pieces of a size a region has, the last perhaps a part of one. No record has a region above 1 TiB.
+fn pieces(region: u64, size: u64) -> usize {
+    ((region + size - 1) / size) as usize
 }
 
 impl fmt::Debug for Device {

@@ -168,8 +168,11 @@ impl Recorder {
             (None, _) => self.stop(Stopped::PlacedAgain),
             (Some(made), &[slot, ..]) if count_up && slot <= LAST_SLOT => {
                 self.begun = true;
-                let line = format_args!("{made} addr={start} slot={slot}");
-                self.note(line, Ok(told), device);
+                self.note(
+                    format_args!("{made} addr={start} slot={slot}"),
+                    Ok(told),
+                    device,
+                );
             }
             _ => self.stop(Stopped::Slots),
         }
@@ -273,8 +276,8 @@ impl Recorder {
 
     /// A host's answer, where it has come to the device.
     fn note_given(&mut self, given: HostAnswer, told: Result<Answer, Error>, device: &Device) {
-        let by_queue = [Error::WrongAnswer, Error::RingOutside, Error::BadRecord];
-        if told.is_err_and(|error| by_queue.contains(&error)) {
+        // The queue's refusals have no line, and nor has an answer to another question.
+        if let Err(Error::WrongAnswer | Error::RingOutside | Error::BadRecord) = told {
             return;
         }
         let (ok, addr) = match given {

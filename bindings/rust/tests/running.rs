@@ -44,8 +44,8 @@ impl<'a> Noted<'a> {
 
 impl GuestMemory for Noted<'_> {
     fn contains(&self, addr: u64, size: u64) -> bool {
-        let end = addr.checked_add(size);
-        BASE <= addr && end.is_some_and(|end| end <= BASE + MEMORY as u64)
+        let room = (BASE + MEMORY as u64).saturating_sub(size);
+        (BASE..=room).contains(&addr)
     }
 
     fn read(&self, addr: u64, into: &mut [u8]) -> bool {
