@@ -4,8 +4,9 @@
 //! [`Device`] keeps the device's record, its bitmap and its map table, and lends them to the proved functions of the
 //! static library; its methods are named as those are in `bindings/c/jambcopper.h`. It never calls back: where the host
 //! must create or discard memory, a call answers [`Answer::Wants`], and the host answers by [`Device::host_answer`].
-//! [`Queue`] is the guest's queue, which [`Device::serve`] goes over. [`driver`] is the guest's side: its requests, the
-//! responses and the config that it reads, and a planner. [`save`] has save records: a device as text, and the old form.
+//! [`Queue`] is the guest's queue, which [`Device::serve`] goes over; [`guest`] serves one whose guest runs meanwhile.
+//! [`driver`] is the guest's side: its requests, the responses and the config that it reads, and a planner. [`save`] has
+//! save records: a device as text, and the old form. [`recorder`] writes down what is asked of a device, as a trace.
 //!
 //! ```
 //! use jambcopper::{Answer, Device, Error, HostAnswer, HostCall};
@@ -31,11 +32,40 @@
 //! a slice. No vCPU may write that memory before the call returns: a call may read a byte twice, and what is proved of
 //! it does not hold where the byte has changed in between. It would break Rust's own rule for a `&mut` slice too.
 //!
+//! Where vCPUs run, and where guest memory is in several regions, [`Device::serve_guest`] and
+//! [`Device::serve_guest_answer`] stand in their place: they work on a private copy of what they read.
+//!
 //! # What the host must do
 //!
 //! Beside answering, it notifies the guest when a request has ended, and tells it that its config has changed when a
 //! size change has ended ([`Device::set_requested_size`]). A host that goes over the rings itself, with
 //! [`Device::request`], puts each chain that has ended on the used ring with the length of the answer.
+//!
+//! # Threads
+//!
+//! A [`Device`] and a [`Queue`] are [`Send`] and not [`Sync`]. A call takes both by `&mut`, so that one thread at a time
+//! is in one, and they may go on to another thread between two calls. They are not shared, since what they have between
+//! two calls may be half of a request: after a question a head is out, and an unplug-all gives up its blocks one by one.
+//! So device and queue belong behind one lock, which is held from a question to its answer where another thread is not
+//! to see that: `Mutex<(Device, Queue)>` is `Sync`. [`guest::Regions`] are both, as guest memory is everyone's. The
+//! library has no state of its own, so that devices are independent of one another.
+//!
+//! # Platform
+//!
+//! The static library is for x86-64, with the C calling convention of Linux, and so is this crate. The crate's own code
+//! takes no other system for granted than `std` does. On another processor a program that links it is built with
+//! `--target x86_64-unknown-linux-gnu` and runs under an emulator, which `bin/x86-cargo` and `bin/run` of the repository
+//! see to.
+//!
+//! # Rust version
+//!
+//! Rust 1.63 or later, which Debian 12 has. The crate's tests were run with 1.63 and 1.95; the two test programs of
+//! `model/` take a later one.
+//!
+//! # Licence
+//!
+//! Apache-2.0 AND BSD-3-Clause, as that of the module from which the device was ported: LICENSE and NOTICE in the root of
+//! the repository.
 
 #![warn(missing_docs)]
 
