@@ -103,20 +103,23 @@
 //!         self.0.read_slice(into, GuestAddress(addr)).is_ok()
 //!     }
 //!     fn write(&self, addr: u64, bytes: &[u8]) -> bool {
-//!         // A range that is partly outside is not written in part.
-//!         self.contains(addr, bytes.len() as u64) && self.0.write_slice(bytes, GuestAddress(addr)).is_ok()
+//!         // Without the test, a range that is partly outside would be written in part.
+//!         let addr = GuestAddress(addr);
+//!         self.0.check_range(addr, bytes.len()) && self.0.write_slice(bytes, addr).is_ok()
 //!     }
 //!     fn read_index(&self, addr: u64) -> Option<u16> {
-//!         self.0.load(GuestAddress(addr), Relaxed).ok().map(u16::from_le)
+//!         // At an odd address, which no ring of a driver has, there is no load.
+//!         let addr = GuestAddress(addr);
+//!         let index = self.0.load(addr, Relaxed).or_else(|_| self.0.read_obj(addr));
+//!         index.ok().map(u16::from_le)
 //!     }
 //!     fn write_index(&self, addr: u64, index: u16) -> bool {
-//!         self.0.store(index.to_le(), GuestAddress(addr), Relaxed).is_ok()
+//!         let (addr, index) = (GuestAddress(addr), index.to_le());
+//!         let stored = self.0.store(index, addr, Relaxed);
+//!         stored.or_else(|_| self.0.write_obj(index, addr)).is_ok()
 //!     }
 //! }
 //! ```
-//!
-//! vm-memory refuses to load or to store at an odd address, which no ring of a driver has (Virtio 1.2, 2.7): there
-//! [`Device::serve_guest`] is then refused with [`Error::RingOutside`].
 
 use std::fmt;
 use std::mem::MaybeUninit;

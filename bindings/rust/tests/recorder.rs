@@ -146,6 +146,36 @@ fn the_whole_example_is_written_as_it_stands() {
 }
 
 #[test]
+fn every_request_has_its_numbers() {
+    let mut desk = Desk::new();
+    desk.place().unwrap();
+    desk.created(HostAnswer::Created(HOST)).unwrap();
+    for (op, request_type) in [("plug", 0), ("unplug", 1), ("state", 3)] {
+        for (addr, blocks) in [(0, 0), (u64::MAX, 65_535), (0x0102_0304_0506_0708, 0x090a)] {
+            let request = Request {
+                request_type,
+                addr,
+                blocks,
+            };
+            desk.ask(request).unwrap();
+            let line = format!("op={op} addr={addr} blocks={blocks}");
+            assert_eq!(desk.lines.text().lines().last(), Some(&*line));
+        }
+    }
+    let all = Request {
+        request_type: 2,
+        addr: 7,
+        blocks: 8,
+    };
+    desk.ask(all).unwrap();
+    assert_eq!(desk.lines.text().lines().last(), Some("op=unplug_all"));
+    desk.size(u64::MAX).unwrap_err();
+    let line = format!("op=size mib={}", u64::MAX);
+    assert_eq!(desk.lines.text().lines().last(), Some(&*line));
+    desk.recorder.finish().unwrap();
+}
+
+#[test]
 fn what_has_no_line_is_left_out() {
     let mut desk = Desk::new();
     // Before the placing: what is refused, and a placing that is.
@@ -259,6 +289,15 @@ fn a_call_that_was_not_seen_stops_it() {
         .place(&mut desk.machine.device, START, 512 << 20, &[1])
         .unwrap();
     assert!(matches!(stopped(desk, 0), Stopped::Unseen));
+
+    // A second device that it has made.
+    let mut desk = Desk::new();
+    desk.place().unwrap();
+    desk.machine.device = desk.recorder.make(512, 16, false, None, 1 << 30).unwrap();
+    desk.recorder
+        .place(&mut desk.machine.device, START, 512 << 20, &[1])
+        .unwrap();
+    assert!(matches!(stopped(desk, 1), Stopped::Unseen));
 }
 
 #[test]
