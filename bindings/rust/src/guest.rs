@@ -56,6 +56,8 @@
 //! 4. the 24 bytes of the request, where that descriptor is of a request;
 //! 5. the descriptor behind it, where the request is inside and the first names one that is not itself.
 //!
+//! All of it is read before the device is asked, also where that then refuses the call.
+//!
 //! Where the request has ended, the 10 bytes of the response are written, then the 8 of the used element, then, behind
 //! a release fence, the used ring's index, one access where it lies at an even address. Nothing else is written.
 //! [`Device::serve_guest_answer`] reads nothing and writes the same. A refused call writes nothing and changes nothing.
@@ -65,10 +67,9 @@
 //! All that is proved is proved of a slice that nobody else writes during a call. Here that slice is the private memory,
 //! which no guest knows, and it is whole before the proved function is called. So whatever the guest writes meanwhile,
 //! the result is the proved function's on the bytes that were read: what the guest has changed behind a read is not
-//! seen in this call, and what it has changed before one is as if it had always been there. The proved function only
-//! writes what is copied back, and reads nothing that it or anyone has written meanwhile. Where a guest lets two things
-//! lie on one byte, as a request on its ring, the byte is read once for each, and may be another each time; in the
-//! private memory these are two bytes.
+//! seen in this call, and what it has changed before one is as if it had always been there. What is written back is
+//! what the proved function has written. Where a guest lets two things lie on one byte, as a request on its ring, the
+//! byte is read once for each, and may be another each time; in the private memory these are two bytes.
 //!
 //! What is assumed: that memory which [`GuestMemory::contains`] has named stays guest memory until the call returns; and
 //! the translation, which is this:
@@ -206,12 +207,11 @@ impl Device {
 /// The record's word that has the response's guest address while a discard is pending.
 const STATUS: usize = 14;
 
-/// The queue's words: the guest addresses of its parts, the indices.
+/// The queue's words: the guest addresses of its parts, and from the next available index on those that a call changes.
 const DESCRIPTORS: usize = 0;
 const AVAILABLE: usize = 1;
 const USED: usize = 2;
 const NEXT_AVAILABLE: usize = 3;
-const NEXT_USED: usize = 4;
 
 const QUEUE_SIZE: u16 = 128;
 const AVAILABLE_BYTES: u64 = 262;
@@ -350,8 +350,8 @@ impl Private {
         unsafe { device.serve_answer_at(&mut self.words, &mut self.bytes, 0, ok, host, answer) }
     }
 
-    /// Gives the guest what the call has written: the response where it was delivered, and the head where it was
-    /// reported, its element first and then the index. The queue gets the words that have changed.
+    /// Gives the queue the words that have changed, and then the guest what the call has written: the response where it
+    /// was delivered, and the head where it was reported, its element first and then the index.
     fn give_back<M: GuestMemory + ?Sized>(
         &self,
         mem: &M,
@@ -359,14 +359,15 @@ impl Private {
         status: u64,
         told: &[u64; ANSWER_WORDS],
     ) {
+        let before = queue.next_used();
+        queue.words[NEXT_AVAILABLE..].copy_from_slice(&self.words[NEXT_AVAILABLE..]);
         if told[0] == sys::KIND_SERVED && told[sys::ANSWER_LENGTH] != 0 {
             // SAFETY: a response that is delivered is written, here to its private place.
             let response: [u8; RESPONSE_BYTES] = unsafe { self.written(RESPONSE_AT) };
             mem.write(status, &response);
         }
-        if self.words[NEXT_USED] != queue.words[NEXT_USED] {
-            let entry = usize::from(queue.next_used() % QUEUE_SIZE);
-            let at = ENTRIES + ELEMENT_BYTES * entry;
+        if queue.next_used() != before {
+            let at = ENTRIES + ELEMENT_BYTES * usize::from(before % QUEUE_SIZE);
             // SAFETY: a head that is reported is written, its element and the index.
             let (element, index): ([u8; ELEMENT_BYTES], _) =
                 unsafe { (self.written(USED_AT + at), self.written(USED_AT + INDEX)) };
@@ -374,7 +375,6 @@ impl Private {
             fence(Ordering::Release);
             mem.write_index(queue.used() + INDEX as u64, u16::from_le_bytes(index));
         }
-        queue.words[NEXT_AVAILABLE..].copy_from_slice(&self.words[NEXT_AVAILABLE..]);
     }
 
     fn put<const N: usize>(&mut self, at: usize, bytes: [u8; N]) {
@@ -448,7 +448,7 @@ impl Descriptor {
 /// Guest memory of several regions: each a guest address, how many bytes, and where the process has them mapped.
 ///
 /// Regions may touch, and a range may go from one into the next; between others there are holes. Bytes are loaded and
-/// stored by relaxed atomic accesses, each as wide as the host address allows, up to 8 bytes.
+/// stored by relaxed atomic accesses, as wide as the host address and the length allow, up to 8 bytes.
 #[derive(Debug, Default)]
 pub struct Regions {
     /// By guest address, none on another.
