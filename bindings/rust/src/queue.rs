@@ -1,6 +1,7 @@
 // SPDX-License-Identifier: Apache-2.0 AND BSD-3-Clause
 //! The guest's queue, as the words that the library takes.
 
+use std::fmt;
 use std::marker::PhantomData;
 
 use crate::sys::{self, QUEUE_WORDS};
@@ -57,7 +58,7 @@ use crate::{Error, NotShared};
 /// assert_eq!((asked, device.plugged_size()), (2, 0));
 /// # Ok::<(), Error>(())
 /// ```
-#[derive(Clone, Debug, PartialEq, Eq)]
+#[derive(Clone, PartialEq, Eq)]
 pub struct Queue {
     pub(crate) words: [u64; QUEUE_WORDS],
     not_shared: NotShared,
@@ -123,5 +124,13 @@ impl Queue {
     /// The head that is out: its request has asked the host something, and has not ended.
     pub fn taken(&self) -> Option<u16> {
         self.words[5].checked_sub(1).map(|head| head as u16)
+    }
+}
+
+impl fmt::Debug for Queue {
+    fn fmt(&self, f: &mut fmt::Formatter<'_>) -> fmt::Result {
+        f.debug_struct("Queue")
+            .field("words", &self.words)
+            .finish()
     }
 }
