@@ -129,8 +129,6 @@ impl Queue {
 
 impl fmt::Debug for Queue {
     fn fmt(&self, f: &mut fmt::Formatter<'_>) -> fmt::Result {
-        f.debug_struct("Queue")
-            .field("words", &self.words)
-            .finish()
+        f.debug_struct("Queue").field("words", &self.words).finish()
     }
 }
