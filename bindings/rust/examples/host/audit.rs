@@ -8,7 +8,7 @@ use std::ops::Deref;
 
 use jambcopper::driver::{Config, Request, CONFIG_BYTES, REQUEST_BYTES, RESPONSE_BYTES};
 use jambcopper::guest::{GuestMemory, Regions};
-use jambcopper::{Answer, Device, Error, HostAnswer, Queue};
+use jambcopper::{Answer, Device, Error, HostAnswer, Queue, BLOCK_SIZE};
 
 use crate::account::{Account, Asked};
 
@@ -67,10 +67,12 @@ impl Audited {
         memory: &Regions,
     ) -> Result<Option<Answer>, Error> {
         let noted = Noted::new(memory);
-        let before = queue.clone();
+        let (before, plugged) = (queue.clone(), self.plugged_size());
         let told = self.device.serve_guest(queue, &noted);
         let expected = self.taken(&noted, &before);
         self.hold("serve", &told, &expected);
+        let more = (self.plugged_size() - plugged) / BLOCK_SIZE;
+        self.tally.count("blocks-plugged", more);
         self.hold_writes(&noted, &before, told.ok().flatten());
         told
     }
@@ -82,10 +84,12 @@ impl Audited {
         answer: HostAnswer,
     ) -> Result<Answer, Error> {
         let noted = Noted::new(memory);
-        let before = queue.clone();
+        let (before, plugged) = (queue.clone(), self.plugged_size());
         let told = self.device.serve_guest_answer(queue, &noted, answer);
         let expected = self.account.answered(answer, memory);
         self.hold("answer", &told, &expected);
+        let fewer = (plugged - self.plugged_size()) / BLOCK_SIZE;
+        self.tally.count("blocks-unplugged", fewer);
         self.hold_writes(&noted, &before, told.ok());
         told
     }

@@ -18,8 +18,11 @@ pub const QUEUE: [u64; 3] = [RAM[0], RAM[0] + 2048, RAM[0] + 2312];
 pub const QUEUE_BYTES: usize = 2312 + 1030;
 
 /// Each two descriptors have a request and room for its response, so many bytes apart.
-pub const EXCHANGES: u16 = QUEUE_SIZE / 2;
-pub const EXCHANGE_BYTES: u64 = 40;
+pub const EXCHANGES: usize = QUEUE_SIZE as usize / 2;
+pub const EXCHANGE_BYTES: usize = 40;
+
+/// So many milliseconds a guest waits for a notification.
+const PATIENCE: i32 = 60_000;
 
 /// The flags of a descriptor.
 const NEXT: u16 = 1;
@@ -129,7 +132,8 @@ impl Driver<'_> {
         while responses.len() < requests.len() {
             match self.take() {
                 Some(response) => responses.push(response),
-                None => self.host.notify.wait()?,
+                None if self.host.notify.wait_for(PATIENCE)? => {}
+                None => return Err(io::ErrorKind::TimedOut.into()),
             }
         }
         Ok(responses)
@@ -229,8 +233,11 @@ impl Driver<'_> {
 
 /// The head of the nth request, and where it lies.
 fn exchange(nth: u16) -> (u16, u64) {
-    let exchange = nth % EXCHANGES;
-    (2 * exchange, RAM[1] + u64::from(exchange) * EXCHANGE_BYTES)
+    let exchange = usize::from(nth) % EXCHANGES;
+    (
+        2 * exchange as u16,
+        RAM[1] + (exchange * EXCHANGE_BYTES) as u64,
+    )
 }
 
 fn descriptor(addr: u64, length: usize, flags: u16, next: u16) -> [u8; 16] {

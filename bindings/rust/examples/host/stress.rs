@@ -70,21 +70,27 @@ fn spoil(host: &Host, mut random: Random, stop: &AtomicBool) -> io::Result<()> {
     Ok(())
 }
 
+/// Writes a byte somewhere in the rings, the descriptors and the requests, half of the time to those of the newest
+/// request; and now and then the available ring's index goes on, as if there were more.
 fn spoil_one(host: &Host, random: &mut Random) {
-    let (region, bytes) = match random.chance(60) {
-        true => (0, QUEUE_BYTES as u64),
-        false => (1, u64::from(EXCHANGES) * EXCHANGE_BYTES),
+    let (rings, requests) = (host.ram(0), host.ram(1));
+    let index = &rings[(QUEUE[1] - RAM[0]) as usize + 2];
+    let newest = usize::from(index.load(Ordering::Relaxed).wrapping_sub(1)) % EXCHANGES;
+    let (bytes, range) = match random.below(4) {
+        0 => (rings, 0..QUEUE_BYTES),
+        1 => (requests, 0..EXCHANGES * EXCHANGE_BYTES),
+        2 => (rings, newest * 32..newest * 32 + 32),
+        _ => (
+            requests,
+            newest * EXCHANGE_BYTES..(newest + 1) * EXCHANGE_BYTES,
+        ),
     };
     let any = random.next() as u8;
-    let byte = match random.chance(50) {
-        true => random.pick(&TELLING),
-        false => any,
-    };
-    host.ram(region)[random.below(bytes) as usize].store(byte, Ordering::Relaxed);
+    let telling = random.pick(&TELLING);
+    let byte = if random.chance(50) { telling } else { any };
+    bytes[range.start + random.below(range.len() as u64) as usize].store(byte, Ordering::Relaxed);
     if random.chance(1) {
-        // The available ring's index goes on, as if there were more requests.
-        let index = (QUEUE[1] + 2 - RAM[0]) as usize;
-        host.ram(0)[index].fetch_add(random.below(8) as u8, Ordering::Relaxed);
+        index.fetch_add(random.below(8) as u8, Ordering::Relaxed);
     }
 }
 
@@ -128,7 +134,14 @@ fn queue(random: &mut Random) -> [u64; 3] {
 /// A request that is mostly good.
 fn request(random: &mut Random, config: &Config) -> Request {
     let blocks = 1 + random.below(4) as u16;
-    let addr = START + random.below(config.usable_size / BLOCK_SIZE + 4) * BLOCK_SIZE;
+    let usable = config.usable_size / BLOCK_SIZE;
+    // Often the same few blocks, and those about the border of two map regions.
+    let some = [
+        random.below(16),
+        508 + random.below(8),
+        random.below(usable + 4),
+    ];
+    let addr = START + random.pick(&some) * BLOCK_SIZE;
     match random.below(100) {
         0..=39 => Request::plug(addr, blocks),
         40..=69 => Request::unplug(addr, blocks),
