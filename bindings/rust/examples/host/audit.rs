@@ -331,8 +331,8 @@ pub struct Tally {
 }
 
 impl Tally {
-    pub fn all_right(&self) -> bool {
-        self.wrong == 0
+    pub fn count_of_wrong(&self) -> u64 {
+        self.wrong
     }
 
     /// Counts what is wrong, and tells it on the standard error.

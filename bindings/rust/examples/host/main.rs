@@ -14,7 +14,7 @@
 use std::env;
 use std::io;
 use std::panic;
-use std::process::exit;
+use std::process::{exit, ExitCode};
 use std::sync::atomic::{AtomicBool, Ordering};
 use std::sync::mpsc::channel;
 use std::sync::Arc;
@@ -37,12 +37,10 @@ use guest::{Driver, Guest};
 use host::{Host, START};
 use random::Random;
 
-const USAGE: &str = "usage: host [--seconds N [--seed S]]";
-
 /// How often the host changes its mind while the guest follows.
 const CHANGES: u64 = 200;
 
-fn main() {
+fn main() -> ExitCode {
     // A thread that panics ends the program: the others would wait for it.
     let told = panic::take_hook();
     panic::set_hook(Box::new(move |panicked| {
@@ -50,32 +48,37 @@ fn main() {
         exit(1)
     }));
     let args: Vec<String> = env::args().skip(1).collect();
-    let args: Vec<&str> = args.iter().map(String::as_str).collect();
-    let number = |text: &str| {
-        text.parse::<u64>().unwrap_or_else(|_| {
-            eprintln!("host: {text} is no number\n{USAGE}");
-            exit(2)
-        })
-    };
-    let ran = match args[..] {
-        [] => example(),
-        ["--seconds", seconds] => stress::run(number(seconds), 1),
-        ["--seconds", seconds, "--seed", seed] => stress::run(number(seconds), number(seed)),
-        _ => {
-            eprintln!("{USAGE}");
-            exit(2)
+    let ran = match arguments(&args) {
+        Some(None) => example(),
+        Some(Some((seconds, seed))) => stress::run(seconds, seed),
+        None => {
+            eprintln!("usage: host [--seconds N [--seed S]]");
+            return ExitCode::from(2);
         }
     };
     match ran {
-        Ok(all_right) => exit(i32::from(!all_right)),
+        Ok(true) => ExitCode::SUCCESS,
+        Ok(false) => ExitCode::FAILURE,
         Err(error) => {
             eprintln!("host: {error}");
-            exit(1)
+            ExitCode::FAILURE
         }
     }
 }
 
-/// Several map regions, of which the second is created when the requested size grows.
+/// How long the stress is, and its seed; none where there are no arguments.
+fn arguments(args: &[String]) -> Option<Option<(u64, u64)>> {
+    let args: Vec<&str> = args.iter().map(String::as_str).collect();
+    let (seconds, seed) = match args[..] {
+        [] => return Some(None),
+        ["--seconds", seconds] => (seconds, "1"),
+        ["--seconds", seconds, "--seed", seed] => (seconds, seed),
+        _ => return None,
+    };
+    Some(Some((seconds.parse().ok()?, seed.parse().ok()?)))
+}
+
+/// A device of several map regions, of which the second is created when the requested size grows.
 fn example() -> io::Result<bool> {
     let host = Host::new(4352, 64, true)?;
     let (guest, work) = Guest::new();
@@ -85,16 +88,21 @@ fn example() -> io::Result<bool> {
             let mut driver = Driver::new(&host);
             work.into_iter().for_each(|work| work(&mut driver));
         });
-        plug_and_unplug(&host, &guest)?;
-        change_while_pending(&host, &guest)?;
-        grow(&host, &guest)?;
-        follow(&host, &guest)?;
-        drop(guest);
-        host.end()
+        let done = operate(&host, guest);
+        host.end()?;
+        done
     })?;
-    let all_right = host.with_tally(|tally| tally.all_right());
-    println!("every answer is the account's: {all_right}");
-    Ok(all_right)
+    let wrong = host.with_tally(|tally| tally.count_of_wrong());
+    println!("answers that are not the account's: {wrong}");
+    Ok(wrong == 0)
+}
+
+/// What the host's operator does, and has the guest do.
+fn operate(host: &Host, guest: Guest) -> io::Result<()> {
+    plug_and_unplug(host, &guest)?;
+    change_while_pending(host, &guest)?;
+    grow(host, &guest)?;
+    follow(host, &guest)
 }
 
 /// What the kernel holds of the device's memory, how much of it is mapped, and what the guest reads.

@@ -28,23 +28,26 @@ pub fn run(seconds: u64, seed: u64) -> io::Result<bool> {
         0 => Host::new(4352, 256, true)?,
         _ => Host::new(256, 128, false)?,
     };
-    let stop = AtomicBool::new(false);
-    let [spoils, drives, refuses] = [(); 3].map(|()| Random::new(random.next()));
+    let [resizes, refuses, drives, spoils] = [(); 4].map(|()| Random::new(random.next()));
     host.set_willing(hesitant(refuses));
+    let stop = AtomicBool::new(false);
     thread::scope(|threads| {
         threads.spawn(|| host.run().expect("the device's thread"));
-        let spoiler = threads.spawn(|| spoil(&host, spoils, &stop));
-        let driver = threads.spawn(|| drive(&host, drives, &stop));
-        resize(&host, random, Duration::from_secs(seconds));
+        let guest = [
+            threads.spawn(|| spoil(&host, spoils, &stop)),
+            threads.spawn(|| drive(&host, drives, &stop)),
+        ];
+        resize(&host, resizes, Duration::from_secs(seconds));
         stop.store(true, Ordering::Release);
-        spoiler.join().expect("a thread that ends")?;
-        driver.join().expect("a thread that ends")?;
-        quiet(&host)?;
-        host.end()
+        let ended = guest.map(|thread| thread.join().expect("a thread that ends"));
+        let ended = ended.into_iter().collect::<io::Result<()>>();
+        let ended = ended.and_then(|()| quiet(&host));
+        host.end()?;
+        ended
     })?;
     host.with_tally(|tally| {
         println!("seconds={seconds} seed={seed} {tally}");
-        Ok(tally.all_right())
+        Ok(tally.count_of_wrong() == 0)
     })
 }
 
