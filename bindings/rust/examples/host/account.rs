@@ -1,6 +1,6 @@
 // SPDX-License-Identifier: Apache-2.0 AND BSD-3-Clause
-//! An account of a device, kept by docs/RULES.md and by what the device has acknowledged: the blocks, the sizes, and what
-//! the next answer must be.
+//! An account of a device, kept by docs/RULES.md from its requests and from the host's answers: which blocks are plugged
+//! by what was acknowledged, the sizes, and what each answer must be.
 
 use std::ops::Range;
 

@@ -6,7 +6,7 @@
 //! The device's memory is a memfd for each creation, and goes back to the kernel by fallocate. The guest plugs, touches
 //! and unplugs it, and has what the host asks it to have while the host changes its mind. What is printed is what the
 //! kernel holds of the device's memory and what the guest reads; it is always the same, and stands in
-//! examples/host.stdout. Every call of the device is held against an account (audit.rs, account.rs).
+//! examples/host.stdout. Every call of the device is held against an account of it (audit.rs).
 //!
 //! With `--seconds N [--seed S]` the guest writes random bytes over its rings and requests for so long instead
 //! (stress.rs), and one line says what came up.
@@ -29,6 +29,7 @@ mod audit;
 mod guest;
 mod host;
 mod kernel;
+mod noted;
 #[path = "../../../../compare/oracle/src/random.rs"]
 mod random;
 mod stress;
