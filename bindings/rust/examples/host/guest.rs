@@ -241,14 +241,8 @@ fn exchange(nth: u16) -> (u16, u64) {
 }
 
 fn descriptor(addr: u64, length: usize, flags: u16, next: u16) -> [u8; 16] {
-    let words = (
-        u128::from(addr),
-        length as u128,
-        u128::from(flags),
-        u128::from(next),
-    );
-    let (addr, length, flags, next) = words;
-    (addr | length << 64 | flags << 96 | next << 112).to_le_bytes()
+    let behind = length as u64 | u64::from(flags) << 32 | u64::from(next) << 48;
+    (u128::from(addr) | u128::from(behind) << 64).to_le_bytes()
 }
 
 /// What a guest's thread is given to do.

@@ -45,7 +45,7 @@ pub struct Host {
     willing: Mutex<Willing>,
 }
 
-/// The device and its queue, which go together.
+/// The device and its queue, which go together. A host of yours has a [`Device`] here, whose methods these are.
 struct Kept {
     device: Audited,
     queue: Queue,
@@ -269,12 +269,11 @@ impl Host {
         for page in (addr..addr + size).step_by(PAGE) {
             let mapped = self.mapped.lock().unwrap();
             let byte = mapped.iter().find_map(|(guest, memory)| {
-                memory
-                    .bytes()
-                    .get(usize::try_from(page.checked_sub(*guest)?).ok()?)
+                let offset = page.checked_sub(*guest)?;
+                memory.bytes().get(offset as usize)
             });
-            byte.expect("what is plugged is mapped")
-                .store(0x5a, Ordering::Relaxed);
+            let byte = byte.expect("what is plugged is mapped");
+            byte.store(0x5a, Ordering::Relaxed);
         }
     }
 }
