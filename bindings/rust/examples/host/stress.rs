@@ -46,7 +46,7 @@ pub fn run(seconds: u64, seed: u64) -> io::Result<bool> {
         ended
     })?;
     host.with_tally(|tally| {
-        println!("seconds={seconds} seed={seed} {tally}");
+        println!("stress: seconds={seconds} seed={seed} {tally}");
         Ok(tally.count_of_wrong() == 0)
     })
 }
