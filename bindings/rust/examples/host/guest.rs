@@ -2,7 +2,7 @@
 //! The guest's driver: its queue in the one region of its memory, its requests in the other.
 
 use std::io;
-use std::sync::atomic::{fence, AtomicBool, Ordering};
+use std::sync::atomic::{fence, Ordering};
 use std::sync::mpsc::{channel, Receiver, Sender};
 
 use jambcopper::driver::{plan, Config, Request, Response, REQUEST_BYTES, RESPONSE_BYTES};
@@ -10,6 +10,7 @@ use jambcopper::guest::GuestMemory;
 use jambcopper::{Error, BLOCK_SIZE};
 
 use crate::host::{Host, RAM, START};
+use crate::kernel::Event;
 
 const QUEUE_SIZE: u16 = 128;
 
@@ -21,7 +22,7 @@ pub const QUEUE_BYTES: usize = 2312 + 1030;
 pub const EXCHANGES: usize = QUEUE_SIZE as usize / 2;
 pub const EXCHANGE_BYTES: usize = 40;
 
-/// So many milliseconds a guest waits for a notification.
+/// So many milliseconds a guest waits for an event that must come.
 const PATIENCE: i32 = 60_000;
 
 /// The flags of a descriptor.
@@ -72,15 +73,12 @@ impl Driver<'_> {
         let memory = self.host.memory();
         let [descriptors, available, _] = self.queue;
         let (head, there) = exchange(self.put);
+        let response = there + REQUEST_BYTES as u64;
         memory.write(there, &request.to_bytes());
-        // Which is no response.
-        memory.write(there + REQUEST_BYTES as u64, &[0xff; RESPONSE_BYTES]);
-        let first = descriptor(there, REQUEST_BYTES, NEXT, head + 1);
-        let second = descriptor(there + REQUEST_BYTES as u64, RESPONSE_BYTES, WRITE, 0);
-        memory.write(
-            descriptors + 16 * u64::from(head),
-            &[first, second].concat(),
-        );
+        memory.write(response, &[0xff; RESPONSE_BYTES]); // which is none
+        let at = descriptors + 16 * u64::from(head);
+        memory.write(at, &descriptor(there, REQUEST_BYTES, NEXT, head + 1));
+        memory.write(at + 16, &descriptor(response, RESPONSE_BYTES, WRITE, 0));
         let entry = available + 4 + 2 * u64::from(self.put % QUEUE_SIZE);
         memory.write(entry, &head.to_le_bytes());
         self.put = self.put.wrapping_add(1);
@@ -132,8 +130,7 @@ impl Driver<'_> {
         while responses.len() < requests.len() {
             match self.take() {
                 Some(response) => responses.push(response),
-                None if self.host.notify.wait_for(PATIENCE)? => {}
-                None => return Err(io::ErrorKind::TimedOut.into()),
+                None => wait(&self.host.notify)?,
             }
         }
         Ok(responses)
@@ -182,33 +179,30 @@ impl Driver<'_> {
         }
     }
 
-    /// Has plugged what it is asked to have, as often as that changes, until it is told to stop.
-    pub fn follow(&mut self, stop: &AtomicBool) -> io::Result<()> {
-        loop {
-            let last = stop.load(Ordering::Acquire);
-            self.settle()?;
-            if last {
-                return Ok(());
-            }
-            self.host.config_changed.wait()?;
+    /// Has plugged what it is asked to have, as often as that changes, until that is so many bytes.
+    pub fn follow(&mut self, last: u64) -> io::Result<()> {
+        while self.settle()? != last {
+            wait(&self.host.config_changed)?;
         }
+        Ok(())
     }
 
-    /// Plugs what is proposed, and touches each block; unplugs the highest block where it has too many.
-    fn settle(&mut self) -> io::Result<()> {
+    /// Plugs what is proposed, and touches each block; unplugs the highest block where it has too many. How many bytes it
+    /// is asked to have, and has.
+    fn settle(&mut self) -> io::Result<u64> {
         loop {
             let config = self.config();
-            if let Some(plug) = self.plan() {
+            if config.plugged_size > config.requested_size {
+                let last = self.plugged().last().expect("a plugged block");
+                self.change(Request::unplug(START + last * BLOCK_SIZE, 1))?;
+            } else if config.plugged_size == config.requested_size {
+                return Ok(config.requested_size);
+            } else if let Some(plug) = self.plan() {
                 if self.change(plug)? == Response::ACK {
                     let end = plug.addr + u64::from(plug.blocks) * BLOCK_SIZE;
                     let blocks = (plug.addr..end).step_by(BLOCK_SIZE as usize);
                     blocks.for_each(|block| self.host.touch(block, 1));
                 }
-            } else if config.plugged_size > config.requested_size {
-                let last = self.plugged().last().expect("a plugged block");
-                self.change(Request::unplug(START + last * BLOCK_SIZE, 1))?;
-            } else {
-                return Ok(());
             }
         }
     }
@@ -228,6 +222,14 @@ impl Driver<'_> {
     fn plugged(&self) -> impl Iterator<Item = u64> + '_ {
         let plugged = |&block: &u64| self.believed[block as usize / 8] >> (block % 8) & 1 != 0;
         (0..8 * self.believed.len() as u64).filter(plugged)
+    }
+}
+
+/// Waits for an event, as long as a guest has patience.
+fn wait(event: &Event) -> io::Result<()> {
+    match event.wait_for(PATIENCE)? {
+        true => Ok(()),
+        false => Err(io::ErrorKind::TimedOut.into()),
     }
 }
 

@@ -15,11 +15,8 @@ use std::env;
 use std::io;
 use std::panic;
 use std::process::{exit, ExitCode};
-use std::sync::atomic::{AtomicBool, Ordering};
 use std::sync::mpsc::channel;
-use std::sync::Arc;
 use std::thread;
-use std::time::Duration;
 
 use jambcopper::driver::{Config, Request, Response};
 use jambcopper::BLOCK_SIZE;
@@ -40,6 +37,9 @@ use random::Random;
 
 /// How often the host changes its mind while the guest follows.
 const CHANGES: u64 = 200;
+
+/// What it asks for at last, which is more than it ever did meanwhile.
+const LAST_MIB: u64 = 96;
 
 fn main() -> ExitCode {
     // A thread that panics ends the program: the others would wait for it.
@@ -108,7 +108,7 @@ fn operate(host: &Host, guest: Guest) -> io::Result<()> {
 
 /// What the kernel holds of the device's memory, how much of it is mapped, and what the guest reads.
 fn print(host: &Host, when: &str) -> io::Result<()> {
-    let config = Config::read(&host.read_config()).expect("a config");
+    let config = config(host);
     let kib = [
         host.held()?,
         host.mapped(),
@@ -118,6 +118,10 @@ fn print(host: &Host, when: &str) -> io::Result<()> {
     let [held, mapped, plugged, requested] = kib.map(|bytes| bytes / 1024);
     println!("{when:<26} held={held} KiB mapped={mapped} KiB plugged={plugged} KiB requested={requested} KiB");
     Ok(())
+}
+
+fn config(host: &Host) -> Config {
+    Config::read(&host.read_config()).expect("a config")
 }
 
 fn at(block: u64) -> u64 {
@@ -219,25 +223,27 @@ fn grow(host: &Host, guest: &Guest) -> io::Result<()> {
     print(host, "unplugged all")
 }
 
-/// The guest has what it is asked to have, while the host changes its mind.
+/// The guest has what it is asked to have, while the host changes its mind as soon as it has begun.
 fn follow(host: &Host, guest: &Guest) -> io::Result<()> {
-    let stop = Arc::new(AtomicBool::new(false));
-    let stops = stop.clone();
-    let followed = guest.start(move |driver| {
-        driver.learn()?;
-        driver.follow(&stops)?;
+    let followed = guest.start(|driver| {
+        driver.follow(LAST_MIB << 20)?;
         driver.touch_all();
         io::Result::Ok(())
     });
     let mut random = Random::new(1);
-    for _ in 0..CHANGES {
-        host.resize(4 * random.below(64))
-            .map_err(io::Error::other)?;
-        thread::sleep(Duration::from_micros(random.below(200)));
+    for _ in 1..CHANGES {
+        let before = config(host).plugged_size;
+        let mib = 4 * random.below(LAST_MIB / 4);
+        host.resize(mib).map_err(io::Error::other)?;
+        let waits = |now: Config| now.plugged_size == before && before != now.requested_size;
+        while waits(config(host)) {
+            if let Ok(ended) = followed.try_recv() {
+                return ended;
+            }
+            thread::yield_now();
+        }
     }
-    host.resize(96).map_err(io::Error::other)?;
-    stop.store(true, Ordering::Release);
-    host.config_changed.signal()?;
+    host.resize(LAST_MIB).map_err(io::Error::other)?;
     followed.recv().expect("a guest")?;
     print(host, &format!("followed {CHANGES} changes"))
 }

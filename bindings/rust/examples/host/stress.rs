@@ -127,7 +127,7 @@ fn queue(random: &mut Random) -> [u64; 3] {
         QUEUE,
         [descriptors, available, end],
         [descriptors, high - 261, used],
-        [end - 1024, available, used],
+        [end - 63 * 16, available, used],
         [descriptors, available, available],
         [descriptors, descriptors + 1, used],
         [high, available, used],
