@@ -77,7 +77,7 @@ impl Account {
         if self.pending.is_some() {
             return Err(Error::Pending);
         }
-        if mib > self.region / MIB || mib * MIB % BLOCK_SIZE != 0 {
+        if mib > self.region / MIB || !is_whole(mib * MIB) {
             return Err(Error::BadSize);
         }
         self.requested = mib * MIB;
@@ -198,7 +198,7 @@ impl Account {
         let size = u64::from(request.blocks) * BLOCK_SIZE;
         let end = request.addr.checked_add(size)?;
         let offset = request.addr.checked_sub(self.start)?;
-        let legal = request.addr % BLOCK_SIZE == 0 && size > 0 && end <= self.start + self.usable;
+        let legal = is_whole(request.addr) && size > 0 && end <= self.start + self.usable;
         let first = (offset / BLOCK_SIZE) as usize;
         legal.then(|| first..first + usize::from(request.blocks))
     }
@@ -236,6 +236,11 @@ impl Account {
             (true, true) => Response::MIXED,
         }
     }
+}
+
+/// Whether a size or an address is a whole number of blocks.
+fn is_whole(size: u64) -> bool {
+    size / BLOCK_SIZE * BLOCK_SIZE == size
 }
 
 /// The end of a request, with a response where there is room for it.

@@ -59,9 +59,10 @@ impl Driver<'_> {
     pub fn set_up(&mut self, queue: [u64; 3]) {
         let [_, available, used] = queue;
         (self.queue, self.put, self.taken) = (queue, 0, 0);
+        self.host.stop_queue();
         self.host.memory().write_index(available + 2, 0);
         self.host.memory().write_index(used + 2, 0);
-        self.host.set_queue(queue);
+        self.host.start_queue(queue);
     }
 
     pub fn config(&self) -> Config {

@@ -48,15 +48,17 @@ pub struct Host {
 /// The device and its queue, which go together. A host of yours has a [`Device`] here, whose methods these are.
 struct Kept {
     device: Audited,
+    /// Where it lies, once the guest has set it up.
     queue: Queue,
+    ready: bool,
 }
 
 impl Host {
-    /// A host that has placed its device. The queue is nowhere until the guest has set it up.
+    /// A host that has placed its device.
     pub fn new(capacity_mib: u64, requested_mib: u64, several: bool) -> io::Result<Host> {
         let device = Device::new(capacity_mib, requested_mib, several, None, 1 << 30);
         let device = Audited::new(device.map_err(io::Error::other)?);
-        let queue = Queue::new(u64::MAX, u64::MAX, u64::MAX);
+        let (queue, ready) = (Queue::new(0, 0, 0), false);
         let ram = [Memory::new(RAM_SIZE)?, Memory::new(RAM_SIZE)?];
         let host = Host {
             regions: regions(&ram)?,
@@ -66,7 +68,11 @@ impl Host {
             config_changed: Event::new()?,
             stalled: AtomicBool::new(false),
             ending: AtomicBool::new(false),
-            kept: Mutex::new(Kept { device, queue }),
+            kept: Mutex::new(Kept {
+                device,
+                queue,
+                ready,
+            }),
             idle: Condvar::new(),
             mapped: Mutex::default(),
             willing: Mutex::new(Box::new(|_| true)),
@@ -105,6 +111,9 @@ impl Host {
         loop {
             let served = {
                 let kept = &mut *self.lock();
+                if !kept.ready {
+                    return Ok(());
+                }
                 kept.device.serve_guest(&mut kept.queue, &self.regions)
             };
             match served {
@@ -252,10 +261,16 @@ impl Host {
         config
     }
 
-    /// The guest sets up its queue, at first or anew: where the descriptor table, the available and the used ring are.
-    pub fn set_queue(&self, [descriptors, available, used]: [u64; 3]) {
+    /// The guest takes its queue back: it is not served any more.
+    pub fn stop_queue(&self) {
+        self.lock_idle().ready = false;
+    }
+
+    /// The guest has set up its queue, at first or anew: where the descriptor table, the available and the used ring are.
+    pub fn start_queue(&self, [descriptors, available, used]: [u64; 3]) {
         let mut kept = self.lock_idle();
         kept.queue = Queue::new(descriptors, available, used);
+        kept.ready = true;
         self.stalled.store(false, Ordering::Release);
     }
 

@@ -1,6 +1,6 @@
 // SPDX-License-Identifier: Apache-2.0 AND BSD-3-Clause
-//! A small real host with a guest that runs: the device has a thread, and so has the guest, which reaches the device by
-//! its memory and by eventfds alone.
+//! A small real host with a guest that runs: the device has a thread, and so has the guest. They share the guest's memory
+//! and eventfds; for its config, and to say where its queue is, the guest calls the host, as a vCPU does by an exit.
 //!
 //! The guest's own memory is two memfds with a hole between them, its queue in the one and its requests in the other.
 //! The device's memory is a memfd for each creation, and goes back to the kernel by fallocate. The guest plugs, touches
@@ -68,7 +68,7 @@ fn main() -> ExitCode {
 }
 
 /// How long the stress is, and its seed; none where there are no arguments.
-fn arguments(args: &[String]) -> Option<Option<(u64, u64)>> {
+fn arguments(args: &[String]) -> Option<Option<(u32, u64)>> {
     let args: Vec<&str> = args.iter().map(String::as_str).collect();
     let (seconds, seed) = match args[..] {
         [] => return Some(None),

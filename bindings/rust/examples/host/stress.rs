@@ -18,11 +18,11 @@ use crate::random::Random;
 /// Numbers that mean something somewhere in a ring, a descriptor or a request.
 const TELLING: [u8; 10] = [0, 1, 2, 3, 4, 10, 24, 64, 128, 255];
 
-/// So many turns of a loop are about a millisecond.
+/// So many turns of a loop each pace is kept.
 const TURNS: u64 = 1 << 14;
 
 /// Stresses a device for so long: of a single region where the seed is odd, else of several. Whether all was right.
-pub fn run(seconds: u64, seed: u64) -> io::Result<bool> {
+pub fn run(seconds: u32, seed: u64) -> io::Result<bool> {
     let mut random = Random::new(seed);
     let host = match seed % 2 {
         0 => Host::new(4352, 256, true)?,
@@ -37,7 +37,7 @@ pub fn run(seconds: u64, seed: u64) -> io::Result<bool> {
             threads.spawn(|| spoil(&host, spoils, &stop)),
             threads.spawn(|| drive(&host, drives, &stop)),
         ];
-        resize(&host, resizes, Duration::from_secs(seconds));
+        resize(&host, resizes, Duration::from_secs(seconds.into()));
         stop.store(true, Ordering::Release);
         let ended = guest.map(|thread| thread.join().expect("a thread that ends"));
         let ended = ended.into_iter().collect::<io::Result<()>>();
