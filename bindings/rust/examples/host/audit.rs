@@ -188,6 +188,7 @@ impl Tally {
 
     /// A request that has ended, or a chain that is none.
     fn ended(&mut self, taken: &Taken, answer: &Answer) {
+        self.count("answers", 1);
         match (taken.chain, *answer) {
             (
                 Ok((request, _)),
