@@ -9,9 +9,12 @@ use units::HostAddr;
 use units::MemTool;
 use units::RegionOffset;
 use units::is_multiple;
+use units::saturating_sub;
 use units::smaller;
 use units::sum_within;
 ghost use mathlib.Core.Path.{_≡_};
+ghost use Prim.Native.Nat.{_-_, _<_, min};
+ghost use Rattle.units.specs.Numbers.{blocksIn};
 ghost use Rattle.bitmap.specs.Blocks.{blocks, range};
 ghost use Rattle.rows.specs.Rows.{rowsOf};
 ghost use Rattle.change.specs.declared.Part.{Part};
@@ -188,6 +191,20 @@ fn state_in(bitmap: &[u8], first: usize, count: usize) -> u16
     2
 }
 
+// How many of a range's blocks the region has. Where it has them all, it is not divided.
+fn blocks_there(region: u64, block_size: u32, offset: RegionOffset, nb_blocks: u16) -> u64
+    requires { ⌜ 0 < «block_size» ⌝ }
+    ensures { λ r. ⌜ r ≡ min «nb_blocks» (blocksIn «block_size» region - blocksIn «block_size» (offset .0)) ⌝ }
+{
+    let size = MemTool::bytes_of(nb_blocks, block_size);
+    if sum_within(offset.0, size, region) {
+        return nb_blocks as u64;
+    }
+    let end = MemTool::blocks_in(region, block_size as u64);
+    let first = MemTool::blocks_in(offset.0, block_size as u64);
+    smaller(nb_blocks as u64, saturating_sub(end, first))
+}
+
 // The state of a range, over such blocks as the region has (R10.16).
 pub fn state_of(
     start: GuestAddr,
@@ -202,14 +219,11 @@ pub fn state_of(
     if addr.0 < start.0 {
         return 0;
     }
-    let first = MemTool::blocks_in(addr.offset_from(start).0, block_size as u64);
-    let end = MemTool::blocks_in(region, block_size as u64);
-    if end <= first {
+    if block_size == 0 {
         return 0;
     }
-    state_in(
-        bitmap,
-        first as usize,
-        smaller(nb_blocks as u64, end - first) as usize,
-    )
+    let offset = addr.offset_from(start);
+    let count = blocks_there(region, block_size, offset, nb_blocks);
+    let first = MemTool::blocks_in(offset.0, block_size as u64);
+    state_in(bitmap, first as usize, count as usize)
 }
