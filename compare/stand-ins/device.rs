@@ -66,6 +66,11 @@ impl<Q: QueueT> VirtioQueueConfig<Q> {
             .unwrap_or_else(|_| panic!("head {desc_index} cannot be added to the used ring"))
     }
 
+    /// The size that the guest has set up, which here is all that a queue has.
+    pub fn actual_size(&self) -> u16 {
+        self.queue.size()
+    }
+
     pub fn consume_event(&self) -> Result<u64> {
         Ok(1)
     }

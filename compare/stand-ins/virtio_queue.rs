@@ -165,6 +165,38 @@ pub struct Queue {
 }
 
 impl Queue {
+    pub fn ready(&self) -> bool {
+        self.ready
+    }
+
+    pub fn desc_table(&self) -> u64 {
+        self.desc_table.0
+    }
+
+    pub fn avail_ring(&self) -> u64 {
+        self.avail_ring.0
+    }
+
+    pub fn used_ring(&self) -> u64 {
+        self.used_ring.0
+    }
+
+    pub fn next_avail(&self) -> u16 {
+        self.next_avail.0
+    }
+
+    pub fn set_next_avail(&mut self, next_avail: u16) {
+        self.next_avail = Wrapping(next_avail);
+    }
+
+    pub fn next_used(&self) -> u16 {
+        self.next_used.0
+    }
+
+    pub fn set_next_used(&mut self, next_used: u16) {
+        self.next_used = Wrapping(next_used);
+    }
+
     fn add_used<M: GuestMemory>(
         &mut self,
         mem: &M,
@@ -230,6 +262,7 @@ pub trait QueueGuard<'a> {
 
 pub trait QueueT: for<'a> QueueGuard<'a> {
     fn lock(&mut self) -> <Self as QueueGuard<'_>>::G;
+    fn size(&self) -> u16;
     fn set_desc_table_address(&mut self, addr: GuestAddress);
     fn set_rings(&mut self, avail: GuestAddress, used: GuestAddress);
     fn set_ready(&mut self, ready: bool);
@@ -264,6 +297,10 @@ impl QueueT for QueueSync {
         self.state.lock().unwrap()
     }
 
+    fn size(&self) -> u16 {
+        self.state.lock().unwrap().size
+    }
+
     fn set_desc_table_address(&mut self, addr: GuestAddress) {
         if addr.0 % DESCRIPTOR_SIZE == 0 {
             self.lock().desc_table = addr;
@@ -281,11 +318,11 @@ impl QueueT for QueueSync {
     }
 
     fn set_next_avail(&mut self, next_avail: u16) {
-        self.lock().next_avail = Wrapping(next_avail);
+        self.lock().set_next_avail(next_avail)
     }
 
     fn set_next_used(&mut self, next_used: u16) {
-        self.lock().next_used = Wrapping(next_used);
+        self.lock().set_next_used(next_used)
     }
 
     fn add_used<M: GuestMemory>(&mut self, mem: &M, head: u16, len: u32) -> Result<(), Error> {

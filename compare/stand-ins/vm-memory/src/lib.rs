@@ -8,6 +8,7 @@
 use std::fmt;
 use std::mem::size_of;
 use std::ops::Deref;
+use std::sync::atomic::Ordering;
 use std::sync::{Arc, Mutex};
 
 #[derive(Clone, Copy, Debug, Default, PartialEq, Eq, PartialOrd, Ord)]
@@ -57,6 +58,11 @@ unsafe impl ByteValued for u16 {}
 unsafe impl ByteValued for u32 {}
 unsafe impl ByteValued for u64 {}
 
+/// A number that is loaded and stored whole.
+pub trait AtomicAccess: ByteValued {}
+
+impl AtomicAccess for u16 {}
+
 pub trait Bytes<A> {
     type E;
 
@@ -73,6 +79,20 @@ pub trait Bytes<A> {
     fn read_obj<T: ByteValued>(&self, addr: A) -> std::result::Result<T, Self::E> {
         let mut val = T::default();
         self.read_slice(val.as_mut_slice(), addr).map(|()| val)
+    }
+
+    /// Memory is behind a lock, which orders more than any `order` asks.
+    fn load<T: AtomicAccess>(&self, addr: A, _order: Ordering) -> std::result::Result<T, Self::E> {
+        self.read_obj(addr)
+    }
+
+    fn store<T: AtomicAccess>(
+        &self,
+        val: T,
+        addr: A,
+        _order: Ordering,
+    ) -> std::result::Result<(), Self::E> {
+        self.write_obj(val, addr)
     }
 }
 
@@ -139,6 +159,11 @@ pub trait GuestMemory {
     /// hole; gives the number of bytes handed on.
     fn stretches(&self, count: usize, addr: GuestAddress, f: impl FnMut(usize, &mut [u8]))
         -> usize;
+
+    /// Whether all of these bytes are guest memory.
+    fn check_range(&self, base: GuestAddress, len: usize) -> bool {
+        self.stretches(len, base, |_, _| ()) == len
+    }
 }
 
 impl<T: GuestMemory> Bytes<GuestAddress> for T {
