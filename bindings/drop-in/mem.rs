@@ -199,11 +199,11 @@ impl Deref for MemState {
     fn deref(&self) -> &[bool] {
         self.blocks.get_or_init(|| {
             let device = locked(&self.device);
-            let bitmap = device.bitmap();
-            let blocks = (device.region_size() / VIRTIO_MEM_DEFAULT_BLOCK_SIZE) as usize;
-            (0..blocks)
-                .map(|block| bitmap[block / 8] >> (block % 8) & 1 == 1)
-                .collect()
+            let blocks = |byte: &u8| {
+                let byte = *byte;
+                (0..8).map(move |bit| byte >> bit & 1 == 1)
+            };
+            device.bitmap().iter().flat_map(blocks).collect()
         })
     }
 }

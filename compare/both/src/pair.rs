@@ -1,5 +1,6 @@
 // SPDX-License-Identifier: Apache-2.0 AND BSD-3-Clause
-//! One device on each side, given the same calls; what differs after a call is said in words.
+//! One device on each side, given the same calls, and the drop-in as a third where it is asked for; what differs after a call is said
+//! in words.
 
 use std::cell::RefCell;
 use std::collections::{BTreeMap, VecDeque};
@@ -12,6 +13,7 @@ use oracle::host::{answering, Answer, Question};
 use oracle::rust::{Rust, BLOCK, ERROR, MAP_REGION, PLUG, QUEUE_SIZE, STATE, UNPLUG, UNPLUG_ALL};
 use oracle::trace::{First, Op, Want};
 
+use crate::drop_in::{self, DropIn};
 use crate::proved::{Proved, Told};
 use crate::rings::{Layout, Put, Rings};
 
@@ -74,6 +76,8 @@ pub type Seen = BTreeMap<(&'static str, u64), u64>;
 pub struct Pair {
     pub rust: Rust,
     pub proved: Proved,
+    /// Where it takes part.
+    drop_in: Option<DropIn>,
     first_slot: u32,
     memory: Vec<u8>,
     /// Where requests are served from ring to ring.
@@ -93,23 +97,42 @@ fn same<T: PartialEq + fmt::Debug>(what: &str, rust: T, proved: T) -> Result<(),
 }
 
 impl Pair {
-    /// Both made, or both refused with the same number. With a layout requests are served from ring to ring.
-    pub fn make(first: &First, layout: Option<Layout>) -> Result<Option<Pair>, String> {
+    /// Both made, or both refused with the same number, and the drop-in, if it takes part, likewise. With a layout requests are served
+    /// from ring to ring.
+    pub fn make(
+        first: &First,
+        layout: Option<Layout>,
+        drop_in: bool,
+    ) -> Result<Option<Pair>, String> {
+        let drop_in = drop_in.then(|| DropIn::make(first));
         let (capacity, requested) = (first.capacity_mib, first.requested_mib);
         let rust = Rust::make(capacity, requested, first.multi, first.node, first.boot);
         let (mut rust, proved) = match (rust, Proved::make(first)) {
             (Ok(rust), Ok(proved)) => (rust, proved),
             (rust, proved) => {
-                same("make", rust.err(), proved.err())?;
+                let number = rust.err();
+                same("make", number, proved.err())?;
+                if let Some(made) = drop_in {
+                    same("make, the drop-in's", number, made.err())?;
+                }
                 return Ok(None);
             }
         };
         let shape = (proved.alignment(), proved.map_regions());
         same("alignment and slots", rust.requirements(), shape)?;
         same("features", rust.features(), proved.features())?;
+        let mut drop_in = match drop_in {
+            Some(made) => Some(made.map_err(|number| format!("make: the drop-in {number}"))?),
+            None => None,
+        };
+        if let Some(device) = &mut drop_in {
+            let rust = (shape, rust.features());
+            same("the drop-in's shape and features", rust, device.shape())?;
+        }
         let mut pair = Pair {
             rust,
             proved,
+            drop_in,
             first_slot: first.slot as u32,
             memory: vec![0; LENGTH],
             rings: layout.map(Rings::new),
@@ -152,7 +175,8 @@ impl Pair {
             Call::Op(Op::Size { mib }) => {
                 let told = self.proved.set_requested_size(mib);
                 let (told, asked) = self.answered(told, host)?;
-                let rust = self.scripted(asked, |rust| rust.set_requested_size(mib))?;
+                let rust = self.scripted(asked.clone(), |rust| rust.set_requested_size(mib))?;
+                self.also(asked, rust, |device| device.set_requested_size(mib))?;
                 self.saw("size, number", told.number);
                 sized(rust, told)?;
             }
@@ -171,7 +195,8 @@ impl Pair {
         let size = self.proved.region().wrapping_add_signed(bytes);
         let told = self.proved.place(start, size, &slots);
         let (told, asked) = self.answered(told, host)?;
-        let rust = self.scripted(asked, |rust| rust.place(start, size, &slots))?;
+        let rust = self.scripted(asked.clone(), |rust| rust.place(start, size, &slots))?;
+        self.also(asked, rust, |device| device.place(start, size, &slots))?;
         self.placed = rust.is_ok();
         self.saw("place, number", told.number);
         sized(rust, told)?;
@@ -184,6 +209,12 @@ impl Pair {
                 self.rust.activate(guest),
                 "mem.rs activates a placed device"
             );
+            if let Some(device) = &mut self.drop_in {
+                match &self.rings {
+                    Some(rings) => rings.layout.activate(device),
+                    None => device.activate(BASE, LENGTH),
+                }
+            }
         }
         Ok(())
     }
@@ -194,7 +225,12 @@ impl Pair {
         let number = self.proved.read_config(offset, &mut proved);
         self.calls += 1;
         self.saw("config read, number", number);
-        same("config read", (0, rust), (number, proved))
+        same("config read", (0, &rust), (number, &proved))?;
+        self.also(Vec::new(), rust, |device| {
+            let mut data = vec![NOISE; length];
+            device.read_config(offset, &mut data);
+            data
+        })
     }
 
     fn request(&mut self, kind: u16, addr: u64, blocks: u16, host: Host) -> Result<(), String> {
@@ -203,9 +239,10 @@ impl Pair {
         guest.write(req + 2, &[NOISE; 6]);
         guest.write(req + 18, &[NOISE; 6]);
         self.memory = guest.read(BASE, LENGTH);
+        let before = self.memory.clone();
         let told = self.proved.request(&mut self.memory, BASE, BASE, 0);
         let (told, asked) = self.answered(told, host)?;
-        let (_, length) = self.scripted(asked, |rust| rust.serve(0))?;
+        let (head, length) = self.scripted(asked.clone(), |rust| rust.serve(0))?;
         let used = told.used().map(|(length, _)| length);
         same("used length", (0, Some(length)), (told.number, used))?;
         let memory = self.rust.guest().read(BASE, LENGTH);
@@ -214,6 +251,10 @@ impl Pair {
             same("response", &memory[at.clone()], &self.memory[at])?;
             return Err("guest memory differs".to_string());
         }
+        self.also(asked, ((head, length), memory.clone()), |device| {
+            device.give(&before);
+            (device.serve(), device.memory())
+        })?;
         let names = [
             "plug, response",
             "unplug, response",
@@ -255,6 +296,7 @@ impl Pair {
         let heads = std::mem::take(&mut rings.waiting);
         let Layout { base, length, .. } = rings.layout;
         self.memory = self.rust.guest().read(base, length);
+        let before = self.memory.clone();
         let (mut used, mut questions) = (Vec::new(), Vec::new());
         let mut refused = false;
         loop {
@@ -277,7 +319,7 @@ impl Pair {
             questions.extend(asked);
         }
         same("heads taken", heads.len(), used.len())?;
-        self.scripted(questions, |rust| rust.wake())?;
+        self.scripted(questions.clone(), |rust| rust.wake())?;
         let guest = self.rust.guest();
         let index = guest.used_index();
         let newest = (1..=used.len() as u16).rev();
@@ -290,6 +332,11 @@ impl Pair {
             let what = format!("guest memory at {}", base + at as u64);
             same(&what, memory[at], self.memory[at])?;
         }
+        self.also(questions, memory, |device| {
+            device.give(&before);
+            device.wake();
+            device.memory()
+        })?;
         let rings = self.rings.as_ref().expect("a run with rings");
         same("queue", rings.layout.words(index), rings.words)?;
         // By the greatest power of 2 up to their number.
@@ -353,27 +400,28 @@ impl Pair {
         asked: Asked,
         call: impl FnOnce(&mut Rust) -> T,
     ) -> Result<T, String> {
-        let script = Rc::new(RefCell::new((VecDeque::from(asked), None)));
-        let lent = script.clone();
-        let answerer = move |question| -> Answer {
-            let (left, wrong) = &mut *lent.borrow_mut();
-            let front = left.pop_front();
-            match front {
-                Some((want, ok, addr)) if agrees(question, want) => ok.then_some(addr),
-                _ => {
-                    let said = format!("question: mem.rs {question:?}, proved {front:?}");
-                    wrong.get_or_insert(said);
-                    None
-                }
-            }
-        };
+        let script = Script::new("mem.rs", asked);
         let rust = &mut self.rust;
-        let out = answering(answerer, || call(rust));
-        let (left, wrong) = &*script.borrow();
-        match (wrong, left.front()) {
-            (Some(said), _) => Err(said.clone()),
-            (_, Some(more)) => Err(format!("question: mem.rs none, proved {more:?}")),
-            _ => Ok(out),
+        let out = answering(script.answerer(), || call(rust));
+        script.held().map(|()| out)
+    }
+
+    /// Runs the drop-in, where it takes part: its questions must be the same, and what comes of them what came of mem.rs.
+    fn also<T: PartialEq + fmt::Debug>(
+        &mut self,
+        asked: Asked,
+        rust: T,
+        call: impl FnOnce(&mut DropIn) -> T,
+    ) -> Result<(), String> {
+        let Some(device) = &mut self.drop_in else {
+            return Ok(());
+        };
+        let script = Script::new("the drop-in", asked);
+        let out = device.answered(script.answerer(), call);
+        script.held()?;
+        match rust == out {
+            true => Ok(()),
+            false => Err(format!("mem.rs {rust:?}, the drop-in {out:?}")),
         }
     }
 
@@ -397,7 +445,7 @@ impl Pair {
         }
     }
 
-    /// Config bytes, and of a placed device bitmap and rows. After an unplug-all that was refused the
+    /// Config bytes, and of a placed device bitmap and rows, the drop-in's too. After an unplug-all that was refused the
     /// plugged size of mem.rs is that of the blocks that it has plugged.
     fn compare(&mut self) -> Result<(), String> {
         let (mut rust, mut proved) = ([NOISE; 56], [NOISE; 56]);
@@ -407,21 +455,31 @@ impl Pair {
         }
         self.proved.read_config(0, &mut proved);
         same("config", rust, proved)?;
+        if let Some(device) = &mut self.drop_in {
+            let mut config = [NOISE; 56];
+            device.read_config(0, &mut config);
+            same("the drop-in's config", proved, config)?;
+        }
         self.counted()?;
         same("lent behind the need is spared", true, self.proved.spared())?;
         if !self.placed {
             return Ok(());
         }
         let bitmap = self.proved.bitmap();
-        let equal = self.rust.with_blocks(|blocks| {
+        let equal = |blocks: &[bool]| {
             blocks.len() == 8 * bitmap.len()
                 && blocks
                     .chunks_exact(8)
                     .map(packed)
                     .eq(bitmap.iter().copied())
-        });
-        same("bitmaps are equal", true, equal)?;
+        };
+        same("bitmaps are equal", true, self.rust.with_blocks(equal))?;
         let rust = self.rust.rows();
+        if let Some(device) = &self.drop_in {
+            let equal = device.with_blocks(equal);
+            same("the drop-in's bitmap is equal", true, equal)?;
+            same("the drop-in's rows", &rust, &device.rows())?;
+        }
         let rust = rust.iter().map(|&(slot, host)| (u64::from(slot), host));
         match rust.clone().eq(self.proved.rows()) {
             true => Ok(()),
@@ -441,6 +499,44 @@ impl Pair {
         };
         let (_, host) = self.proved.rows().nth(row as usize)?;
         host?.checked_add(inside)
+    }
+}
+
+/// The questions that a device must ask, in their order, with their answers; and what it has asked instead.
+struct Script {
+    who: &'static str,
+    left: Rc<RefCell<(VecDeque<(Want, bool, u64)>, Option<String>)>>,
+}
+
+impl Script {
+    fn new(who: &'static str, asked: Asked) -> Script {
+        let left = Rc::new(RefCell::new((VecDeque::from(asked), None)));
+        Script { who, left }
+    }
+
+    fn answerer(&self) -> impl FnMut(Question) -> Answer + 'static {
+        let (who, lent) = (self.who, self.left.clone());
+        move |question| {
+            let (left, wrong) = &mut *lent.borrow_mut();
+            let front = left.pop_front();
+            match front {
+                Some((want, ok, addr)) if agrees(question, want) => ok.then_some(addr),
+                _ => {
+                    let said = format!("question: {who} {question:?}, proved {front:?}");
+                    wrong.get_or_insert(said);
+                    None
+                }
+            }
+        }
+    }
+
+    fn held(&self) -> Result<(), String> {
+        let (left, wrong) = &*self.left.borrow();
+        match (wrong, left.front()) {
+            (Some(said), _) => Err(said.clone()),
+            (_, Some(more)) => Err(format!("question: {} none, proved {more:?}", self.who)),
+            _ => Ok(()),
+        }
     }
 }
 
@@ -472,9 +568,12 @@ fn packed(eight: &[bool]) -> u8 {
     (word.wrapping_mul(0x0102_0408_1020_4080) >> 56) as u8
 }
 
-/// A chain through a fresh device on both sides; gives the calls of the exports.
-pub fn chain(case: &Chain, seen: &mut Seen) -> Result<u64, String> {
+/// A chain through a fresh device on both sides, and through a fresh drop-in where it takes part; gives the calls of the exports.
+pub fn chain(case: &Chain, drop_in: bool, seen: &mut Seen) -> Result<u64, String> {
     let rust = case.served();
+    if drop_in && drop_in::served(case) != rust.to_string() {
+        return Err(format!("mem.rs {rust}, the drop-in {}", drop_in::served(case)));
+    }
     let first = "capacity_mib=256 requested_mib=16 multi=0 node=none boot=1073741824 addr=4294967296 slot=1";
     let first = First::parse(first).expect("the example");
     let mut proved = Proved::make(&first).expect("made");

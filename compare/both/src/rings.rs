@@ -8,6 +8,7 @@ use oracle::random::Random;
 use oracle::rust::{PLUG, STATE, UNPLUG, UNPLUG_ALL};
 use oracle::trace::Op;
 
+use crate::drop_in::DropIn;
 use crate::sys::{self, QUEUE_WORDS};
 
 /// Chains that the table has room for, two descriptors each, and the bytes that each has for its request and its response.
@@ -65,6 +66,12 @@ impl Layout {
         let mut guest = guest.expect("a range below 2^64");
         guest.begin_at(self.index);
         guest
+    }
+
+    /// Has the drop-in activated with such a guest.
+    pub fn activate(&self, device: &mut DropIn) {
+        let rings = [self.table, self.available, self.used];
+        device.activate_with_rings(self.base, self.length, rings, self.index);
     }
 
     /// The proved device's queue with no head out, both indices here, and a word lent behind it.

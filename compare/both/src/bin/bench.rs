@@ -8,6 +8,7 @@ use std::hint::black_box;
 use std::process::{exit, Command};
 use std::time::Instant;
 
+use both::drop_in::DropIn;
 use both::proved::Proved;
 use both::sys::{
     self, Lent, ANSWER_WORDS, QUEUE_WORDS, SAVE_FIELDS, SAVE_MAX_TEXT_BYTES, SAVE_SCRATCH,
@@ -22,7 +23,7 @@ const HELP: &str = "\
 bench FILE SVG clock|no-clock COUNT..
                     measures, and writes the table into FILE and the plot as SVG: nanoseconds by the clock, and the
                     instructions of a row, which COUNT.. SIDE ROW prints (bin/count and this program)
-bench SIDE ROW      one row of one side, marked for bin/count: SIDE is mem.rs or proved
+bench SIDE ROW      one row of one side, marked for bin/count: SIDE is mem.rs or proved, which in a row of the drop-in is the drop-in
 bench save CALL ROW one call on a save record, marked for bin/count";
 
 /// 1 TiB in a single region at 4 GiB, all of it requested.
@@ -36,11 +37,13 @@ const LENGTH: usize = 4096;
 const AVAILABLE: u64 = BASE + 2304;
 const USED: u64 = BASE + 2816;
 
-/// What is measured: a request, the same from ring to ring, a config read, or the queue that mem.rs is served by.
+/// What is measured: a request, the same from ring to ring, the same as a wake of the drop-in, a config read, or the queue that mem.rs
+/// is served by.
 #[derive(Clone, Copy)]
 enum What {
     Request(u16, u16),
     Ring(u16, u16),
+    Wake(u16, u16),
     Config(usize),
     Queue,
 }
@@ -62,7 +65,7 @@ const fn row(name: &'static str, what: What, plugged: u64, repeat: u32) -> Row {
     }
 }
 
-const ROWS: [Row; 15] = [
+const ROWS: [Row; 17] = [
     row("plug of 1 block", What::Request(PLUG, 1), 0, 201),
     row("unplug of 1 block", What::Request(UNPLUG, 1), 1, 201),
     row("plug of 512 blocks", What::Request(PLUG, 512), 0, 51),
@@ -92,6 +95,18 @@ const ROWS: [Row; 15] = [
     row(
         "unplug of 1 block, ring to ring",
         What::Ring(UNPLUG, 1),
+        1,
+        201,
+    ),
+    row(
+        "plug of 1 block, a wake of the drop-in",
+        What::Wake(PLUG, 1),
+        0,
+        201,
+    ),
+    row(
+        "unplug of 1 block, a wake of the drop-in",
+        What::Wake(UNPLUG, 1),
         1,
         201,
     ),
@@ -166,10 +181,12 @@ fn toggle_collect() {
     }
 }
 
-/// A device of either side, placed, with its guest's memory. The proved one serves a chain or, with a queue, the next head.
+/// A device of either side, placed, with its guest's memory. The proved one serves a chain or, with a queue, the next head; the drop-in
+/// is woken.
 enum Side {
     MemRs(Rust),
     Proved(Proved, Option<[u64; QUEUE_WORDS]>, Rust),
+    DropIn(DropIn, Rust),
 }
 
 impl Side {
@@ -185,7 +202,7 @@ impl Side {
         )
         .expect("made");
         answering(|_| Some(HOST), || rust.place_at(START, 1)).expect("placed");
-        let ring = matches!(row.what, What::Ring(..));
+        let ring = matches!(row.what, What::Ring(..) | What::Wake(..));
         let guest = match ring {
             true => Guest::with_rings(BASE, LENGTH, BASE, AVAILABLE, USED),
             false => Guest::new(BASE, LENGTH, BASE),
@@ -193,6 +210,13 @@ impl Side {
         assert!(rust.activate(guest.expect("a small range")));
         if !proved {
             return Side::MemRs(rust);
+        }
+        if let What::Wake(..) = row.what {
+            let mut device = DropIn::make(&first).expect("made");
+            let placed = device.answered(|_| Some(HOST), |device| device.place(START, 1 << 40, &[1]));
+            placed.expect("placed");
+            device.activate_with_rings(BASE, LENGTH, [BASE, AVAILABLE, USED], 0);
+            return Side::DropIn(device, rust);
         }
         let mut device = Proved::make(&first).expect("made");
         device.place(START, device.region(), &[1]);
@@ -208,7 +232,7 @@ impl Side {
     /// One request, measured from the chain to its response, or from the available ring to the used one, with a host that does all
     /// it is asked.
     fn request(&mut self, kind: u16, addr: u64, blocks: u16, meter: &mut Meter) {
-        let (Side::MemRs(rust) | Side::Proved(.., rust)) = self;
+        let (Side::MemRs(rust) | Side::Proved(.., rust) | Side::DropIn(_, rust)) = self;
         let (_, at) = rust.write_request(kind, addr, blocks);
         match self {
             Side::MemRs(rust) => {
@@ -246,8 +270,15 @@ impl Side {
                 rust.guest().write(BASE, &memory);
                 reported(rust.guest());
             }
+            Side::DropIn(device, rust) => {
+                rust.guest().make_available(0);
+                device.give(&rust.guest().read(BASE, LENGTH));
+                device.answered(|_| Some(0), |device| meter.measure(|| device.wake()));
+                rust.guest().write(BASE, &device.memory());
+                reported(rust.guest());
+            }
         }
-        let (Side::MemRs(rust) | Side::Proved(.., rust)) = self;
+        let (Side::MemRs(rust) | Side::Proved(.., rust) | Side::DropIn(_, rust)) = self;
         assert_eq!(rust.guest().read(at, 2), [0, 0], "acknowledged");
     }
 
@@ -267,9 +298,10 @@ impl Side {
             self.request(PLUG, START + first * BLOCK, blocks, &mut off);
         }
         match (row.what, &mut *self) {
-            (What::Request(kind, blocks) | What::Ring(kind, blocks), _) => {
-                self.request(kind, START, blocks, meter)
-            }
+            (
+                What::Request(kind, blocks) | What::Ring(kind, blocks) | What::Wake(kind, blocks),
+                _,
+            ) => self.request(kind, START, blocks, meter),
             (What::Config(length), Side::MemRs(rust)) => {
                 let data = &mut [0; 56][..length];
                 meter.measure(|| rust.read_config(0, data));
@@ -278,7 +310,11 @@ impl Side {
                 let data = &mut [0; 56][..length];
                 meter.measure(|| device.read_config(0, data));
             }
-            (What::Queue, Side::MemRs(rust) | Side::Proved(.., rust)) => {
+            (What::Config(length), Side::DropIn(device, _)) => {
+                let data = &mut [0; 56][..length];
+                meter.measure(|| device.read_config(0, data));
+            }
+            (What::Queue, Side::MemRs(rust) | Side::Proved(.., rust) | Side::DropIn(_, rust)) => {
                 let mut queue = queue(rust.guest());
                 let mut guest = Guest::new(BASE, LENGTH, BASE).expect("a small range");
                 guest.make_available(0);
@@ -294,7 +330,9 @@ impl Side {
                     .expect("used");
             }
         }
-        if let What::Request(PLUG, blocks) | What::Ring(PLUG, blocks) = row.what {
+        if let What::Request(PLUG, blocks) | What::Ring(PLUG, blocks) | What::Wake(PLUG, blocks) =
+            row.what
+        {
             self.request(UNPLUG, START, blocks, &mut off);
         }
     }

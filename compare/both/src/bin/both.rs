@@ -13,9 +13,30 @@ use oracle::random::Random;
 use oracle::trace::{First, Op};
 
 const HELP: &str = "\
-both [--queue] SEED SECONDS    runs from SEED on until the time is over; ends at the first difference
-both [--queue] SEED            the run of this seed alone
---queue: requests are served from ring to ring";
+both [--queue] [--drop-in] SEED SECONDS    runs from SEED on until the time is over; ends at the first difference
+both [--queue] [--drop-in] SEED            the run of this seed alone
+--queue: requests are served from ring to ring
+--drop-in: the drop-in takes part, and is held against both";
+
+/// What runs are about.
+#[derive(Clone, Copy)]
+struct Kind {
+    queue: bool,
+    drop_in: bool,
+}
+
+/// The devices of a run: where their rings lie, if they are served from ring to ring, and whether the drop-in is among them.
+#[derive(Clone, Copy)]
+struct Devices {
+    layout: Option<Layout>,
+    drop_in: bool,
+}
+
+impl Devices {
+    fn make(self, first: &First) -> Result<Option<Pair>, String> {
+        Pair::make(first, self.layout, self.drop_in)
+    }
+}
 
 /// Calls of a run after placing, and chains of a run of chains.
 const CALLS: u64 = 400;
@@ -26,9 +47,15 @@ type Line = (Call, Vec<(bool, u64)>);
 
 fn main() {
     let mut args: Vec<String> = env::args().skip(1).collect();
-    let queue = args.first().is_some_and(|arg| arg == "--queue");
-    let args = args.drain(usize::from(queue)..);
-    let args: Option<Vec<u64>> = args.map(|arg| arg.parse().ok()).collect();
+    let mut given = |flag: &str| {
+        let found = args.iter().position(|arg| arg == flag);
+        found.map(|at| args.remove(at)).is_some()
+    };
+    let kind = Kind {
+        queue: given("--queue"),
+        drop_in: given("--drop-in"),
+    };
+    let args: Option<Vec<u64>> = args.iter().map(|arg| arg.parse().ok()).collect();
     let (seed, seconds) = match args.as_deref() {
         Some(&[seed]) => (seed, 0),
         Some(&[seed, seconds]) => (seed, seconds),
@@ -41,7 +68,7 @@ fn main() {
     let (mut calls, mut runs) = (0, 0);
     let mut seen = Seen::new();
     for seed in seed.. {
-        match run(seed, queue, &mut seen) {
+        match run(seed, kind, &mut seen) {
             Ok(done) => calls += done,
             Err(said) => {
                 println!("seed {seed} differs:\n{said}");
@@ -61,19 +88,23 @@ fn main() {
 }
 
 /// The calls of one seed; where they differ, what and after which ones.
-fn run(seed: u64, queue: bool, seen: &mut Seen) -> Result<u64, String> {
+fn run(seed: u64, kind: Kind, seen: &mut Seen) -> Result<u64, String> {
     let mut random = Random::new(seed);
-    let layout = queue.then(|| Layout::any(&mut random));
-    if !queue && random.chance(10) {
-        return run_chains(&mut random, seen);
+    let layout = kind.queue.then(|| Layout::any(&mut random));
+    let devices = Devices {
+        layout,
+        drop_in: kind.drop_in,
+    };
+    if !kind.queue && random.chance(10) {
+        return run_chains(&mut random, kind.drop_in, seen);
     }
     let mut first = first_line(&mut random);
     let mut lines = Vec::new();
-    let said = match run_calls(&mut random, &mut first, layout, &mut lines, seen) {
+    let said = match run_calls(&mut random, &mut first, devices, &mut lines, seen) {
         Ok(calls) => return Ok(calls),
         Err(said) => said,
     };
-    let (said, lines) = shorter(&first, layout, said, lines);
+    let (said, lines) = shorter(&first, devices, said, lines);
     let mut text = format!("{first}\n");
     if let Some(layout) = layout {
         text += &format!("{layout:?}\n");
@@ -87,11 +118,12 @@ fn run(seed: u64, queue: bool, seen: &mut Seen) -> Result<u64, String> {
     Err(text + &said)
 }
 
-fn run_chains(random: &mut Random, seen: &mut Seen) -> Result<u64, String> {
+fn run_chains(random: &mut Random, drop_in: bool, seen: &mut Seen) -> Result<u64, String> {
     let mut calls = 0;
     for _ in 0..CHAINS {
         let case = chains::chain(random);
-        calls += chain(&case, seen).map_err(|said| format!("{case}\n{said}"))?;
+        let done = chain(&case, drop_in, seen);
+        calls += done.map_err(|said| format!("{case}\n{said}"))?;
     }
     Ok(calls)
 }
@@ -100,11 +132,12 @@ fn run_chains(random: &mut Random, seen: &mut Seen) -> Result<u64, String> {
 fn run_calls(
     random: &mut Random,
     first: &mut First,
-    layout: Option<Layout>,
+    devices: Devices,
     lines: &mut Vec<Line>,
     seen: &mut Seen,
 ) -> Result<u64, String> {
-    let Some(mut pair) = Pair::make(first, layout)? else {
+    let layout = devices.layout;
+    let Some(mut pair) = devices.make(first)? else {
         *seen.entry(("make, number", 1)).or_default() += 1;
         return Ok(1);
     };
@@ -198,8 +231,8 @@ fn step(
 type Differs = (String, Vec<Line>);
 
 /// The same calls with the same answers; a question too many is answered by failure.
-fn replayed(first: &First, layout: Option<Layout>, lines: &[Line]) -> Result<(), Differs> {
-    let made = Pair::make(first, layout).map_err(|said| (said, Vec::new()))?;
+fn replayed(first: &First, devices: Devices, lines: &[Line]) -> Result<(), Differs> {
+    let made = devices.make(first).map_err(|said| (said, Vec::new()))?;
     let Some(mut pair) = made else {
         return Ok(());
     };
@@ -228,7 +261,7 @@ fn replayed(first: &First, layout: Option<Layout>, lines: &[Line]) -> Result<(),
 /// The shortest prefix is what was written down; calls in it that are not needed are left out.
 fn shorter(
     first: &First,
-    layout: Option<Layout>,
+    devices: Devices,
     mut said: String,
     mut lines: Vec<Line>,
 ) -> Differs {
@@ -237,7 +270,7 @@ fn shorter(
         if at < without.len() {
             without.remove(at);
         }
-        if let Err(differs) = replayed(first, layout, &without) {
+        if let Err(differs) = replayed(first, devices, &without) {
             (said, lines) = differs;
         }
     }
