@@ -6,7 +6,7 @@
 // which the host does what the device asks. README.md beside this file says how to put it in, and what differs.
 
 use std::any::Any;
-use std::cell::OnceCell;
+use std::cell::{Cell, OnceCell};
 use std::io;
 use std::marker::PhantomData;
 use std::ops::Deref;
@@ -135,34 +135,76 @@ fn refused(why: Refusal) -> Error {
     }
 }
 
-/// Guest memory as vm-memory has it.
-struct Guest<'a, M>(&'a M);
+/// Guest memory as vm-memory has it. A queue and its requests mostly lie in one region, so the last that was found is kept.
+struct Guest<'a, M: GuestMemory> {
+    mem: &'a M,
+    last: Cell<Option<&'a M::R>>,
+}
+
+impl<'a, M: GuestMemory> Guest<'a, M> {
+    fn new(mem: &'a M) -> Self {
+        let last = Cell::new(None);
+        Guest { mem, last }
+    }
+
+    /// The region that has all of these bytes, if one has, and where it has them.
+    #[inline]
+    fn region(&self, addr: u64, size: u64) -> Option<(&'a M::R, MemoryRegionAddress)> {
+        let has = |region: &'a M::R| {
+            let offset = addr.wrapping_sub(region.start_addr().0);
+            let left = region.len().checked_sub(offset)?;
+            (size <= left).then_some((region, MemoryRegionAddress(offset)))
+        };
+        self.last.get().and_then(has).or_else(|| {
+            self.last.set(self.mem.find_region(GuestAddress(addr)));
+            self.last.get().and_then(has)
+        })
+    }
+
+    /// The same of bytes that may lie in several regions.
+    fn check_range(&self, addr: u64, size: u64) -> bool {
+        usize::try_from(size).is_ok_and(|size| self.mem.check_range(GuestAddress(addr), size))
+    }
+}
 
 impl<M: GuestMemory> GuestBytes for Guest<'_, M> {
+    #[inline]
     fn contains(&self, addr: u64, size: u64) -> bool {
-        usize::try_from(size).is_ok_and(|size| self.0.check_range(GuestAddress(addr), size))
+        self.region(addr, size).is_some() || self.check_range(addr, size)
     }
 
+    #[inline]
     fn read(&self, addr: u64, into: &mut [u8]) -> bool {
-        self.0.read_slice(into, GuestAddress(addr)).is_ok()
+        match self.region(addr, into.len() as u64) {
+            Some((region, at)) => region.read_slice(into, at).is_ok(),
+            None => self.mem.read_slice(into, GuestAddress(addr)).is_ok(),
+        }
     }
 
-    // vm-memory writes what lies inside before it gives an error.
+    #[inline]
     fn write(&self, addr: u64, bytes: &[u8]) -> bool {
-        self.contains(addr, bytes.len() as u64)
-            && self.0.write_slice(bytes, GuestAddress(addr)).is_ok()
+        let size = bytes.len() as u64;
+        match self.region(addr, size) {
+            Some((region, at)) => region.write_slice(bytes, at).is_ok(),
+            // vm-memory writes what lies inside before it gives an error.
+            None => {
+                self.check_range(addr, size)
+                    && self.mem.write_slice(bytes, GuestAddress(addr)).is_ok()
+            }
+        }
     }
 
+    #[inline]
     fn read_index(&self, addr: u64) -> Option<u16> {
-        let read = self.0.load(GuestAddress(addr), Ordering::Acquire);
-        read.ok().map(u16::from_le)
+        let (region, at) = self.region(addr, 2)?;
+        region.load(at, Ordering::Acquire).ok().map(u16::from_le)
     }
 
+    #[inline]
     fn write_index(&self, addr: u64, index: u16) -> bool {
-        let written = self
-            .0
-            .store(index.to_le(), GuestAddress(addr), Ordering::Release);
-        written.is_ok()
+        let written = |(region, at): (&M::R, _)| region.store(index.to_le(), at, Ordering::Release);
+        self.region(addr, 2)
+            .is_some_and(|there| written(there).is_ok())
     }
 }
 
@@ -247,7 +289,7 @@ impl<AS: DbsGuestAddressSpace, Q: QueueT + Send, R: GuestMemoryRegion> MemEpollH
         let mut serving = Serving {
             device: locked(&self.device),
             queue: Queue::from_words(&words).expect("two indices, and no head out"),
-            mem: Guest(memory.deref()),
+            mem: Guest::new(memory.deref()),
             host_fd: self.host_fd,
             id: &self.id,
         };
@@ -261,7 +303,7 @@ impl<AS: DbsGuestAddressSpace, Q: QueueT + Send, R: GuestMemoryRegion> MemEpollH
 }
 
 /// One wake's way through the queue: the device, its queue, and what its host does.
-struct Serving<'a, M> {
+struct Serving<'a, M: GuestMemory> {
     device: MutexGuard<'a, Device>,
     queue: Queue,
     mem: Guest<'a, M>,

@@ -117,7 +117,10 @@ impl MmapRegion {
     }
 }
 
-pub trait GuestMemoryRegion {
+#[allow(clippy::len_without_is_empty)] // as the crate has it
+pub trait GuestMemoryRegion: Bytes<MemoryRegionAddress, E = Error> {
+    fn len(&self) -> GuestUsize;
+    fn start_addr(&self) -> GuestAddress;
     fn get_host_address(&self, addr: MemoryRegionAddress) -> Result<*mut u8>;
 }
 
@@ -145,6 +148,16 @@ impl GuestRegionMmap {
 }
 
 impl GuestMemoryRegion for GuestRegionMmap {
+    #[inline]
+    fn len(&self) -> GuestUsize {
+        self.mapping.size as u64
+    }
+
+    #[inline]
+    fn start_addr(&self) -> GuestAddress {
+        GuestAddress(self.start)
+    }
+
     fn get_host_address(&self, addr: MemoryRegionAddress) -> Result<*mut u8> {
         if addr.0 < self.mapping.size as u64 {
             Ok(self.mapping.host.wrapping_add(addr.0) as *mut u8)
@@ -154,7 +167,51 @@ impl GuestMemoryRegion for GuestRegionMmap {
     }
 }
 
+/// What the crate has generic here is marked to be inlined.
+impl Bytes<MemoryRegionAddress> for GuestRegionMmap {
+    type E = Error;
+
+    #[inline]
+    fn write(&self, buf: &[u8], addr: MemoryRegionAddress) -> Result<usize> {
+        let mut bytes = self.mapping.bytes.lock().unwrap();
+        let to = bytes.get_mut(addr.0 as usize..);
+        let to = to.ok_or(Error::HostAddressNotAvailable)?;
+        match to.get_mut(..buf.len()) {
+            Some(to) => to.copy_from_slice(buf),
+            None => to.copy_from_slice(&buf[..to.len()]),
+        }
+        Ok(buf.len().min(to.len()))
+    }
+
+    #[inline]
+    fn read(&self, buf: &mut [u8], addr: MemoryRegionAddress) -> Result<usize> {
+        let bytes = self.mapping.bytes.lock().unwrap();
+        let from = bytes.get(addr.0 as usize..);
+        let from = from.ok_or(Error::HostAddressNotAvailable)?;
+        match from.get(..buf.len()) {
+            Some(from) => buf.copy_from_slice(from),
+            None => buf[..from.len()].copy_from_slice(from),
+        }
+        Ok(buf.len().min(from.len()))
+    }
+
+    #[inline]
+    fn write_slice(&self, buf: &[u8], addr: MemoryRegionAddress) -> Result<()> {
+        whole(buf.len(), self.write(buf, addr)?)
+    }
+
+    #[inline]
+    fn read_slice(&self, buf: &mut [u8], addr: MemoryRegionAddress) -> Result<()> {
+        whole(buf.len(), self.read(buf, addr)?)
+    }
+}
+
 pub trait GuestMemory {
+    type R: GuestMemoryRegion;
+
+    /// The region that has an address.
+    fn find_region(&self, addr: GuestAddress) -> Option<&Self::R>;
+
     /// Hands each stretch of `count` bytes from `addr` on to `f`, region by region, until the first
     /// hole; gives the number of bytes handed on.
     fn stretches(&self, count: usize, addr: GuestAddress, f: impl FnMut(usize, &mut [u8]))
@@ -196,6 +253,7 @@ impl<T: GuestMemory> Bytes<GuestAddress> for T {
     }
 }
 
+#[inline]
 fn whole(expected: usize, completed: usize) -> Result<()> {
     if completed == expected {
         Ok(())
@@ -228,6 +286,12 @@ impl GuestMemoryMmap {
 }
 
 impl GuestMemory for GuestMemoryMmap {
+    type R = GuestRegionMmap;
+
+    fn find_region(&self, addr: GuestAddress) -> Option<&GuestRegionMmap> {
+        self.regions.iter().find(|r| r.place(addr.0).is_some())
+    }
+
     fn stretches(
         &self,
         count: usize,
