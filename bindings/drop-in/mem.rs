@@ -47,6 +47,9 @@ const MEM_DRIVER_NAME: &str = "virtio-mem";
 const QUEUE_SIZE: u16 = 128;
 const QUEUE_SIZES: &[u16] = &[QUEUE_SIZE];
 
+/// Where a ring has its index.
+const INDEX: u64 = 2;
+
 /// Bytes of a request.
 const REQUEST_BYTES: usize = 24;
 
@@ -135,20 +138,36 @@ fn refused(why: Refusal) -> Error {
     }
 }
 
-/// Guest memory as vm-memory has it. A queue and its requests mostly lie in one region, so the last that was found is kept.
+/// Guest memory as vm-memory has it, for one wake. The available ring's index is read once, so that a wake serves what waited when
+/// it began. A queue and its requests mostly lie in one region, so the last that was found is kept.
 struct Guest<'a, M: GuestMemory> {
     mem: &'a M,
     last: Cell<Option<&'a M::R>>,
+    available: u64,
+    index: Option<u16>,
 }
 
 impl<'a, M: GuestMemory> Guest<'a, M> {
-    fn new(mem: &'a M) -> Self {
-        let last = Cell::new(None);
-        Guest { mem, last }
+    /// With the guest address of the available ring.
+    fn new(mem: &'a M, available: u64) -> Self {
+        let mut guest = Guest {
+            mem,
+            last: Cell::new(None),
+            available,
+            index: None,
+        };
+        guest.index = guest.load(available.wrapping_add(INDEX));
+        guest
+    }
+
+    #[inline(always)]
+    fn load(&self, addr: u64) -> Option<u16> {
+        let (region, at) = self.region(addr, 2)?;
+        region.load(at, Ordering::Acquire).ok().map(u16::from_le)
     }
 
     /// The region that has all of these bytes, if one has, and where it has them.
-    #[inline]
+    #[inline(always)]
     fn region(&self, addr: u64, size: u64) -> Option<(&'a M::R, MemoryRegionAddress)> {
         let has = |region: &'a M::R| {
             let offset = addr.wrapping_sub(region.start_addr().0);
@@ -173,7 +192,7 @@ impl<M: GuestMemory> GuestBytes for Guest<'_, M> {
         self.region(addr, size).is_some() || self.check_range(addr, size)
     }
 
-    #[inline]
+    #[inline(always)]
     fn read(&self, addr: u64, into: &mut [u8]) -> bool {
         match self.region(addr, into.len() as u64) {
             Some((region, at)) => region.read_slice(into, at).is_ok(),
@@ -181,7 +200,7 @@ impl<M: GuestMemory> GuestBytes for Guest<'_, M> {
         }
     }
 
-    #[inline]
+    #[inline(always)]
     fn write(&self, addr: u64, bytes: &[u8]) -> bool {
         let size = bytes.len() as u64;
         match self.region(addr, size) {
@@ -196,8 +215,10 @@ impl<M: GuestMemory> GuestBytes for Guest<'_, M> {
 
     #[inline]
     fn read_index(&self, addr: u64) -> Option<u16> {
-        let (region, at) = self.region(addr, 2)?;
-        region.load(at, Ordering::Acquire).ok().map(u16::from_le)
+        if addr == self.available.wrapping_add(INDEX) {
+            return self.index;
+        }
+        self.load(addr)
     }
 
     #[inline]
@@ -289,7 +310,7 @@ impl<AS: DbsGuestAddressSpace, Q: QueueT + Send, R: GuestMemoryRegion> MemEpollH
         let mut serving = Serving {
             device: locked(&self.device),
             queue: Queue::from_words(&words).expect("two indices, and no head out"),
-            mem: Guest::new(memory.deref()),
+            mem: Guest::new(memory.deref(), ring.avail_ring()),
             host_fd: self.host_fd,
             id: &self.id,
         };
@@ -329,8 +350,8 @@ impl<M: GuestMemory> Serving<'_, M> {
 
     /// How many heads wait. It is 1 where that cannot be read or is more than a queue has: then the device refuses.
     fn waiting(&self) -> u16 {
-        let index = self.mem.read_index(self.queue.available().wrapping_add(2));
-        let ahead = index.map(|index| index.wrapping_sub(self.queue.next_available()));
+        let next = self.queue.next_available();
+        let ahead = self.mem.index.map(|index| index.wrapping_sub(next));
         ahead.filter(|&ahead| ahead <= QUEUE_SIZE).unwrap_or(1)
     }
 

@@ -167,41 +167,45 @@ impl GuestMemoryRegion for GuestRegionMmap {
     }
 }
 
-/// What the crate has generic here is marked to be inlined.
 impl Bytes<MemoryRegionAddress> for GuestRegionMmap {
     type E = Error;
 
-    #[inline]
     fn write(&self, buf: &[u8], addr: MemoryRegionAddress) -> Result<usize> {
         let mut bytes = self.mapping.bytes.lock().unwrap();
         let to = bytes.get_mut(addr.0 as usize..);
         let to = to.ok_or(Error::HostAddressNotAvailable)?;
-        match to.get_mut(..buf.len()) {
-            Some(to) => to.copy_from_slice(buf),
-            None => to.copy_from_slice(&buf[..to.len()]),
-        }
-        Ok(buf.len().min(to.len()))
+        let count = buf.len().min(to.len());
+        to[..count].copy_from_slice(&buf[..count]);
+        Ok(count)
     }
 
-    #[inline]
     fn read(&self, buf: &mut [u8], addr: MemoryRegionAddress) -> Result<usize> {
         let bytes = self.mapping.bytes.lock().unwrap();
         let from = bytes.get(addr.0 as usize..);
         let from = from.ok_or(Error::HostAddressNotAvailable)?;
-        match from.get(..buf.len()) {
-            Some(from) => buf.copy_from_slice(from),
-            None => buf[..from.len()].copy_from_slice(from),
-        }
-        Ok(buf.len().min(from.len()))
+        let count = buf.len().min(from.len());
+        buf[..count].copy_from_slice(&from[..count]);
+        Ok(count)
     }
 
-    #[inline]
+    // What lies in the region, as mostly, is put in place where it is called: the crate finds no more here than an offset.
+    #[inline(always)]
     fn write_slice(&self, buf: &[u8], addr: MemoryRegionAddress) -> Result<()> {
+        let at = addr.0 as usize;
+        if let Some(to) = self.mapping.bytes.lock().unwrap().get_mut(at..at + buf.len()) {
+            to.copy_from_slice(buf);
+            return Ok(());
+        }
         whole(buf.len(), self.write(buf, addr)?)
     }
 
-    #[inline]
+    #[inline(always)]
     fn read_slice(&self, buf: &mut [u8], addr: MemoryRegionAddress) -> Result<()> {
+        let at = addr.0 as usize;
+        if let Some(from) = self.mapping.bytes.lock().unwrap().get(at..at + buf.len()) {
+            buf.copy_from_slice(from);
+            return Ok(());
+        }
         whole(buf.len(), self.read(buf, addr)?)
     }
 }
@@ -253,7 +257,6 @@ impl<T: GuestMemory> Bytes<GuestAddress> for T {
     }
 }
 
-#[inline]
 fn whole(expected: usize, completed: usize) -> Result<()> {
     if completed == expected {
         Ok(())
