@@ -268,7 +268,7 @@ impl Private {
         let mut first = Descriptor::read(mem, queue, head)?;
         self.words[DESCRIPTORS] = TABLE_AT as u64;
         let status = self.copy_rest(mem, queue, head, &mut first);
-        self.put(descriptor_at(head), first.bytes());
+        self.put_descriptor(head, &first);
         status
     }
 
@@ -309,26 +309,27 @@ impl Private {
         head: u16,
         first: &mut Descriptor,
     ) -> Option<u64> {
-        let other = first.flags & (WRITE | INDIRECT) != 0;
-        if other || first.length != REQUEST_BYTES as u32 {
+        let other = first.flags() & (WRITE | INDIRECT) != 0;
+        if other || first.length() != REQUEST_BYTES as u32 {
             return None;
         }
         let mut request = [0; REQUEST_BYTES];
         let inside = mem.read(first.addr, &mut request);
         first.addr = address(inside, REQUEST_AT);
         self.put(REQUEST_AT, request);
-        if !inside || first.flags & NEXT == 0 || first.next == head {
+        let next = first.next();
+        if !inside || first.flags() & NEXT == 0 || next == head {
             return None;
         }
-        match Descriptor::read(mem, queue, first.next) {
+        match Descriptor::read(mem, queue, next) {
             None => {
-                first.next = QUEUE_SIZE;
+                first.set_next(QUEUE_SIZE);
                 None
             }
             Some(mut second) => {
                 let status = second.addr;
                 second.addr = response_address(mem, status);
-                self.put(descriptor_at(first.next), second.bytes());
+                self.put_descriptor(next, &second);
                 Some(status)
             }
         }
@@ -377,6 +378,13 @@ impl Private {
         }
     }
 
+    /// Puts a descriptor into the private table.
+    fn put_descriptor(&mut self, index: u16, descriptor: &Descriptor) {
+        let at = TABLE_AT + DESCRIPTOR_BYTES * usize::from(index);
+        self.put(at, descriptor.addr.to_le_bytes());
+        self.put(at + 8, descriptor.rest.to_le_bytes());
+    }
+
     fn put<const N: usize>(&mut self, at: usize, bytes: [u8; N]) {
         self.bytes[at..at + N].copy_from_slice(&bytes.map(MaybeUninit::new));
     }
@@ -386,8 +394,7 @@ impl Private {
     /// # Safety
     /// They are written.
     unsafe fn written<const N: usize>(&self, at: usize) -> [u8; N] {
-        let bytes = &self.bytes[at..at + N];
-        std::array::from_fn(|nth| bytes[nth].assume_init())
+        self.bytes[at..at + N].as_ptr().cast::<[u8; N]>().read()
     }
 }
 
@@ -405,17 +412,10 @@ fn response_address<M: GuestMemory + ?Sized>(mem: &M, guest: u64) -> u64 {
     address(mem.contains(guest, RESPONSE_BYTES as u64), RESPONSE_AT)
 }
 
-/// Where the private table has a descriptor.
-fn descriptor_at(index: u16) -> usize {
-    TABLE_AT + DESCRIPTOR_BYTES * usize::from(index)
-}
-
-/// A descriptor.
+/// A descriptor: its address, and in one word its length, flags and next.
 struct Descriptor {
     addr: u64,
-    length: u32,
-    flags: u16,
-    next: u16,
+    rest: u64,
 }
 
 impl Descriptor {
@@ -432,16 +432,24 @@ impl Descriptor {
         let all = u128::from_le_bytes(bytes);
         Some(Descriptor {
             addr: all as u64,
-            length: (all >> 64) as u32,
-            flags: (all >> 96) as u16,
-            next: (all >> 112) as u16,
+            rest: (all >> 64) as u64,
         })
     }
 
-    fn bytes(&self) -> [u8; DESCRIPTOR_BYTES] {
-        let behind =
-            u64::from(self.length) | u64::from(self.flags) << 32 | u64::from(self.next) << 48;
-        (u128::from(self.addr) | u128::from(behind) << 64).to_le_bytes()
+    fn length(&self) -> u32 {
+        self.rest as u32
+    }
+
+    fn flags(&self) -> u16 {
+        (self.rest >> 32) as u16
+    }
+
+    fn next(&self) -> u16 {
+        (self.rest >> 48) as u16
+    }
+
+    fn set_next(&mut self, next: u16) {
+        self.rest = self.rest << 16 >> 16 | u64::from(next) << 48;
     }
 }
 

@@ -269,6 +269,7 @@ pub enum Answer {
 
 impl Answer {
     /// The words of an answer that is not refused.
+    #[inline]
     fn of(words: &[u64; ANSWER_WORDS]) -> Answer {
         let [kind, _, address, size, place, resp_type, state, length, reason] = *words;
         match kind {
