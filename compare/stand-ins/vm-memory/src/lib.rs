@@ -82,17 +82,20 @@ pub trait Bytes<A> {
     }
 
     /// Memory is behind a lock, which orders more than any `order` asks.
+    #[inline(always)]
     fn load<T: AtomicAccess>(&self, addr: A, _order: Ordering) -> std::result::Result<T, Self::E> {
-        self.read_obj(addr)
+        let mut val = T::default();
+        self.read_slice(val.as_mut_slice(), addr).map(|()| val)
     }
 
+    #[inline(always)]
     fn store<T: AtomicAccess>(
         &self,
         val: T,
         addr: A,
         _order: Ordering,
     ) -> std::result::Result<(), Self::E> {
-        self.write_obj(val, addr)
+        self.write_slice(val.as_slice(), addr)
     }
 }
 
