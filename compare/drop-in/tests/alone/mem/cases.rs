@@ -16,12 +16,13 @@ const BLOCK: u64 = VIRTIO_MEM_DEFAULT_BLOCK_SIZE;
 const START: u64 = 4 * GIB;
 const HOST: u64 = 0x7f00_0000_0000;
 
-/// Guest memory, in two regions that touch and a third behind a hole: the queue's parts in the first, the request in it too.
+/// Guest memory: a region at 0, two that touch, with the queue and the request in the first of them, and one behind a hole.
 const BASE: u64 = 0x1000;
 const BORDER: u64 = 0x3000;
 const HOLE: u64 = 0x4000;
 const BEHIND: u64 = 0x8000;
-const RANGES: [(GuestAddress, usize); 3] = [
+const RANGES: [(GuestAddress, usize); 4] = [
+    (GuestAddress(0), 0x800),
     (GuestAddress(BASE), (BORDER - BASE) as usize),
     (GuestAddress(BORDER), (HOLE - BORDER) as usize),
     (GuestAddress(BEHIND), 0x1000),
@@ -484,6 +485,7 @@ fn a_queue_outside_of_memory_or_not_ready_is_not_served_and_does_not_stick() {
     let mut rig = Rig::placed();
     rig.describe(Request::plug(START, 1), REQUEST, RESPONSE);
     rig.make_available(0);
+    rig.write(INDEX, &1u16.to_le_bytes());
     let outside = [
         (HOLE - 260, USED),
         (AVAILABLE, HOLE - 1028),
@@ -543,6 +545,26 @@ fn requests_and_responses_may_lie_across_regions_that_touch_and_not_across_a_hol
     rig.write(BASE, &(HOLE - 23).to_le_bytes());
     rig.make_available(0);
     assert_eq!((rig.wake(), rig.last_used()), (1, (0, 0)));
+}
+
+#[test]
+fn what_is_not_wholly_inside_is_not_written_at_all() {
+    let rig = Rig::placed();
+    let guest = Guest::new(&*rig.mem, AVAILABLE);
+    assert!(GuestBytes::write(&guest, BORDER - 4, &[0xee; 8]));
+    assert_eq!(rig.read::<8>(BORDER - 4), [0xee; 8]);
+    assert!(!GuestBytes::write(&guest, HOLE - 4, &[0xee; 8]));
+    assert_eq!(rig.read::<4>(HOLE - 4), [0; 4]);
+}
+
+#[test]
+fn what_waited_when_a_wake_began_is_served_whatever_is_written_meanwhile() {
+    let rig = Rig::placed();
+    rig.describe(Request::plug(START, 1), REQUEST, AVAILABLE);
+    rig.make_available(0);
+    rig.make_available(0);
+    assert_eq!((rig.wake(), rig.index(USED)), (1, 2));
+    assert_eq!(rig.index(AVAILABLE), 0);
 }
 
 #[test]
