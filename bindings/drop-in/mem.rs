@@ -262,11 +262,9 @@ impl Deref for MemState {
     fn deref(&self) -> &[bool] {
         self.blocks.get_or_init(|| {
             let device = locked(&self.device);
-            let blocks = |byte: &u8| {
-                let byte = *byte;
-                (0..8).map(move |bit| byte >> bit & 1 == 1)
-            };
-            device.bitmap().iter().flat_map(blocks).collect()
+            let bitmap = device.bitmap();
+            let plugged = |block: usize| bitmap[block / 8] >> (block % 8) & 1 == 1;
+            (0..8 * bitmap.len()).map(plugged).collect()
         })
     }
 }

@@ -90,10 +90,24 @@ pub struct Pair {
 }
 
 fn same<T: PartialEq + fmt::Debug>(what: &str, rust: T, proved: T) -> Result<(), String> {
-    match rust == proved {
+    same_of("mem.rs", rust, "proved", proved).map_err(|said| format!("{what}: {said}"))
+}
+
+fn same_of<T: PartialEq + fmt::Debug>(
+    one: &str,
+    first: T,
+    other: &str,
+    second: T,
+) -> Result<(), String> {
+    match first == second {
         true => Ok(()),
-        false => Err(format!("{what}: mem.rs {rust:?}, proved {proved:?}")),
+        false => Err(format!("{one} {first:?}, {other} {second:?}")),
     }
+}
+
+/// Where the second differs first from the first.
+fn difference(memory: &[u8], other: &[u8]) -> Option<usize> {
+    (0..memory.len()).find(|&at| memory[at] != other[at])
 }
 
 impl Pair {
@@ -113,7 +127,7 @@ impl Pair {
                 let number = rust.err();
                 same("make", number, proved.err())?;
                 if let Some(made) = drop_in {
-                    same("make, the drop-in's", number, made.err())?;
+                    same_of("mem.rs", number, "the drop-in", made.err())?;
                 }
                 return Ok(None);
             }
@@ -127,7 +141,7 @@ impl Pair {
         };
         if let Some(device) = &mut drop_in {
             let rust = (shape, rust.features());
-            same("the drop-in's shape and features", rust, device.shape())?;
+            same_of("mem.rs", rust, "the drop-in", device.shape())?;
         }
         let mut pair = Pair {
             rust,
@@ -251,9 +265,9 @@ impl Pair {
             same("response", &memory[at.clone()], &self.memory[at])?;
             return Err("guest memory differs".to_string());
         }
-        self.also(asked, ((head, length), memory.clone()), |device| {
+        self.also(asked, ((head, length), None), |device| {
             device.give(&before);
-            (device.serve(), device.memory())
+            (device.serve(), difference(&memory, &device.memory()))
         })?;
         let names = [
             "plug, response",
@@ -326,16 +340,14 @@ impl Pair {
         let elements = newest.map(|back| guest.used_at(index.wrapping_sub(back)));
         same("used", elements.collect(), used)?;
         let memory = guest.read(base, length);
-        if memory != self.memory {
-            let differs = |&at: &usize| memory[at] != self.memory[at];
-            let at = (0..length).find(differs).expect("somewhere");
+        if let Some(at) = difference(&memory, &self.memory) {
             let what = format!("guest memory at {}", base + at as u64);
             same(&what, memory[at], self.memory[at])?;
         }
-        self.also(questions, memory, |device| {
+        self.also(questions, None, |device| {
             device.give(&before);
             device.wake();
-            device.memory()
+            difference(&memory, &device.memory())
         })?;
         let rings = self.rings.as_ref().expect("a run with rings");
         same("queue", rings.layout.words(index), rings.words)?;
@@ -419,10 +431,7 @@ impl Pair {
         let script = Script::new("the drop-in", asked);
         let out = device.answered(script.answerer(), call);
         script.held()?;
-        match rust == out {
-            true => Ok(()),
-            false => Err(format!("mem.rs {rust:?}, the drop-in {out:?}")),
-        }
+        same_of("mem.rs", rust, "the drop-in", out)
     }
 
     /// The plugged size that the guest reads is that of the plugged blocks, whatever is pending.
@@ -458,7 +467,7 @@ impl Pair {
         if let Some(device) = &mut self.drop_in {
             let mut config = [NOISE; 56];
             device.read_config(0, &mut config);
-            same("the drop-in's config", proved, config)?;
+            same_of("proved", proved, "the drop-in", config)?;
         }
         self.counted()?;
         same("lent behind the need is spared", true, self.proved.spared())?;
@@ -477,8 +486,8 @@ impl Pair {
         let rust = self.rust.rows();
         if let Some(device) = &self.drop_in {
             let equal = device.with_blocks(equal);
-            same("the drop-in's bitmap is equal", true, equal)?;
-            same("the drop-in's rows", &rust, &device.rows())?;
+            same_of("bitmaps: proved", true, "the drop-in", equal)?;
+            same_of("mem.rs", &rust, "the drop-in", &device.rows())?;
         }
         let rust = rust.iter().map(|&(slot, host)| (u64::from(slot), host));
         match rust.clone().eq(self.proved.rows()) {
