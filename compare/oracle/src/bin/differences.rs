@@ -214,6 +214,30 @@ fn failed_single_placing() -> String {
         .into()
 }
 
+fn activated_after_failed_placing() -> String {
+    let mut device = Rust::make(2304, 16, true, None, BOOT).unwrap();
+    let (done, _) = with_host(None, || device.place_at(4 * GIB, 1));
+    assert_eq!(done, Err(10));
+    assert!(device.activate(small_guest()));
+    assert_eq!(device.request(PLUG, 4 * GIB, 1).resp, 3);
+    "several regions: after a failed creation the device is activated, and a plug is ERROR (the \
+     drop-in: not activated)"
+        .into()
+}
+
+fn activated_again() -> String {
+    let mut device = placed(small_guest());
+    assert_eq!(device.request(PLUG, 4 * GIB, 2).resp, 0);
+    assert!(device.activate(small_guest()));
+    assert_eq!(device.config().plugged, 2 * BLOCK);
+    assert_eq!(device.plugged_by_blocks(), 0);
+    assert_eq!(device.request(PLUG, 4 * GIB, 2).resp, 0);
+    assert_eq!(device.config().plugged, 4 * BLOCK);
+    "plug of 2 blocks, then activated again: no block is plugged, plugged stays 8388608, and the same \
+     plug is ACK with plugged 16777216 (the drop-in: both stay plugged, and that plug is ERROR)"
+        .into()
+}
+
 fn host_address_wraps() -> String {
     let mut device = Rust::make(256, 16, false, None, BOOT).unwrap();
     let host = 0u64.wrapping_sub(4096);
@@ -281,6 +305,28 @@ fn head_of_128() -> String {
     let panicked = catch_unwind(AssertUnwindSafe(|| device.serve(128)));
     assert!(panicked.is_err());
     format!("a head of 128 panics in add_used (here: 21) [{VIRTIO_QUEUE}]")
+}
+
+fn index_too_far_ahead() -> String {
+    let guest = small_guest();
+    describe_plug(&guest, 6176, 10);
+    let mut device = placed(guest);
+    let guest = device.guest();
+    guest.write(guest.available + 2, &129u16.to_le_bytes());
+    device.wake();
+    assert_eq!(device.guest().used_index(), 129);
+    format!("an available index 129 ahead: 129 heads are served (here: 15) [{VIRTIO_QUEUE}]")
+}
+
+fn used_ring_outside() -> String {
+    let mut guest = small_guest();
+    guest.used = 16;
+    describe_plug(&guest, 6176, 10);
+    let mut device = placed(guest);
+    device.guest().make_available(0);
+    let panicked = catch_unwind(AssertUnwindSafe(|| device.wake()));
+    assert!(panicked.is_err());
+    format!("a used ring outside of guest memory: it panics in add_used (here: 14) [{VIRTIO_QUEUE}]")
 }
 
 fn indirect_is_followed() -> String {
@@ -364,12 +410,19 @@ fn main() {
             placed_again_after_failure_several,
         ),
         ("failed-single-placing", failed_single_placing),
+        (
+            "activated-after-failed-placing",
+            activated_after_failed_placing,
+        ),
+        ("activated-again", activated_again),
         ("host-address-wraps", host_address_wraps),
         ("refused-unplug-all", refused_unplug_all),
         ("state-of-no-blocks", state_of_no_blocks),
         ("state-below-the-start", state_below_the_start),
         ("state-behind-the-region", state_behind_the_region),
         ("head-of-128", head_of_128),
+        ("index-too-far-ahead", index_too_far_ahead),
+        ("used-ring-outside", used_ring_outside),
         ("indirect-is-followed", indirect_is_followed),
         ("long-chain", long_chain),
         ("table-misaligned", table_misaligned),
