@@ -339,7 +339,9 @@ impl<M: GuestMemory> Serving<'_, M> {
             };
             while let Answer::Wants(asked) = answer {
                 let told = self.done(asked);
-                answer = self.device.serve_guest_answer(&mut self.queue, &self.mem, told)?;
+                answer = self
+                    .device
+                    .serve_guest_answer(&mut self.queue, &self.mem, told)?;
             }
             self.say(answer);
         }
@@ -432,7 +434,10 @@ impl<AS: DbsGuestAddressSpace, Q: QueueT + Send, R: GuestMemoryRegion> MutEventS
         for (index, queue) in self.config.queues.iter().enumerate() {
             let events = Events::with_data(queue.eventfd.as_ref(), index as u32, EventSet::IN);
             ops.add(events).unwrap_or_else(|_| {
-                panic!("{MEM_DRIVER_NAME}: {}: the queue's event cannot be added", self.id)
+                panic!(
+                    "{MEM_DRIVER_NAME}: {}: the queue's event cannot be added",
+                    self.id
+                )
             });
         }
     }
@@ -499,7 +504,9 @@ impl<AS: GuestAddressSpace> Mem<AS> {
     /// the new size stands then too.
     pub fn set_requested_size(&self, requested_size_mb: u64) -> Result<()> {
         let mut device = locked(&self.device);
-        let asked = device.set_requested_size(requested_size_mb).map_err(refused)?;
+        let asked = device
+            .set_requested_size(requested_size_mb)
+            .map_err(refused)?;
         let sized = self.created(&mut device, asked);
         info!(target: MEM_DRIVER_NAME, "{}: {} MiB requested, {:?}: {:?}", self.id, requested_size_mb, sized, device);
         drop(device);
@@ -528,7 +535,10 @@ impl<AS: GuestAddressSpace> Mem<AS> {
 
     /// The host address of a region that the factory creates.
     fn create(&self, guest: u64, size: u64, slot: u32) -> Result<u64> {
-        let mut factory = self.factory.lock().expect("whoever locked the factory went on");
+        let mut factory = self
+            .factory
+            .lock()
+            .expect("whoever locked the factory went on");
         let region = factory.create_region(GuestAddress(guest), size, slot)?;
         let host = region
             .get_host_address(MemoryRegionAddress(0))
@@ -607,7 +617,9 @@ where
         };
         match self.device_info.remove_event_handler(id) {
             Ok(_) => debug!(target: MEM_DRIVER_NAME, "{}: its event handler is removed", self.id),
-            Err(why) => warn!(target: MEM_DRIVER_NAME, "{}: its event handler cannot be removed: {:?}", self.id, why),
+            Err(why) => {
+                warn!(target: MEM_DRIVER_NAME, "{}: its event handler cannot be removed: {:?}", self.id, why)
+            }
         }
     }
 

@@ -581,7 +581,10 @@ fn packed(eight: &[bool]) -> u8 {
 pub fn chain(case: &Chain, drop_in: bool, seen: &mut Seen) -> Result<u64, String> {
     let rust = case.served();
     if drop_in && drop_in::served(case) != rust.to_string() {
-        return Err(format!("mem.rs {rust}, the drop-in {}", drop_in::served(case)));
+        return Err(format!(
+            "mem.rs {rust}, the drop-in {}",
+            drop_in::served(case)
+        ));
     }
     let first = "capacity_mib=256 requested_mib=16 multi=0 node=none boot=1073741824 addr=4294967296 slot=1";
     let first = First::parse(first).expect("the example");

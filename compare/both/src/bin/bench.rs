@@ -213,7 +213,8 @@ impl Side {
         }
         if let What::Wake(..) = row.what {
             let mut device = DropIn::make(&first).expect("made");
-            let placed = device.answered(|_| Some(HOST), |device| device.place(START, 1 << 40, &[1]));
+            let placed =
+                device.answered(|_| Some(HOST), |device| device.place(START, 1 << 40, &[1]));
             placed.expect("placed");
             device.activate_with_rings(BASE, LENGTH, [BASE, AVAILABLE, USED], 0);
             return Side::DropIn(device, rust);

@@ -259,12 +259,7 @@ fn replayed(first: &First, devices: Devices, lines: &[Line]) -> Result<(), Diffe
 }
 
 /// The shortest prefix is what was written down; calls in it that are not needed are left out.
-fn shorter(
-    first: &First,
-    devices: Devices,
-    mut said: String,
-    mut lines: Vec<Line>,
-) -> Differs {
+fn shorter(first: &First, devices: Devices, mut said: String, mut lines: Vec<Line>) -> Differs {
     for at in (0..lines.len()).rev() {
         let mut without = lines.clone();
         if at < without.len() {

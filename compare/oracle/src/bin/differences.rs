@@ -326,7 +326,9 @@ fn used_ring_outside() -> String {
     device.guest().make_available(0);
     let panicked = catch_unwind(AssertUnwindSafe(|| device.wake()));
     assert!(panicked.is_err());
-    format!("a used ring outside of guest memory: it panics in add_used (here: 14) [{VIRTIO_QUEUE}]")
+    format!(
+        "a used ring outside of guest memory: it panics in add_used (here: 14) [{VIRTIO_QUEUE}]"
+    )
 }
 
 fn indirect_is_followed() -> String {

@@ -195,7 +195,13 @@ impl Bytes<MemoryRegionAddress> for GuestRegionMmap {
     #[inline(always)]
     fn write_slice(&self, buf: &[u8], addr: MemoryRegionAddress) -> Result<()> {
         let at = addr.0 as usize;
-        if let Some(to) = self.mapping.bytes.lock().unwrap().get_mut(at..at + buf.len()) {
+        if let Some(to) = self
+            .mapping
+            .bytes
+            .lock()
+            .unwrap()
+            .get_mut(at..at + buf.len())
+        {
             to.copy_from_slice(buf);
             return Ok(());
         }

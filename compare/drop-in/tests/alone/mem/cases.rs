@@ -606,7 +606,10 @@ fn an_unplug_all_that_the_host_refuses_takes_off_what_it_has_cleared() {
     let block = |nth| Call::Madvise(HOST + nth * BLOCK, BLOCK as usize, libc::MADV_REMOVE);
     libc::fail(Some(block(1)));
     assert_eq!(rig.request(Request::unplug_all()), 3);
-    assert_eq!((libc::take(), rig.plugged()), (vec![block(0), block(1)], BLOCK));
+    assert_eq!(
+        (libc::take(), rig.plugged()),
+        (vec![block(0), block(1)], BLOCK)
+    );
     assert_eq!(rig.request(Request::plug(START + 2 * BLOCK, 3)), 0);
     libc::fail(None);
 }
@@ -620,9 +623,8 @@ fn what_a_handler_shows_is_the_devices() {
         rig.epoll.with_last(|subscriber| {
             let handler: *const _ = subscriber.as_ref();
             // SAFETY: `activate` is the only one that adds a subscriber, and this is its type.
-            let handler = unsafe {
-                &*handler.cast::<MemEpollHandler<Space, QueueSync, GuestRegionMmap>>()
-            };
+            let handler =
+                unsafe { &*handler.cast::<MemEpollHandler<Space, QueueSync, GuestRegionMmap>>() };
             let plugged = handler.mem_state.iter().filter(|&&block| block).count();
             let rows = handler.map_regions.lock().unwrap();
             (handler.mem_state.len(), plugged, handler.mem_state[3], rows)
