@@ -6,7 +6,7 @@
 // which the host does what the device asks. README.md beside this file says how to put it in, and what differs.
 
 use std::any::Any;
-use std::cell::{Cell, OnceCell};
+use std::cell::{Cell, UnsafeCell};
 use std::io;
 use std::marker::PhantomData;
 use std::ops::Deref;
@@ -180,9 +180,12 @@ impl<'a, M: GuestMemory> Guest<'a, M> {
         })
     }
 
-    /// The same of bytes that may lie in several regions.
+    /// Whether guest memory has all of these bytes, in several regions too.
     fn check_range(&self, addr: u64, size: u64) -> bool {
-        usize::try_from(size).is_ok_and(|size| self.mem.check_range(GuestAddress(addr), size))
+        match usize::try_from(size) {
+            Ok(size) => self.mem.check_range(GuestAddress(addr), size),
+            Err(_) => false,
+        }
     }
 }
 
@@ -223,9 +226,10 @@ impl<M: GuestMemory> GuestBytes for Guest<'_, M> {
 
     #[inline]
     fn write_index(&self, addr: u64, index: u16) -> bool {
-        let written = |(region, at): (&M::R, _)| region.store(index.to_le(), at, Ordering::Release);
-        self.region(addr, 2)
-            .is_some_and(|there| written(there).is_ok())
+        match self.region(addr, 2) {
+            Some((region, at)) => region.store(index.to_le(), at, Ordering::Release).is_ok(),
+            None => false,
+        }
     }
 }
 
@@ -253,19 +257,40 @@ impl MapRegions {
 /// the blocks of a placed device change.
 pub(crate) struct MemState {
     device: Shared,
-    blocks: OnceCell<Vec<bool>>,
+    blocks: UnsafeCell<Option<Vec<bool>>>,
+}
+
+impl MemState {
+    fn new(device: Shared) -> MemState {
+        let blocks = UnsafeCell::new(None);
+        MemState { device, blocks }
+    }
+
+    fn forget(&mut self) {
+        *self.blocks.get_mut() = None;
+    }
+
+    fn unpacked(&self) -> Vec<bool> {
+        let device = locked(&self.device);
+        let bitmap = device.bitmap();
+        let plugged = |block: usize| bitmap[block / 8] >> (block % 8) & 1 == 1;
+        (0..8 * bitmap.len()).map(plugged).collect()
+    }
 }
 
 impl Deref for MemState {
     type Target = [bool];
 
     fn deref(&self) -> &[bool] {
-        self.blocks.get_or_init(|| {
-            let device = locked(&self.device);
-            let bitmap = device.bitmap();
-            let plugged = |block: usize| bitmap[block / 8] >> (block % 8) & 1 == 1;
-            (0..8 * bitmap.len()).map(plugged).collect()
-        })
+        let blocks = self.blocks.get();
+        // SAFETY: an `UnsafeCell` is not shared by threads, and nothing in these calls comes back here. What is written is lent
+        // only behind that, and stays as it is until `forget`, which nobody can call who has it lent.
+        unsafe {
+            if (*blocks).is_none() {
+                *blocks = Some(self.unpacked());
+            }
+            (*blocks).as_deref().unwrap_or_default()
+        }
     }
 }
 
@@ -289,7 +314,7 @@ pub(crate) struct MemEpollHandler<
 impl<AS: DbsGuestAddressSpace, Q: QueueT + Send, R: GuestMemoryRegion> MemEpollHandler<AS, Q, R> {
     /// Serves the heads that wait now, and says whether any is in the used ring. A head that comes later has its own event.
     fn process_queue(&mut self, queue_index: usize) -> bool {
-        self.mem_state.blocks.take();
+        self.mem_state.forget();
         let memory = self.config.lock_guest_memory();
         let mut ring = self.config.queues[queue_index].queue_mut().lock();
         if !ring.ready() || ring.avail_ring() == 0 {
@@ -334,17 +359,22 @@ impl<M: GuestMemory> Serving<'_, M> {
     /// Serves as many heads as wait when it begins. Heads that were served before a refusal stay served.
     fn serve(&mut self) -> std::result::Result<(), Refusal> {
         for _ in 0..self.waiting() {
-            let Some(mut answer) = self.device.serve_guest(&mut self.queue, &self.mem)? else {
-                break;
-            };
-            while let Answer::Wants(asked) = answer {
-                let told = self.done(asked);
-                answer = self
-                    .device
-                    .serve_guest_answer(&mut self.queue, &self.mem, told)?;
+            match self.device.serve_guest(&mut self.queue, &self.mem)? {
+                Some(answer) => self.end(answer)?,
+                None => break,
             }
-            self.say(answer);
         }
+        Ok(())
+    }
+
+    /// Answers what the device asks until the request has ended.
+    fn end(&mut self, mut answer: Answer) -> std::result::Result<(), Refusal> {
+        while let Answer::Wants(asked) = answer {
+            let told = self.done(asked);
+            let (queue, mem) = (&mut self.queue, &self.mem);
+            answer = self.device.serve_guest_answer(queue, mem, told)?;
+        }
+        self.say(answer);
         Ok(())
     }
 
@@ -357,14 +387,15 @@ impl<M: GuestMemory> Serving<'_, M> {
 
     /// Does what the device asks of its host, and gives the host's answer.
     fn done(&self, asked: HostCall) -> HostAnswer {
-        let HostCall::Discard { offset, size, host } = asked else {
-            // A request asks for no creation.
-            return HostAnswer::Failed;
+        let done = match asked {
+            HostCall::Discard { offset, size, host } => self.discard(offset, size, host),
+            // No request asks for one.
+            HostCall::Create { .. } => Err(io::ErrorKind::Unsupported.into()),
         };
-        match self.discard(offset, size, host) {
+        match done {
             Ok(()) => HostAnswer::Discarded,
             Err(why) => {
-                error!(target: MEM_DRIVER_NAME, "{}: memory at 0x{:x} is not given back: {}", self.id, host, why);
+                error!(target: MEM_DRIVER_NAME, "{}: memory is not given back, {:?}: {}", self.id, asked, why);
                 HostAnswer::Failed
             }
         }
@@ -416,15 +447,24 @@ impl<AS: DbsGuestAddressSpace, Q: QueueT + Send, R: GuestMemoryRegion> MutEventS
     fn process(&mut self, events: Events, _ops: &mut EventOps) {
         trace!(target: MEM_DRIVER_NAME, "{}: an event", self.id);
         let index = events.data() as usize;
-        let Some(queue) = self.config.queues.get(index) else {
-            error!(target: MEM_DRIVER_NAME, "{}: an event of queue {}, which is not there", self.id, index);
-            return;
-        };
-        if let Err(why) = queue.consume_event() {
-            error!(target: MEM_DRIVER_NAME, "{}: the queue's event cannot be read: {:?}", self.id, why);
-        } else if self.process_queue(index) {
-            if let Err(why) = self.config.queues[index].notify() {
-                error!(target: MEM_DRIVER_NAME, "{}: the guest is not notified: {}", self.id, why);
+        match self
+            .config
+            .queues
+            .get(index)
+            .map(|queue| queue.consume_event())
+        {
+            None => {
+                error!(target: MEM_DRIVER_NAME, "{}: an event of queue {}, which is not there", self.id, index)
+            }
+            Some(Err(why)) => {
+                error!(target: MEM_DRIVER_NAME, "{}: the queue's event cannot be read: {:?}", self.id, why)
+            }
+            Some(Ok(_)) => {
+                if self.process_queue(index) {
+                    if let Err(why) = self.config.queues[index].notify() {
+                        error!(target: MEM_DRIVER_NAME, "{}: the guest is not notified: {}", self.id, why);
+                    }
+                }
             }
         }
     }
@@ -519,8 +559,9 @@ impl<AS: GuestAddressSpace> Mem<AS> {
 
     /// Has the factory create what the device asks for, if it asks. Where it cannot, its error is given.
     fn created(&self, device: &mut Device, asked: Answer) -> Result<()> {
-        let Answer::Wants(HostCall::Create { guest, size, slot }) = asked else {
-            return Ok(());
+        let (guest, size, slot) = match asked {
+            Answer::Wants(HostCall::Create { guest, size, slot }) => (guest, size, slot),
+            _ => return Ok(()),
         };
         let created = self.create(guest, size, slot as u32).and_then(|host| {
             let told = HostAnswer::Created(host);
@@ -599,10 +640,7 @@ where
             device: self.device.clone(),
             multi_region: device.map_regions() > 1,
             map_regions: MapRegions(self.device.clone()),
-            mem_state: MemState {
-                device: self.device.clone(),
-                blocks: OnceCell::new(),
-            },
+            mem_state: MemState::new(self.device.clone()),
             host_fd: self.host_fd,
             id: self.id.clone(),
         });
@@ -612,12 +650,13 @@ where
     }
 
     fn remove(&mut self) {
-        let Some(id) = self.subscriber_id.take() else {
-            return;
-        };
-        match self.device_info.remove_event_handler(id) {
-            Ok(_) => debug!(target: MEM_DRIVER_NAME, "{}: its event handler is removed", self.id),
-            Err(why) => {
+        let removed = self.subscriber_id.take();
+        match removed.map(|id| self.device_info.remove_event_handler(id)) {
+            None => (),
+            Some(Ok(_)) => {
+                debug!(target: MEM_DRIVER_NAME, "{}: its event handler is removed", self.id)
+            }
+            Some(Err(why)) => {
                 warn!(target: MEM_DRIVER_NAME, "{}: its event handler cannot be removed: {:?}", self.id, why)
             }
         }
@@ -657,9 +696,12 @@ where
         trace!(target: MEM_DRIVER_NAME, "{}: it is placed", self.id);
         let ranges = resource.get_mem_address_ranges();
         let slots = resource.get_kvm_mem_slots();
-        let [(start, size)] = ranges[..] else {
-            error!(target: MEM_DRIVER_NAME, "{}: {} ranges of addresses, and it has one", self.id, ranges.len());
-            return Err(Error::InvalidResource);
+        let (start, size) = match ranges[..] {
+            [range] => range,
+            _ => {
+                error!(target: MEM_DRIVER_NAME, "{}: {} ranges of addresses, and it has one", self.id, ranges.len());
+                return Err(Error::InvalidResource);
+            }
         };
         let mut device = locked(&self.device);
         let placed = device.place(start, size, &slots).map_err(refused);
