@@ -370,7 +370,7 @@ impl<M: GuestMemory> Serving<'_, M> {
     /// Answers what the device asks until the request has ended.
     fn end(&mut self, mut answer: Answer) -> std::result::Result<(), Refusal> {
         while let Answer::Wants(asked) = answer {
-            let told = self.done(asked);
+            let told = self.carry_out(asked);
             let (queue, mem) = (&mut self.queue, &self.mem);
             answer = self.device.serve_guest_answer(queue, mem, told)?;
         }
@@ -386,7 +386,7 @@ impl<M: GuestMemory> Serving<'_, M> {
     }
 
     /// Does what the device asks of its host, and gives the host's answer.
-    fn done(&self, asked: HostCall) -> HostAnswer {
+    fn carry_out(&self, asked: HostCall) -> HostAnswer {
         let done = match asked {
             HostCall::Discard { offset, size, host } => self.discard(offset, size, host),
             // No request asks for one.
@@ -407,11 +407,11 @@ impl<M: GuestMemory> Serving<'_, M> {
             let hole = libc::FALLOC_FL_PUNCH_HOLE | libc::FALLOC_FL_KEEP_SIZE;
             let (offset, size) = (offset as libc::off64_t, size as libc::off64_t);
             // SAFETY: it takes numbers alone, and frees what the guest has given up.
-            done(unsafe { libc::fallocate64(fd, hole, offset, size) })?;
+            succeeded(unsafe { libc::fallocate64(fd, hole, offset, size) })?;
         }
         let (host, size) = (host as *mut libc::c_void, size as libc::size_t);
         // SAFETY: the factory mapped the region's memory there, and the range is blocks of it that the guest has given up.
-        done(unsafe { libc::madvise(host, size, libc::MADV_REMOVE) })
+        succeeded(unsafe { libc::madvise(host, size, libc::MADV_REMOVE) })
     }
 
     /// Logs what became of a chain.
@@ -434,7 +434,7 @@ impl<M: GuestMemory> Serving<'_, M> {
 }
 
 /// What a call of the C library says by its number.
-fn done(number: libc::c_int) -> io::Result<()> {
+fn succeeded(number: libc::c_int) -> io::Result<()> {
     match number {
         0 => Ok(()),
         _ => Err(io::Error::last_os_error()),
@@ -447,12 +447,8 @@ impl<AS: DbsGuestAddressSpace, Q: QueueT + Send, R: GuestMemoryRegion> MutEventS
     fn process(&mut self, events: Events, _ops: &mut EventOps) {
         trace!(target: MEM_DRIVER_NAME, "{}: an event", self.id);
         let index = events.data() as usize;
-        match self
-            .config
-            .queues
-            .get(index)
-            .map(|queue| queue.consume_event())
-        {
+        let queue = self.config.queues.get(index);
+        match queue.map(|queue| queue.consume_event()) {
             None => {
                 error!(target: MEM_DRIVER_NAME, "{}: an event of queue {}, which is not there", self.id, index)
             }
