@@ -59,8 +59,8 @@
 //!
 //! # Rust version
 //!
-//! Rust 1.63 or later, which Debian 12 has. The crate's tests were run with 1.63 and 1.95; the two test programs of
-//! `model/` take a later one.
+//! Rust 1.63 or later, which Debian 12 has. The crate's tests were run with 1.63 and 1.95; the programs of
+//! `model/` and `examples/` take a later one, of which 1.95 was tried.
 //!
 //! # Licence
 //!

@@ -11,6 +11,8 @@
 //! With `--seconds N [--seed S]` the guest writes random bytes over its rings and requests for so long instead
 //! (stress.rs), and one line says what came up.
 
+#![allow(clippy::incompatible_msrv)] // which is the library's
+
 use std::env;
 use std::io;
 use std::panic;
