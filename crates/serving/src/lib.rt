@@ -204,8 +204,8 @@ fn unplug(
     asked(d, pending, offset, size, host)
 }
 
-// One plugged block of an unplug-all, which asks without a look at the plugged size. It is whole and in the region, so of
-// the tests (b) and (c) the usable size is left.
+// One plugged block of an unplug-all, which asks without a look at the plugged size. It is whole and in the region, so
+// of the tests (b) and (c) the usable size is left.
 fn unplug_one(
     d: Device,
     bitmap: &[u8],
