@@ -1,6 +1,6 @@
 // SPDX-License-Identifier: Apache-2.0 AND BSD-3-Clause
-// The lent map table, one row for each map region (R8.3). Only `rows_in`, `row_at`, `put_row` and who counts a row's words
-// by `ROW_WORDS` speak of words.
+// The lent map table, one row for each map region (R8.3). Only `rows_in`, `row_at`, `put_row` and who counts words by
+// `ROW_WORDS` speak of words.
 use units::HostAddr;
 use units::RegionOffset;
 ghost use mathlib.Core.Path.{_≡_};
