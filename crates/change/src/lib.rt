@@ -21,6 +21,7 @@ ghost use Rattle.change.specs.declared.Part.{Part};
 ghost use Rattle.change.specs.declared.Range.the-variants.{Outside as NotInside};
 ghost use Rattle.change.specs.declared.Change.the-variants.{Outside};
 ghost use Rattle.change.specs.Change.{insideOf, rangeOf, hostSum, hostIn, hostOf, changeOf, stateIn, stateOf};
+ghost use Rattle.change.specs.Why.{partWhy, hostWhy, rangeWhy, changeWhy};
 
 // The parts of test (b) (R10.4), in their order: which of them a range failed first.
 pub enum Part {
@@ -53,6 +54,59 @@ pub enum Change {
     Outside(Part),
     WrongState,
     NoHost(HostRange),
+}
+
+// Which ERROR it is (R10.17), or 0 where the test was passed.
+impl Part {
+    fn why(self) -> u64
+        ensures { λ r. ⌜ r ≡ partWhy self ⌝ }
+    {
+        match self {
+            Part::Alignment => 1,
+            Part::ZeroBlocks => 2,
+            Part::Overflow => 3,
+            Part::BelowStart => 4,
+            Part::PastUsable => 5,
+            Part::EndPastUsable => 6,
+        }
+    }
+}
+
+impl HostRange {
+    pub fn why(self) -> u64
+        ensures { λ r. ⌜ r ≡ hostWhy self ⌝ }
+    {
+        match self {
+            HostRange::At(_) => 0,
+            HostRange::CrossesBorder => 8,
+            HostRange::Unmapped => 9,
+            HostRange::SumPasses => 10,
+        }
+    }
+}
+
+impl Range {
+    pub fn why(self) -> u64
+        ensures { λ r. ⌜ r ≡ rangeWhy self ⌝ }
+    {
+        match self {
+            Range::Inside(_) => 0,
+            Range::Outside(part) => part.why(),
+        }
+    }
+}
+
+impl Change {
+    pub fn why(self) -> u64
+        ensures { λ r. ⌜ r ≡ changeWhy self ⌝ }
+    {
+        match self {
+            Change::Legal(_, _, _) => 0,
+            Change::Outside(part) => part.why(),
+            Change::WrongState => 7,
+            Change::NoHost(host) => host.why(),
+        }
+    }
 }
 
 // Whether a range lies inside start to start + usable. From `start` on, offsets are compared: they need no sum.

@@ -7,8 +7,8 @@ use borrow.Author.Tests.{eq-eqb, ne-eqb}
 use Rattle.bitmap.specs.Blocks.{blocks}
 use Rattle.rows.specs.Rows.{rowsOf}
 use Rattle.rows.proofs.Words.{whole}
-use Rattle.wire.specs.declared.VirtioMemResp.{VirtioMemResp}
 use Rattle.record.specs.declared.Device.{Device}
+use Rattle.step.specs.declared.Verdict.{Verdict}
 use Rattle.step.specs.declared.Answered.{Answered}
 use Rattle.step.specs.declared.Answer.{Answer}
 use Rattle.step.specs.declared.Answer.the-variants.{Refused}
@@ -18,12 +18,12 @@ use Rattle.step.specs.Step.{served, refused, unless}
 use Rattle.step.specs.Promise.{Lent, lent, on, leftBy, Leaves, Gives}
 
 -- a response, as it is delivered on guest memory alone
-abbrev pub Responded : Guest → (status : ℕ) → VirtioMemResp → Device → Answered → (bytes : List ℕ) → Type 0
-Responded g status resp d s bytes =
-    Gives (served resp status (worldOf d [] []) g) (lent [] [] (g .mem)) (lent [] [] bytes) s
+abbrev pub Responded : Guest → (status : ℕ) → Verdict → Device → Answered → (bytes : List ℕ) → Type 0
+Responded g status v d s bytes =
+    Gives (served v status (worldOf d [] []) g) (lent [] [] (g .mem)) (lent [] [] bytes) s
 
 -- a response that was delivered, and tables that are those of its world
-pub serves : (g : Guest) (status : ℕ) {resp : VirtioMemResp} {s : Answered} {bytes : List ℕ} {l : Lent} (w : World) (bitmap : List ℕ) → Responded g status resp (w .device) s bytes → blocks bitmap ≡ w .blocks → rowsOf (l .table) ≡ w .rows → Gives (served resp status w g) l (lent bitmap (l .table) bytes) s
+pub serves : (g : Guest) (status : ℕ) {v : Verdict} {s : Answered} {bytes : List ℕ} {l : Lent} (w : World) (bitmap : List ℕ) → Responded g status v (w .device) s bytes → blocks bitmap ≡ w .blocks → rowsOf (l .table) ≡ w .rows → Gives (served v status w g) l (lent bitmap (l .table) bytes) s
 serves g status {l = l} w bitmap p b t =
     record {
       answered = p .answered;

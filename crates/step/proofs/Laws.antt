@@ -9,7 +9,7 @@ use Rattle.units.specs.Numbers.{bytesOf}
 use Rattle.units.specs.declared.GuestAddr.{GuestAddr}
 use Rattle.bitmap.specs.Blocks.{blockAt}
 use Rattle.bitmap.proofs.Laws.{at-inside, at-before, at-after}
-use Rattle.wire.specs.declared.VirtioMemResp.{VirtioMemResp}
+use Rattle.step.specs.declared.Verdict.{Verdict}
 use Rattle.record.specs.declared.Pending.the-variants.{Discard}
 use Rattle.step.specs.World.{World, Guest}
 use Rattle.step.specs.Step.{blockSize, plugged, Untouched, served, plugs, asksDiscard, unplugs, stops, asksOne, cleared, endsAll, hostAnswer}
@@ -61,12 +61,12 @@ asking-takes-nothing w first count offset host status g =
     (record { same-blocks = refl; same-rows = refl; same-plugged = refl }, record { same-blocks = refl; same-rows = refl; same-plugged = refl })
 
 -- ---- nor does a discard that failed, also of an unplug-all (R10.13): cleared blocks stay cleared, and what they took off stays taken off
-pub failure-takes-nothing : (w : World) (status : ℕ) (g : Guest) → Untouched w (stops w status g .world)
-failure-takes-nothing w status g = record { same-blocks = refl; same-rows = refl; same-plugged = refl }
+pub failure-takes-nothing : (why : ℕ) (w : World) (status : ℕ) (g : Guest) → Untouched w (stops why w status g .world)
+failure-takes-nothing why w status g = record { same-blocks = refl; same-rows = refl; same-plugged = refl }
 
 -- ---- NACK and ERROR change nothing but the response
-pub response-alone : (resp : VirtioMemResp) (status : ℕ) (w : World) (g : Guest) → served resp status w g .world ≡ w
-response-alone resp status w g = refl
+pub response-alone : (v : Verdict) (status : ℕ) (w : World) (g : Guest) → served v status w g .world ≡ w
+response-alone v status w g = refl
 
 -- ---- R10.14
 pub all-leaves-none : (w : World) (status : ℕ) (g : Guest) → (plugged (endsAll w status g .world) ≡ 0) × (endsAll w status g .world .device .config .«usable_region_size» ≡ w .device .config .«usable_region_size»)

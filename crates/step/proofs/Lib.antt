@@ -7,5 +7,5 @@ pub mod InTable
 pub mod Behind
 pub mod Edges
 pub mod Once
-pub mod Lengths
+pub mod Served
 pub mod Giving

@@ -1,5 +1,5 @@
 -- SPDX-License-Identifier: Apache-2.0 AND BSD-3-Clause
--- The number and the values of an answer, case by case, as words (R18.2, R19.3): its kind, the number, the question (an address, a size, a slot or host address), the response (type and state), the used length, and the reason.
+-- The number and the values of an answer, case by case, as words (R18.2, R19.3): its kind, the number, the question (an address, a size, a slot or host address), the response (type and state), the used length, and the reason: of a chain that is no request (R9.7), or of an ERROR (R10.17).
 use Prim.Native.Nat.{ℕ}
 use mathlib.Core.List.{List, [], _∷_}
 use mathlib.Core.Option.{Option, some, none}
@@ -7,6 +7,9 @@ use lib.ListN.{getD}
 use Rattle.wire.specs.declared.VirtioMemResp.{VirtioMemResp}
 use Rattle.record.specs.declared.HostCall.{HostCall}
 use Rattle.record.specs.declared.HostCall.the-variants.{Create, Discard}
+use Rattle.change.specs.Why.{Reasoned}
+use Rattle.step.specs.declared.Verdict.{Verdict}
+use Rattle.step.specs.declared.Reply.{Reply}
 use Rattle.step.specs.declared.Answer.{Answer}
 use Rattle.step.specs.declared.Answer.the-variants.{Refused, Wants, Sized, Unserved, Served, Done}
 
@@ -25,7 +28,7 @@ answerWords (Refused number) = 0 ∷ number ∷ 0 ∷ 0 ∷ 0 ∷ 0 ∷ 0 ∷ 0 
 answerWords (Wants call) = questionWords call
 answerWords Sized = 3 ∷ 0 ∷ 0 ∷ 0 ∷ 0 ∷ 0 ∷ 0 ∷ 0 ∷ 0 ∷ []
 answerWords (Unserved reason) = 4 ∷ 0 ∷ 0 ∷ 0 ∷ 0 ∷ 0 ∷ 0 ∷ 0 ∷ reason ∷ []
-answerWords (Served reply) = 5 ∷ 0 ∷ 0 ∷ 0 ∷ 0 ∷ reply .response .«resp_type» ∷ reply .response .state ∷ reply .used ∷ 0 ∷ []
+answerWords (Served reply) = 5 ∷ 0 ∷ 0 ∷ 0 ∷ 0 ∷ reply .response .«resp_type» ∷ reply .response .state ∷ reply .used ∷ reply .why ∷ []
 answerWords Done = 6 ∷ 0 ∷ 0 ∷ 0 ∷ 0 ∷ 0 ∷ 0 ∷ 0 ∷ 0 ∷ []
 
 -- R1.0: the number of an answer: 0 unless it is refused
@@ -57,6 +60,19 @@ response (Unserved reason) = none
 response (Served reply) = some (reply .response)
 response Done = none
 
--- a request that has ended, by its response and used length
-abbrev pub servedWith : VirtioMemResp → (used : ℕ) → Answer
-servedWith resp used = Served (record { response = resp; used = used })
+-- a request that has ended, by what it came to and its used length
+abbrev pub servedWith : Verdict → (used : ℕ) → Answer
+servedWith v used = Served (record { response = v .response; used = used; why = v .why })
+
+-- what is said of a reply, and nothing of any other answer
+unfoldable pub OfReply : (Reply → Type 0) → Answer → Type 0
+OfReply K (Refused number) = Prim.Unit {0}
+OfReply K (Wants call) = Prim.Unit {0}
+OfReply K Sized = Prim.Unit {0}
+OfReply K (Unserved reason) = Prim.Unit {0}
+OfReply K (Served reply) = K reply
+OfReply K Done = Prim.Unit {0}
+
+-- R10.18: a response has reason 0 exactly if its type is not ERROR, and 1 to 11 otherwise
+abbrev pub SaysWhy : Answer → Type 0
+SaysWhy answer = OfReply (λ reply. Reasoned (reply .response .«resp_type») (reply .why)) answer

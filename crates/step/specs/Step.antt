@@ -11,7 +11,6 @@ use Rattle.bitmap.specs.Blocks.{fill, nextSet}
 use Rattle.bitmap.specs.declared.Found.{Found}
 use Rattle.bitmap.specs.declared.Found.the-variants.{At, Nothing as NoneSet}
 use Rattle.wire.specs.declared.VirtioMemReq.{VirtioMemReq}
-use Rattle.wire.specs.declared.VirtioMemResp.{VirtioMemResp}
 use Rattle.little_endian.specs.Bytes.{put}
 use Rattle.wire.specs.Layout.{configBytes}
 use Rattle.chain.specs.declared.Parsed.{Parsed}
@@ -33,6 +32,8 @@ use Rattle.change.specs.declared.Range.the-variants.{Inside, Outside as NotInsi
 use Rattle.change.specs.declared.Change.{Change}
 use Rattle.change.specs.declared.Change.the-variants.{Legal, Outside, WrongState, NoHost}
 use Rattle.change.specs.Change.{rangeOf, changeOf, stateOf}
+use Rattle.change.specs.Why.{partWhy, hostWhy, rangeWhy, wrongState, failedDiscard}
+use Rattle.step.specs.declared.Verdict.{Verdict}
 use Rattle.step.specs.declared.Answer.the-variants.{Refused, Wants, Sized, Unserved, Done}
 use Rattle.step.specs.Answers.{servedWith}
 use Rattle.step.specs.World.{World, Guest, Call, Place, SetRequestedSize, Request, HostAnswer, ReadConfig, WriteConfig, Outcome}
@@ -85,26 +86,27 @@ refused n w bytes = record { world = w; answer = Refused n; bytes = bytes }
 abbrev pub unserved : ℕ → World → Guest → Outcome
 unserved reason w g = record { world = w; answer = Unserved reason; bytes = g .mem }
 
+-- what a request comes to: the response, and why it is an ERROR (R10.17)
+abbrev pub verdict : (type state why : ℕ) → Verdict
+verdict type state why = record { response = record { «resp_type» = type; state = state }; why = why }
+
 -- R7.4: ACK 0, NACK 1, ERROR 3; R10.2: with state 0
-abbrev pub respond : (type state : ℕ) → VirtioMemResp
-respond type state = record { «resp_type» = type; state = state }
+abbrev pub ack : Verdict
+ack = verdict 0 0 0
 
-abbrev pub ack : VirtioMemResp
-ack = respond 0 0
+abbrev pub nack : Verdict
+nack = verdict 1 0 0
 
-abbrev pub nack : VirtioMemResp
-nack = respond 1 0
+abbrev pub error : (why : ℕ) → Verdict
+error why = verdict 3 0 why
 
-abbrev pub error : VirtioMemResp
-error = respond 3 0
-
--- R9.10
-abbrev pub served : VirtioMemResp → (status : ℕ) → World → Guest → Outcome
-served resp status w g =
+-- R9.10; the guest reads the response alone
+abbrev pub served : Verdict → (status : ℕ) → World → Guest → Outcome
+served v status w g =
     record {
       world = w;
-      answer = servedWith resp (cond (reaches (g .mem) (g .base) status) 10 0);
-      bytes = delivered (g .mem) (g .base) status resp;
+      answer = servedWith v (cond (reaches (g .mem) (g .base) status) 10 0);
+      bytes = delivered (g .mem) (g .base) status (v .response);
     }
 
 -- R10.8
@@ -139,8 +141,8 @@ unplugs w first count status g =
     g
 
 -- R10.10, R10.13: ERROR, and nothing has changed but that nothing is pending
-abbrev pub stops : World → (status : ℕ) → Guest → Outcome
-stops w status g = served error status (deviceOf (pendingTo Nothing (w .device)) w) g
+abbrev pub stops : (why : ℕ) → World → (status : ℕ) → Guest → Outcome
+stops why w status g = served (error why) status (deviceOf (pendingTo Nothing (w .device)) w) g
 
 -- R10.11: an unplug-all asks for one block
 abbrev pub asksOne : World → (block offset host status : ℕ) → Guest → Outcome
@@ -267,9 +269,9 @@ changing w addr count wanted =
 
 unfoldable pub plugAs : Change → World → (count status : ℕ) → Guest → Outcome
 plugAs (Legal first offset host) w count status g = plugs w first count status g
-plugAs (Outside part) w count status g = served error status w g
-plugAs WrongState w count status g = served error status w g
-plugAs (NoHost part) w count status g = served error status w g
+plugAs (Outside part) w count status g = served (error (partWhy part)) status w g
+plugAs WrongState w count status g = served (error wrongState) status w g
+plugAs (NoHost host) w count status g = served (error (hostWhy host)) status w g
 
 -- R10.2; R10.3: test (a), then (b) to (d)
 unfoldable pub plug : World → (addr count status : ℕ) → Guest → Outcome
@@ -282,9 +284,9 @@ unfoldable pub unplugAs : Change → World → (count status : ℕ) → Guest �
 unplugAs (Legal first offset host) w count status g =
     cond (ltb (plugged w) (bytesOf (blockSize w) count)) (refused 12 w (g .mem))
     (asksDiscard w first count (offset .0) (host .0) status g)
-unplugAs (Outside part) w count status g = served error status w g
-unplugAs WrongState w count status g = served error status w g
-unplugAs (NoHost part) w count status g = served error status w g
+unplugAs (Outside part) w count status g = served (error (partWhy part)) status w g
+unplugAs WrongState w count status g = served (error wrongState) status w g
+unplugAs (NoHost host) w count status g = served (error (hostWhy host)) status w g
 
 abbrev pub unplug : World → (addr count status : ℕ) → Guest → Outcome
 unplug w addr count status g = unplugAs (changing w addr count false) w count status g
@@ -292,9 +294,9 @@ unplug w addr count status g = unplugAs (changing w addr count false) w count st
 -- R10.11, R10.13: each as an unplug of one block
 unfoldable pub oneAs : Change → World → (block status : ℕ) → Guest → Outcome
 oneAs (Legal first offset host) w block status g = asksOne w block (offset .0) (host .0) status g
-oneAs (Outside part) w block status g = stops w status g
-oneAs WrongState w block status g = stops w status g
-oneAs (NoHost part) w block status g = stops w status g
+oneAs (Outside part) w block status g = stops (partWhy part) w status g
+oneAs WrongState w block status g = stops wrongState w status g
+oneAs (NoHost host) w block status g = stops (hostWhy host) w status g
 
 abbrev pub unplugOne : World → (block status : ℕ) → Guest → Outcome
 unplugOne w block status g = oneAs (changing w (start w + bytesOf (blockSize w) block) 1 false) w block status g
@@ -313,10 +315,10 @@ stateType (Inside offset) = 0
 stateType (NotInside part) = 3
 
 -- R10.15, R10.16: the state is worked out in either case
-abbrev pub stateResp : World → (addr count : ℕ) → VirtioMemResp
-stateResp w addr count =
-    respond (stateType (rangeOf (blockSize w) (start w) (usable w) addr count))
-    (stateOf (blockSize w) (start w) (region w) addr count (w .blocks))
+abbrev pub stateVerdict : World → (addr count : ℕ) → Verdict
+stateVerdict w addr count =
+    let range = rangeOf (blockSize w) (start w) (usable w) addr count in
+    verdict (stateType range) (stateOf (blockSize w) (start w) (region w) addr count (w .blocks)) (rangeWhy range)
 
 -- R7.4; R9.8: type 4 or more
 unfoldable pub serve : World → VirtioMemReq → (status : ℕ) → Guest → Outcome
@@ -324,7 +326,7 @@ serve w req status g =
     cond (eqb (req .«req_type») 0) (plug w (req .addr .0) (req .«nb_blocks») status g)
     (cond (eqb (req .«req_type») 1) (unplug w (req .addr .0) (req .«nb_blocks») status g)
     (cond (eqb (req .«req_type») 2) (unplugAll w 0 status g)
-    (cond (eqb (req .«req_type») 3) (served (stateResp w (req .addr .0) (req .«nb_blocks»)) status w g)
+    (cond (eqb (req .«req_type») 3) (served (stateVerdict w (req .addr .0) (req .«nb_blocks»)) status w g)
     (unserved 0 w g))))
 
 -- R9.9: the request and the status address, read once
@@ -368,9 +370,9 @@ hostAnswer (Create i last) w g ok host =
     (cond (ltb top (host + coveredBy w i last)) (refused 9 w (g .mem)) (creates w i last host (g .mem)))
     (createFails w (g .mem))
 hostAnswer (Discard first count status) w g ok host =
-    cond ok (unplugs w first count (status .0) g) (stops w (status .0) g)
+    cond ok (unplugs w first count (status .0) g) (stops failedDiscard w (status .0) g)
 hostAnswer (DiscardOne block status) w g ok host =
-    cond ok (unplugAll (cleared w block) (block + 1) (status .0) g) (stops w (status .0) g)
+    cond ok (unplugAll (cleared w block) (block + 1) (status .0) g) (stops failedDiscard w (status .0) g)
 
 -- ---- the config
 -- R7.6, R7.7; R2.6: 12 only

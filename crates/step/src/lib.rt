@@ -22,10 +22,17 @@ ghost use mathlib.Core.List.{[]};
 ghost use Rattle.step.specs.Step.{tablesFit, readyRefusal, unplacedRefusal, pendingRefusal, sizedOf, served};
 ghost use Rattle.step.specs.Promise.{lent, Does};
 
-// The end of a request: its response, also where it could not be delivered, and the used length.
+// What a request comes to: its response and, where that is ERROR, the reason (R10.17), else 0.
+pub struct Verdict {
+    pub response: VirtioMemResp,
+    pub why: u64,
+}
+
+// The end of a request: its response, also where it could not be delivered, the used length, and why it is an ERROR.
 pub struct Reply {
     pub response: VirtioMemResp,
     pub used: u32,
+    pub why: u64,
 }
 
 // The answer of a call.
@@ -160,15 +167,17 @@ pub fn respond(
     mem: &mut [u8],
     base: GuestAddr,
     status: GuestAddr,
-    resp: VirtioMemResp,
+    verdict: Verdict,
 ) -> Answered
     ensures { λ r. ⌜
-        Does (served resp (status .0)) d base (lent [] [] (now (mem .entry))) (lent [] [] (now (mem .exit))) r
+        Does (served verdict (status .0)) d base (lent [] [] (now (mem .entry))) (lent [] [] (now (mem .exit))) r
         ⌝ }
 {
+    let response = verdict.response;
     let reply = Reply {
-        response: resp,
-        used: used_length(deliver(mem, base, status, resp)),
+        response: response,
+        used: used_length(deliver(mem, base, status, response)),
+        why: verdict.why,
     };
     Answered {
         device: d,
