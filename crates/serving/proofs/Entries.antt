@@ -19,6 +19,7 @@ use Rattle.chain.specs.declared.Parsed.{Parsed}
 use Rattle.chain.specs.declared.Parsed.the-variants.{Request as Got, Bad}
 use Rattle.chain.proofs.Parsed.{the-type as parsed-type}
 use Rattle.chain.specs.Chain.{parsed, reasonOf}
+use Rattle.change.specs.Why.{failedDiscard}
 use Rattle.record.specs.declared.Device.{Device}
 use Rattle.record.specs.declared.Pending.{Pending}
 use Rattle.record.specs.declared.Pending.the-variants.{Nothing, Discard, DiscardOne}
@@ -97,18 +98,18 @@ pub less-shaped : (d d′ d″ : Device) (n : ℕ) → shapedOf d ≡ true → n
 less-shaped d d′ d″ n shape less same same′ = rw (same′, same, less) (block-less-keeps d shape)
 
 module _ (d : Device) (bitmap table : List ℕ) (shape : shapedOf d ≡ true) (g : Guest) (s : Answered) {bytes : List ℕ} (ok : Bool) (status : GuestAddr) where
-  pub unplug-fails : (first count : ℕ) → not ok ≡ true → (d′ : Device) → d′ ≡ pendingTo Nothing d → Responded g (status .0) error d′ s bytes → Gives (hostAnswer (Discard first count status) (worldOf d bitmap table) g ok 0) (lent bitmap table (g .mem)) (lent bitmap table bytes) s
+  pub unplug-fails : (first count : ℕ) → not ok ≡ true → Responded g (status .0) (error failedDiscard) (pendingTo Nothing d) s bytes → Gives (hostAnswer (Discard first count status) (worldOf d bitmap table) g ok 0) (lent bitmap table (g .mem)) (lent bitmap table bytes) s
   unfolding hostAnswer
-  unplug-fails first count t d′ same p = rw (not-true ok t) (serves g (status .0) _ bitmap (rw same at p) refl refl)
+  unplug-fails first count t p = rw (not-true ok t) (serves g (status .0) _ bitmap p refl refl)
 
   pub unplug-done : (first count : ℕ) → not ok ≡ false → (bitmap′ : List ℕ) → Filled bitmap bitmap′ first count false → (d′ d″ : Device) → d′ ≡ pluggedTo (d .config .«plugged_size» - bytesOf (d .config .«block_size») count) d → d″ ≡ pendingTo Nothing d′ → Responded g (status .0) ack d″ s bytes → Gives (hostAnswer (Discard first count status) (worldOf d bitmap table) g ok 0) (lent bitmap table (g .mem)) (lent bitmap′ table bytes) s
   unfolding hostAnswer
   unplug-done first count t bitmap′ filled d′ d″ same same′ p =
       rw (not-false ok t) (serves g (status .0) _ bitmap′ (rw (same′, same) at p) (filled .as-blocks) refl)
 
-  pub one-fails : (block : ℕ) → not ok ≡ true → (d′ : Device) → d′ ≡ pendingTo Nothing d → Responded g (status .0) error d′ s bytes → Gives (hostAnswer (DiscardOne block status) (worldOf d bitmap table) g ok 0) (lent bitmap table (g .mem)) (lent bitmap table bytes) s
+  pub one-fails : (block : ℕ) → not ok ≡ true → Responded g (status .0) (error failedDiscard) (pendingTo Nothing d) s bytes → Gives (hostAnswer (DiscardOne block status) (worldOf d bitmap table) g ok 0) (lent bitmap table (g .mem)) (lent bitmap table bytes) s
   unfolding hostAnswer
-  one-fails block t d′ same p = rw (not-true ok t) (serves g (status .0) _ bitmap (rw same at p) refl refl)
+  one-fails block t p = rw (not-true ok t) (serves g (status .0) _ bitmap p refl refl)
 
   pub one-done : (block : ℕ) → not ok ≡ false → (bitmap′ : List ℕ) → Filled bitmap bitmap′ block 1 false → (n : ℕ) → n ≡ d .config .«plugged_size» - d .config .«block_size» → (d′ d″ : Device) → d′ ≡ pluggedTo n d → d″ ≡ pendingTo Nothing d′ → Gives (unplugAll (worldOf d″ bitmap′ table) (block + 1) (status .0) g) (lent bitmap′ table (g .mem)) (lent bitmap′ table bytes) s → Gives (hostAnswer (DiscardOne block status) (worldOf d bitmap table) g ok 0) (lent bitmap table (g .mem)) (lent bitmap′ table bytes) s
   unfolding hostAnswer

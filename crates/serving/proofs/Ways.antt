@@ -28,8 +28,8 @@ use Rattle.change.proofs.Change.{the-type as change-type}
 use Rattle.change.proofs.HostRange.{the-type as host-type}
 use Rattle.change.proofs.Laws.{one-plugged}
 use Rattle.change.specs.Change.{hostOf, legalAt, changeOf}
+use Rattle.change.specs.Why.{partWhy, hostWhy, changeWhy}
 use Rattle.wire.specs.declared.VirtioMemReq.{VirtioMemReq}
-use Rattle.wire.specs.declared.VirtioMemResp.{VirtioMemResp}
 use Rattle.record.specs.declared.Device.{Device}
 use Rattle.record.specs.declared.HostCall.the-variants.{Discard as DiscardCall}
 use Rattle.record.specs.declared.Pending.{Pending}
@@ -37,11 +37,12 @@ use Rattle.record.specs.declared.Pending.the-variants.{Nothing, Discard, Discar
 use Rattle.record.specs.Shape.{shapedOf}
 use Rattle.record.specs.Changes.{pluggedTo, pendingTo}
 use Rattle.record.proofs.Laws.{shaped-is}
+use Rattle.step.specs.declared.Verdict.{Verdict}
 use Rattle.step.specs.declared.Answered.{Answered}
 use Rattle.step.specs.declared.Answer.the-variants.{Refused, Wants}
 use Rattle.step.specs.World.{World, Guest, worldOf}
 use Rattle.step.specs.Promise.{lent, Gives}
-use Rattle.step.specs.Step.{served, unserved, serve, stateResp, ack, nack, error, plug, plugAs, unplug, unplugAs, unplugOne, oneAs, nextAs, unplugAll, stops, changing}
+use Rattle.step.specs.Step.{served, unserved, serve, stateVerdict, ack, nack, error, plug, plugAs, unplug, unplugAs, unplugOne, oneAs, nextAs, unplugAll, stops, changing}
 use Rattle.step.proofs.Giving.{Responded, serves, answers}
 
 -- the host is asked for a discard, and the record waits for its answer
@@ -53,8 +54,8 @@ asked d pending offset size host =
 abbrev pub others : List ℕ
 others = 1 ∷ 2 ∷ 3 ∷ []
 
-plug-error : (ch : Change) → OneOf others (tagOf change-type ch) → (w : World) (count status : ℕ) (g : Guest) → plugAs ch w count status g ≡ served error status w g
-unfolding plugAs
+plug-error : (ch : Change) → OneOf others (tagOf change-type ch) → (w : World) (count status : ℕ) (g : Guest) → plugAs ch w count status g ≡ served (error (changeWhy ch)) status w g
+unfolding plugAs changeWhy
 plug-error (Legal first offset host) k w count status g = absurd (miss others 0 tt k)
 plug-error (Outside part) k w count status g = refl
 plug-error WrongState k w count status g = refl
@@ -78,23 +79,23 @@ module _ (d : Device) (bitmap table : List ℕ) (shape : shapedOf d ≡ true) (a
         let e : ltb (d .config .«requested_size») (d .config .«plugged_size» + bytesOf (d .config .«block_size») count) ≡ false = rw (← size-is) (le-ltb (d .config .«requested_size») (d .config .«plugged_size» + size) h) in
         rw (e, ← ch-is)
 
-    pub plug-errs : OneOf others (tagOf change-type ch) → Responded g status error d s bytes → Gives (plug (worldOf d bitmap table) addr count status g) (lent bitmap table (g .mem)) (lent bitmap table bytes) s
-    plug-errs k p = rw (asks, plug-error ch k (worldOf d bitmap table) count status g) (serves g status (worldOf d bitmap table) bitmap p refl refl)
+    pub plug-errs : OneOf others (tagOf change-type ch) → (why : ℕ) → why ≡ changeWhy ch → Responded g status (error why) d s bytes → Gives (plug (worldOf d bitmap table) addr count status g) (lent bitmap table (g .mem)) (lent bitmap table bytes) s
+    plug-errs k why why-is p = rw (asks, plug-error ch k (worldOf d bitmap table) count status g) (serves g status (worldOf d bitmap table) bitmap (rw why-is at p) refl refl)
 
     pub plug-acks : (first : ℕ) (offset : RegionOffset) (host : HostAddr) → ch ≡ Legal first offset host → (bitmap′ : List ℕ) → Filled bitmap bitmap′ first count true → (d′ : Device) → d′ ≡ pluggedTo (d .config .«plugged_size» + size) d → Responded g status ack d′ s bytes → Gives (plug (worldOf d bitmap table) addr count status g) (lent bitmap table (g .mem)) (lent bitmap′ table bytes) s
     unfolding plugAs
     plug-acks first offset host legal bitmap′ filled d′ same p =
         rw (asks, legal) (serves g status _ bitmap′ (rw (same, size-is) at p) (filled .as-blocks) refl)
 
-unplug-error : (ch : Change) → OneOf others (tagOf change-type ch) → (w : World) (count status : ℕ) (g : Guest) → unplugAs ch w count status g ≡ served error status w g
-unfolding unplugAs
+unplug-error : (ch : Change) → OneOf others (tagOf change-type ch) → (w : World) (count status : ℕ) (g : Guest) → unplugAs ch w count status g ≡ served (error (changeWhy ch)) status w g
+unfolding unplugAs changeWhy
 unplug-error (Legal first offset host) k w count status g = absurd (miss others 0 tt k)
 unplug-error (Outside part) k w count status g = refl
 unplug-error WrongState k w count status g = refl
 unplug-error (NoHost part) k w count status g = refl
 
-one-error : (found : HostRange) → OneOf others (tagOf host-type found) → (w : World) (b offset block status : ℕ) (g : Guest) → oneAs (legalAt b offset found) w block status g ≡ stops w status g
-unfolding oneAs legalAt
+one-error : (found : HostRange) → OneOf others (tagOf host-type found) → (w : World) (b offset block status : ℕ) (g : Guest) → oneAs (legalAt b offset found) w block status g ≡ stops (hostWhy found) w status g
+unfolding oneAs legalAt hostWhy
 one-error (HostAt host) k w b offset block status g = absurd (miss others 0 tt k)
 one-error CrossesBorder k w b offset block status g = refl
 one-error Unmapped k w b offset block status g = refl
@@ -105,8 +106,8 @@ module _ (d : Device) (bitmap table : List ℕ) (shape : shapedOf d ≡ true) (s
     same-change : changing (worldOf d bitmap table) addr count false ≡ ch
     same-change = sym ch-is
 
-    pub unplug-errs : {bytes : List ℕ} → OneOf others (tagOf change-type ch) → Responded g status error d s bytes → Gives (unplug (worldOf d bitmap table) addr count status g) (lent bitmap table (g .mem)) (lent bitmap table bytes) s
-    unplug-errs k p = rw (same-change, unplug-error ch k (worldOf d bitmap table) count status g) (serves g status (worldOf d bitmap table) bitmap p refl refl)
+    pub unplug-errs : {bytes : List ℕ} → OneOf others (tagOf change-type ch) → (why : ℕ) → why ≡ changeWhy ch → Responded g status (error why) d s bytes → Gives (unplug (worldOf d bitmap table) addr count status g) (lent bitmap table (g .mem)) (lent bitmap table bytes) s
+    unplug-errs k why why-is p = rw (same-change, unplug-error ch k (worldOf d bitmap table) count status g) (serves g status (worldOf d bitmap table) bitmap (rw why-is at p) refl refl)
 
     module _ (first : ℕ) (offset : RegionOffset) (host : HostAddr) (legal : ch ≡ Legal first offset host) (size : ℕ) (size-is : size ≡ bytesOf (d .config .«block_size») count) where
       -- larger than the plugged size
@@ -135,18 +136,18 @@ module _ (d : Device) (bitmap table : List ℕ) (shape : shapedOf d ≡ true) (s
         one-plugged (d .config .«block_size») (d .config .addr .0) (d .config .«usable_region_size») (d .several) block (blocks bitmap) (rowsOf table)
         (omega arith) (rw e (h .start-blocks)) (rw e (h .usable-blocks)) (rw e end) (omega (arith, h .start-region, h .usable-in)) set
 
-    pub one-past : {bytes : List ℕ} → d .config .«usable_region_size» ≤ bytesOf (d .config .«block_size») block → (d′ : Device) → d′ ≡ pendingTo Nothing d → Responded g status error d′ s bytes → Gives (unplugOne (worldOf d bitmap table) block status g) (lent bitmap table (g .mem)) (lent bitmap table bytes) s
-    unfolding oneAs
-    one-past k d′ same p =
-        rw (one-change, le-leb (d .config .«usable_region_size») (bytesOf (d .config .«block_size») block) k) (serves g status _ bitmap (rw same at p) refl refl)
+    pub one-past : {bytes : List ℕ} → d .config .«usable_region_size» ≤ bytesOf (d .config .«block_size») block → Responded g status (error 5) (pendingTo Nothing d) s bytes → Gives (unplugOne (worldOf d bitmap table) block status g) (lent bitmap table (g .mem)) (lent bitmap table bytes) s
+    unfolding oneAs partWhy
+    one-past k p =
+        rw (one-change, le-leb (d .config .«usable_region_size») (bytesOf (d .config .«block_size») block) k) (serves g status _ bitmap p refl refl)
 
     module _ (usable : bytesOf (d .config .«block_size») block < d .config .«usable_region_size») (found : HostRange) (found-is : found ≡ hostOf (d .several) (rowsOf table) (bytesOf (d .config .«block_size») block) (d .config .«block_size»)) where
       by-host : changing (worldOf d bitmap table) (d .config .addr .0 + bytesOf (d .config .«block_size») block) 1 false ≡ legalAt (d .config .«block_size») (bytesOf (d .config .«block_size») block) found
       by-host = rw (one-change, lt-leb (d .config .«usable_region_size») (bytesOf (d .config .«block_size») block) usable, ← found-is)
 
-      pub one-errs : {bytes : List ℕ} → OneOf others (tagOf host-type found) → (d′ : Device) → d′ ≡ pendingTo Nothing d → Responded g status error d′ s bytes → Gives (unplugOne (worldOf d bitmap table) block status g) (lent bitmap table (g .mem)) (lent bitmap table bytes) s
-      one-errs k d′ same p =
-          rw (by-host, one-error found k (worldOf d bitmap table) (d .config .«block_size») (bytesOf (d .config .«block_size») block) block status g) (serves g status _ bitmap (rw same at p) refl refl)
+      pub one-errs : {bytes : List ℕ} → OneOf others (tagOf host-type found) → (why : ℕ) → why ≡ hostWhy found → Responded g status (error why) (pendingTo Nothing d) s bytes → Gives (unplugOne (worldOf d bitmap table) block status g) (lent bitmap table (g .mem)) (lent bitmap table bytes) s
+      one-errs k why why-is p =
+          rw (by-host, one-error found k (worldOf d bitmap table) (d .config .«block_size») (bytesOf (d .config .«block_size») block) block status g) (serves g status _ bitmap (rw why-is at p) refl refl)
 
       pub one-asks : (host : HostAddr) → found ≡ HostAt host → s ≡ asked d (DiscardOne block (record { 0 = status })) (record { 0 = bytesOf (d .config .«block_size») block }) (d .config .«block_size») host → Gives (unplugOne (worldOf d bitmap table) block status g) (lent bitmap table (g .mem)) (lent bitmap table (g .mem)) s
       unfolding oneAs legalAt
@@ -195,7 +196,7 @@ module _ (w : World) (req : VirtioMemReq) (status : ℕ) (g : Guest) where
   unfolding serve
   serve-unplug-all e = rw e
 
-  pub serve-state : req .«req_type» ≡ 3 → serve w req status g ≡ served (stateResp w (req .addr .0) (req .«nb_blocks»)) status w g
+  pub serve-state : req .«req_type» ≡ 3 → serve w req status g ≡ served (stateVerdict w (req .addr .0) (req .«nb_blocks»)) status w g
   unfolding serve
   serve-state e = rw e
 
@@ -204,6 +205,6 @@ module _ (w : World) (req : VirtioMemReq) (status : ℕ) (g : Guest) where
   serve-unknown e0 e1 e2 e3 =
       rw (ne-eqb (req .«req_type») 0 e0, ne-eqb (req .«req_type») 1 e1, ne-eqb (req .«req_type») 2 e2, ne-eqb (req .«req_type») 3 e3)
 
-pub states : {bytes : List ℕ} (d : Device) (bitmap table : List ℕ) (req : VirtioMemReq) (status : ℕ) (g : Guest) (s : Answered) → req .«req_type» ≡ 3 → (resp : VirtioMemResp) → resp ≡ stateResp (worldOf d bitmap []) (req .addr .0) (req .«nb_blocks») → Responded g status resp d s bytes → Gives (serve (worldOf d bitmap table) req status g) (lent bitmap table (g .mem)) (lent bitmap table bytes) s
-states d bitmap table req status g s t resp e p =
+pub states : {bytes : List ℕ} (d : Device) (bitmap table : List ℕ) (req : VirtioMemReq) (status : ℕ) (g : Guest) (s : Answered) → req .«req_type» ≡ 3 → (v : Verdict) → v ≡ stateVerdict (worldOf d bitmap []) (req .addr .0) (req .«nb_blocks») → Responded g status v d s bytes → Gives (serve (worldOf d bitmap table) req status g) (lent bitmap table (g .mem)) (lent bitmap table bytes) s
+states d bitmap table req status g s t v e p =
     rw (serve-state (worldOf d bitmap table) req status g t) (serves g status (worldOf d bitmap table) bitmap (rw e at p) refl refl)

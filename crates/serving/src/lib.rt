@@ -18,6 +18,7 @@ use record::Pending;
 use rows::fill;
 use step::Answer;
 use step::Answered;
+use step::Verdict;
 use step::pending_refusal;
 use step::ready_refusal;
 use step::refuse;
@@ -43,7 +44,7 @@ ghost use Rattle.record.specs.Changes.{pendingTo, pluggedTo};
 ghost use Rattle.step.specs.declared.Answer.the-variants.{Wants};
 ghost use Rattle.step.specs.World.{noGuest, worldOf};
 ghost use Rattle.step.specs.Step.{served, plug as plugOf, unplug as unplugOf, unplugOne, unplugAll, serve as serveOf};
-ghost use Rattle.step.specs.Step.{stateType, stateResp, creates, coveredBy, hostAnswer, respond as respondOf};
+ghost use Rattle.step.specs.Step.{stops, stateType, stateVerdict, creates, coveredBy, hostAnswer, verdict as verdictOf};
 ghost use Rattle.step.specs.Promise.{lent, Gives, Steps, Does, requestOn, answerOn};
 ghost use Rattle.units.specs.Numbers.{blocksIn};
 ghost use Rattle.bitmap.specs.Blocks.{blocks, blockAt};
@@ -54,6 +55,11 @@ const ACK: u16 = 0;
 const NACK: u16 = 1;
 
 const ERROR: u16 = 3;
+
+// Why a response is an ERROR (R10.17) where no test of the range tells.
+const PAST_USABLE: u64 = 5;
+
+const FAILED_DISCARD: u64 = 11;
 
 // The record with another plugged size.
 fn plugged_to(d: Device, plugged: u64) -> Device
@@ -80,22 +86,46 @@ fn pending_to(d: Device, pending: Pending) -> Device
 }
 
 // Ends a request with a response whose state is 0.
-fn ended(d: Device, mem: &mut [u8], base: GuestAddr, status: GuestAddr, resp_type: u16) -> Answered
+fn ended(
+    d: Device,
+    mem: &mut [u8],
+    base: GuestAddr,
+    status: GuestAddr,
+    resp_type: u16,
+    why: u64,
+) -> Answered
     ensures { λ r. ⌜
-        Does (served (respondOf «resp_type» 0) (status .0)) d base
+        Does (served (verdictOf «resp_type» 0 why) (status .0)) d base
         (lent [] [] (now (mem .entry)))
         (lent [] [] (now (mem .exit))) r
         ⌝ }
 {
-    respond(
-        d,
+    let response = VirtioMemResp {
+        resp_type: resp_type,
+        state: 0,
+    };
+    let verdict = Verdict {
+        response: response,
+        why: why,
+    };
+    respond(d, mem, base, status, verdict)
+}
+
+// Ends an unplug or an unplug-all with ERROR: nothing has changed but that nothing is pending.
+fn stopped(d: Device, mem: &mut [u8], base: GuestAddr, status: GuestAddr, why: u64) -> Answered
+    ensures { λ r. ⌜
+        Does (λ w. stops why w (status .0)) d base
+        (lent [] [] (now (mem .entry)))
+        (lent [] [] (now (mem .exit))) r
+        ⌝ }
+{
+    ended(
+        pending_to(d, Pending::Nothing),
         mem,
         base,
         status,
-        VirtioMemResp {
-            resp_type: resp_type,
-            state: 0,
-        },
+        ERROR,
+        why,
     )
 }
 
@@ -121,11 +151,11 @@ fn plug(
     let block_size = d.config.block_size as u32;
     let size = MemTool::bytes_of(nb_blocks, block_size);
     if !sum_within(plugged, size, d.config.requested_size) {
-        return ended(d, mem, base, status, NACK);
+        return ended(d, mem, base, status, NACK, 0);
     }
     let start = d.config.addr;
     let usable = d.config.usable_region_size;
-    let Change::Legal(first, _, _) = change_of(
+    let change = change_of(
         start,
         usable,
         block_size,
@@ -135,11 +165,12 @@ fn plug(
         true,
         &bitmap[..],
         table,
-    ) else {
-        return ended(d, mem, base, status, ERROR);
+    );
+    let Change::Legal(first, _, _) = change else {
+        return ended(d, mem, base, status, ERROR, change.why());
     };
     set_range(bitmap, first as usize, nb_blocks as usize, true);
-    ended(plugged_to(d, plugged + size), mem, base, status, ACK)
+    ended(plugged_to(d, plugged + size), mem, base, status, ACK, 0)
 }
 
 // Asks the host for a discard: the answer ends what is pending then.
@@ -179,7 +210,7 @@ fn unplug(
     let start = d.config.addr;
     let usable = d.config.usable_region_size;
     let block_size = d.config.block_size as u32;
-    let Change::Legal(first, offset, host) = change_of(
+    let change = change_of(
         start,
         usable,
         block_size,
@@ -189,8 +220,9 @@ fn unplug(
         false,
         bitmap,
         table,
-    ) else {
-        return ended(d, mem, base, status, ERROR);
+    );
+    let Change::Legal(first, offset, host) = change else {
+        return ended(d, mem, base, status, ERROR, change.why());
     };
     let size = MemTool::bytes_of(nb_blocks, block_size);
     if d.config.plugged_size < size {
@@ -228,10 +260,11 @@ fn unplug_one(
     let block_size = d.config.block_size;
     let offset = RegionOffset(block * block_size);
     if d.config.usable_region_size <= offset.0 {
-        return ended(pending_to(d, Pending::Nothing), mem, base, status, ERROR);
+        return stopped(d, mem, base, status, PAST_USABLE);
     }
-    let HostRange::At(host) = host_of(d.several, table, offset, block_size) else {
-        return ended(pending_to(d, Pending::Nothing), mem, base, status, ERROR);
+    let found = host_of(d.several, table, offset, block_size);
+    let HostRange::At(host) = found else {
+        return stopped(d, mem, base, status, found.why());
     };
     let pending = Pending::DiscardOne {
         block: block,
@@ -260,7 +293,7 @@ fn unplug_all(
     let end = MemTool::blocks_in(d.config.region_size, d.config.block_size);
     let Found::At(block) = next_set(bitmap, from as usize, end as usize) else {
         let none = pending_to(plugged_to(d, 0), Pending::Nothing);
-        return ended(none, mem, base, status, ACK);
+        return ended(none, mem, base, status, ACK, 0);
     };
     unplug_one(d, bitmap, table, mem, base, block as u64, status)
 }
@@ -275,20 +308,23 @@ fn state_type(range: Range) -> u16
     ACK
 }
 
-// The response to a state request.
-fn state(d: Device, bitmap: &[u8], addr: GuestAddr, nb_blocks: u16) -> VirtioMemResp
+// What a state request comes to.
+fn state(d: Device, bitmap: &[u8], addr: GuestAddr, nb_blocks: u16) -> Verdict
     requires { ⌜ shapedOf d ≡ true ⌝ }
-    ensures { λ r. ⌜ r ≡ stateResp (worldOf d (now (bitmap .entry)) []) (addr .0) «nb_blocks» ⌝ }
+    ensures { λ r. ⌜ r ≡ stateVerdict (worldOf d (now (bitmap .entry)) []) (addr .0) «nb_blocks» ⌝ }
 {
     let start = d.config.addr;
     let usable = d.config.usable_region_size;
     let region = d.config.region_size;
     let block_size = d.config.block_size as u32;
-    let resp_type = state_type(range_of(start, usable, block_size, addr, nb_blocks));
-    let state = state_of(start, region, block_size, addr, nb_blocks, bitmap);
-    VirtioMemResp {
-        resp_type: resp_type,
-        state: state,
+    let range = range_of(start, usable, block_size, addr, nb_blocks);
+    let response = VirtioMemResp {
+        resp_type: state_type(range),
+        state: state_of(start, region, block_size, addr, nb_blocks, bitmap),
+    };
+    Verdict {
+        response: response,
+        why: range.why(),
     }
 }
 
@@ -374,12 +410,12 @@ fn unplug_answered(
         ⌝ }
 {
     if !ok {
-        return ended(pending_to(d, Pending::Nothing), mem, base, status, ERROR);
+        return stopped(d, mem, base, status, FAILED_DISCARD);
     }
     let left = d.config.plugged_size - count * d.config.block_size;
     set_range(bitmap, first as usize, count as usize, false);
     let unplugged = pending_to(plugged_to(d, left), Pending::Nothing);
-    ended(unplugged, mem, base, status, ACK)
+    ended(unplugged, mem, base, status, ACK, 0)
 }
 
 // The host's answer to the discard of one block of an unplug-all: the block is cleared and its size taken off at once,
@@ -402,7 +438,7 @@ fn one_answered(
         ⌝ }
 {
     if !ok {
-        return ended(pending_to(d, Pending::Nothing), mem, base, status, ERROR);
+        return stopped(d, mem, base, status, FAILED_DISCARD);
     }
     let left = saturating_sub(d.config.plugged_size, d.config.block_size);
     set_range(bitmap, block as usize, 1, false);

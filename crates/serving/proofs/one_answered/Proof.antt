@@ -7,20 +7,14 @@ use borrow.Author.Needs.{needs}
 use Rattle.serving.proofs.one_answered.Statement.{statement}
 use Rattle.serving.proofs.one_answered.Tie as tie
 
-pending-to-requires : tie.Need-pending-to-requires
-pending-to-requires c κs = search needs
-
-ended-requires : tie.Need-ended-requires
-ended-requires c κs = search needs
+stopped-requires : tie.Need-stopped-requires
+stopped-requires c κs = search needs
 
 same-length : tie.Need-same-length
 same-length c = search needs
 
 returns : tie.Need-returns
-returns c =
-    let idle = c .before .before .before .before in
-    let failed = idle .before in
-    one-fails _ _ _ (failed .before .before .before .before .pre .0) _ _ _ _ _ (failed .if1 .taken) _ (idle .pending-to .ensures) (c .before .before .ended .ensures)
+returns c = one-fails _ _ _ (c .before .before .before .before .before .before .before .before .pre .0) _ _ _ _ _ (c .before .before .before .before .if1 .taken) (c .before .before .stopped .ensures)
 
 saturating-sub-requires : tie.Need-saturating-sub-requires
 saturating-sub-requires c κs = search needs
@@ -31,20 +25,16 @@ set-range-requires c κs = search needs
 plugged-to-requires : tie.Need-plugged-to-requires
 plugged-to-requires c κs = search needs
 
-pending-to-requires-2 : tie.Need-pending-to-requires-2
-pending-to-requires-2 c κs = search needs
+pending-to-requires : tie.Need-pending-to-requires
+pending-to-requires c κs = search needs
 
 add-unplug-all : tie.Need-add-unplug-all
-add-unplug-all c =
-    let done = c .before .before .before .before .before .before .before .before .before in
-    let pre = done .before .before .before .before .pre in
+add-unplug-all c = 
+    let pre = c .before .before .before .before .before .before .before .before .before .before .before .before .before .pre in
     omega (arith, shaped-is _ (pre .0), discard-one-is _ (pre .0) _ _ (pre .1))
 
 unplug-all-requires : tie.Need-unplug-all-requires
-unplug-all-requires c κs =
-    let cleared = c .before .before in
-    let left = cleared .before .before .before .before .before .before in
-    less-shaped _ _ _ _ (left .before .before .before .before .before .pre .0) (left .saturating-sub .ensures) (cleared .before .plugged-to .ensures) (cleared .pending-to2 .ensures)
+unplug-all-requires c κs = less-shaped _ _ _ _ (c .before .before .before .before .before .before .before .before .before .before .before .before .before .pre .0) (c .before .before .before .before .before .before .before .before .saturating-sub .ensures) (c .before .before .before .plugged-to .ensures) (c .before .before .pending-to .ensures)
 
 same-length-2 : tie.Need-same-length-2
 same-length-2 c = search needs
@@ -53,26 +43,21 @@ same-length-3 : tie.Need-same-length-3
 same-length-3 c = search needs
 
 returns-2 : tie.Need-returns-2
-returns-2 c =
-    let cleared = c .before .before .before .before .before in
-    let filled = cleared .before .before .before .before in
-    let left = filled .before .before in
-    let done = left .before in
-    one-done _ _ _ (done .before .before .before .before .pre .0) _ _ _ _ _ (done .if1 .left) _ (filled .set-range .ensures) _ (left .saturating-sub .ensures) _ _
-    (cleared .before .plugged-to .ensures) (cleared .pending-to2 .ensures) (c .before .before .unplug-all .ensures)
+returns-2 c = 
+    one-done _ _ _ (c .before .before .before .before .before .before .before .before .before .before .before .before .before .before .before .before .pre .0) _ _ _ _ _ (c .before .before .before .before .before .before .before .before .before .before .before .before .if1 .left) _ (c .before .before .before .before .before .before .before .before .before .set-range .ensures) _ (c .before .before .before .before .before .before .before .before .before .before .before .saturating-sub .ensures) _ _
+    (c .before .before .before .before .before .before .plugged-to .ensures) (c .before .before .before .before .before .pending-to .ensures) (c .before .before .unplug-all .ensures)
 
 pub one-answered-spec : {M : Type 1} → statement M
 one-answered-spec =
     tie.close
     (tie.spec
-    pending-to-requires
-    ended-requires
+    stopped-requires
     same-length
     returns
     saturating-sub-requires
     set-range-requires
     plugged-to-requires
-    pending-to-requires-2
+    pending-to-requires
     add-unplug-all
     unplug-all-requires
     same-length-2

@@ -23,15 +23,16 @@ same-length : tie.Need-same-length
 same-length c = search needs
 
 returns : tie.Need-returns
-returns c =
-    let entry = c .before .before .before .before .before .before .before .before .before .before .before in
-    plug-nacks _ _ _ (entry .pre) _ _ _ _ _ _ _ (c .before .before .before .before .before .before .bytes-of .ensures) _ (c .before .before .before .before .before .sum-within .ensures) (c .before .before .before .before .if1 .taken) (c .before .before .ended .ensures)
+returns c = plug-nacks _ _ _ (c .before .before .before .before .before .before .before .before .before .before .before .pre) _ _ _ _ _ _ _ (c .before .before .before .before .before .before .bytes-of .ensures) _ (c .before .before .before .before .before .sum-within .ensures) (c .before .before .before .before .if1 .taken) (c .before .before .ended .ensures)
 
 change-of-requires : tie.Need-change-of-requires
 change-of-requires c κs = search needs
 
-enum-known-first : tie.Need-enum-known-first
-enum-known-first c = search needs
+enum-known-change : tie.Need-enum-known-change
+enum-known-change c = search needs
+
+why-requires : tie.Need-why-requires
+why-requires c κs = search needs
 
 ended-requires-2 : tie.Need-ended-requires-2
 ended-requires-2 c κs = search needs
@@ -43,19 +44,15 @@ same-length-3 : tie.Need-same-length-3
 same-length-3 c = search needs
 
 returns-2 : tie.Need-returns-2
-returns-2 c =
-    let entry = c .before .before .before .before .before .before .before .before .before .before .before .before .before .before .before in
-    plug-errs _ _ _ (entry .pre) _ _ _ _ _ _ _ (c .before .before .before .before .before .before .before .before .before .before .bytes-of .ensures) _ (c .before .before .before .before .before .before .before .before .before .sum-within .ensures) (c .before .before .before .before .before .before .before .before .if1 .left) _ (c .before .before .before .before .before .change-of .ensures) (c .before .before .before .before .match .keys2) (c .before .before .ended2 .ensures)
+returns-2 c = plug-errs _ _ _ (c .before .before .before .before .before .before .before .before .before .before .before .before .before .before .before .before .pre) _ _ _ _ _ _ _ (c .before .before .before .before .before .before .before .before .before .before .before .bytes-of .ensures) _ (c .before .before .before .before .before .before .before .before .before .before .sum-within .ensures) (c .before .before .before .before .before .before .before .before .before .if1 .left) _ (c .before .before .before .before .before .before .change-of .ensures) (c .before .before .before .before .before .match .keys2) _ (c .before .before .before .why .ensures) (c .before .before .ended2 .ensures)
 
 set-range-requires : tie.Need-set-range-requires
 set-range-requires c κs = search needs
 
 add-plugged-to : tie.Need-add-plugged-to
-add-plugged-to c =
-    let size = c .before .before .before .before .before .before .before .before .before .before .before .before in
-    let entry = size .before .before .before .before .before in
-    let shape = shaped-is _ (entry .pre) in
-    omega (arith, shape, rw (shape .block-size) at (size .bytes-of .ensures))
+add-plugged-to c = 
+    let shape = shaped-is _ (c .before .before .before .before .before .before .before .before .before .before .before .before .before .before .before .before .before .pre) in
+    omega (arith, shape, rw (shape .block-size) at (c .before .before .before .before .before .before .before .before .before .before .before .before .bytes-of .ensures))
 
 plugged-to-requires : tie.Need-plugged-to-requires
 plugged-to-requires c κs = search needs
@@ -70,9 +67,7 @@ same-length-5 : tie.Need-same-length-5
 same-length-5 c = search needs
 
 returns-3 : tie.Need-returns-3
-returns-3 c =
-    let entry = c .before .before .before .before .before .before .before .before .before .before .before .before .before .before .before .before .before .before .before .before .before .before in
-    plug-acks _ _ _ (entry .pre) _ _ _ _ _ _ _ (c .before .before .before .before .before .before .before .before .before .before .before .before .before .before .before .before .before .bytes-of .ensures) _ (c .before .before .before .before .before .before .before .before .before .before .before .before .before .before .before .before .sum-within .ensures) (c .before .before .before .before .before .before .before .before .before .before .before .before .before .before .before .if1 .left) _ (c .before .before .before .before .before .before .before .before .before .before .before .before .change-of .ensures) _ _ _ (c .before .before .before .before .before .before .before .before .before .before .first .given .1) _ (c .before .before .before .before .before .before .before .set-range .ensures) _ (c .before .before .before .before .plugged-to .ensures) (c .before .before .ended3 .ensures)
+returns-3 c = plug-acks _ _ _ (c .before .before .before .before .before .before .before .before .before .before .before .before .before .before .before .before .before .before .before .before .before .before .pre) _ _ _ _ _ _ _ (c .before .before .before .before .before .before .before .before .before .before .before .before .before .before .before .before .before .bytes-of .ensures) _ (c .before .before .before .before .before .before .before .before .before .before .before .before .before .before .before .before .sum-within .ensures) (c .before .before .before .before .before .before .before .before .before .before .before .before .before .before .before .if1 .left) _ (c .before .before .before .before .before .before .before .before .before .before .before .before .change-of .ensures) _ _ _ (c .before .before .before .before .before .before .before .before .before .before .change .given .1) _ (c .before .before .before .before .before .before .before .set-range .ensures) _ (c .before .before .before .before .plugged-to .ensures) (c .before .before .ended3 .ensures)
 
 pub plug-spec : {M : Type 1} → statement M
 plug-spec =
@@ -85,7 +80,8 @@ plug-spec =
     same-length
     returns
     change-of-requires
-    enum-known-first
+    enum-known-change
+    why-requires
     ended-requires-2
     same-length-2
     same-length-3

@@ -18,8 +18,19 @@ state-type-requires c κs = search needs
 state-of-requires : tie.Need-state-of-requires
 state-of-requires c κs = search needs
 
+why-requires : tie.Need-why-requires
+why-requires c κs = search needs
+
 returns : tie.Need-returns
-returns c = rw (← c .before .before .range-of .ensures, ← c .before .state-type .ensures, ← c .state-of .ensures)
+returns c = rw (← c .before .before .before .range-of .ensures, ← c .before .before .state-type .ensures, ← c .before .state-of .ensures, ← c .why .ensures)
 
 pub state-spec : {M : Type 1} → statement M
-state-spec = tie.close (tie.spec cast-block-size range-of-requires state-type-requires state-of-requires returns)
+state-spec =
+    tie.close
+    (tie.spec
+    cast-block-size
+    range-of-requires
+    state-type-requires
+    state-of-requires
+    why-requires
+    returns)

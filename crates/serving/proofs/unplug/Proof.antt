@@ -13,8 +13,11 @@ cast-block-size c = let shape = shaped-is _ (c .before .before .before .before .
 change-of-requires : tie.Need-change-of-requires
 change-of-requires c κs = search needs
 
-enum-known-first : tie.Need-enum-known-first
-enum-known-first c = search needs
+enum-known-change : tie.Need-enum-known-change
+enum-known-change c = search needs
+
+why-requires : tie.Need-why-requires
+why-requires c κs = search needs
 
 ended-requires : tie.Need-ended-requires
 ended-requires c κs = search needs
@@ -23,7 +26,7 @@ same-length : tie.Need-same-length
 same-length c = search needs
 
 returns : tie.Need-returns
-returns c = unplug-errs _ _ _ (c .before .before .before .before .before .before .before .before .before .before .before .pre) _ _ _ _ _ _ (c .before .before .before .before .before .change-of .ensures) (c .before .before .before .before .match .keys2) (c .before .before .ended .ensures)
+returns c = unplug-errs _ _ _ (c .before .before .before .before .before .before .before .before .before .before .before .before .pre) _ _ _ _ _ _ (c .before .before .before .before .before .before .change-of .ensures) (c .before .before .before .before .before .match .keys2) _ (c .before .before .before .why .ensures) (c .before .before .ended .ensures)
 
 bytes-of-requires : tie.Need-bytes-of-requires
 bytes-of-requires c κs = search needs
@@ -32,18 +35,13 @@ refuse-requires : tie.Need-refuse-requires
 refuse-requires c κs = search needs
 
 returns-2 : tie.Need-returns-2
-returns-2 c =
-    let size = c .before .before .before in
-    let changed = size .before .before .before .before in
-    unplug-refuses _ _ _ (changed .before .before .before .before .before .before .pre) _ _ _ _ _ _ (changed .change-of .ensures) _ _ _ (size .before .before .first .given .1) _ (size .bytes-of .ensures) (c .before .if1 .taken) (c .refuse .ensures)
+returns-2 c = unplug-refuses _ _ _ (c .before .before .before .before .before .before .before .before .before .before .before .before .before .pre) _ _ _ _ _ _ (c .before .before .before .before .before .before .before .change-of .ensures) _ _ _ (c .before .before .before .before .before .change .given .1) _ (c .before .before .before .bytes-of .ensures) (c .before .if1 .taken) (c .refuse .ensures)
 
 asked-requires : tie.Need-asked-requires
 asked-requires c κs = search needs
 
 returns-3 : tie.Need-returns-3
-returns-3 c =
-    let entry = c .before .before .before .before .before .before .before .before .before .before .before .before .before in
-    unplug-asks _ _ _ (entry .pre) _ _ _ _ _ _ (c .before .before .before .before .before .before .before .change-of .ensures) _ _ _ (c .before .before .before .before .before .first .given .1) _ (c .before .before .before .bytes-of .ensures) (c .before .if1 .left) (c .asked .ensures)
+returns-3 c = unplug-asks _ _ _ (c .before .before .before .before .before .before .before .before .before .before .before .before .before .pre) _ _ _ _ _ _ (c .before .before .before .before .before .before .before .change-of .ensures) _ _ _ (c .before .before .before .before .before .change .given .1) _ (c .before .before .before .bytes-of .ensures) (c .before .if1 .left) (c .asked .ensures)
 
 pub unplug-spec : {M : Type 1} → statement M
 unplug-spec =
@@ -51,7 +49,8 @@ unplug-spec =
     (tie.spec
     cast-block-size
     change-of-requires
-    enum-known-first
+    enum-known-change
+    why-requires
     ended-requires
     same-length
     returns
