@@ -29,10 +29,10 @@ pub sized-short : (requested usable : ℕ) → requested ≤ largest → usable 
 unfolding holes
 sized-short requested usable a b = short _ _ (omega arith) (a, (b, tt))
 
-pub response-short : (resp state plugged usable : ℕ) → resp ≤ largest → state ≤ largest → plugged ≤ largest → usable ≤ largest
-    → length (responseText resp state plugged usable) ≤ 200
+pub response-short : (resp state plugged usable why : ℕ) → resp ≤ largest → state ≤ largest → plugged ≤ largest → usable ≤ largest → why ≤ largest
+    → length (responseText resp state plugged usable why) ≤ 200
 unfolding holes
-response-short resp state plugged usable a b c d = short _ _ (omega arith) (a, (b, (c, (d, tt))))
+response-short resp state plugged usable why a b c d e = short _ _ (omega arith) (a, (b, (c, (d, (e, tt)))))
 
 pub refusal-short : (number : ℕ) → number ≤ largest → length (refusalText number) ≤ 200
 unfolding holes

@@ -20,9 +20,10 @@ discardText offset size host = filled (bytes "want=discard offset=# size=# host=
 abbrev pub sizedText : (requested usable : ℕ) → List ℕ
 sizedText requested usable = filled (bytes "sized=0 requested=# usable=#") (requested ∷ usable ∷ [])
 
--- a response: `resp=0 state=2 plugged=8388608 usable=268435456`
-abbrev pub responseText : (resp state plugged usable : ℕ) → List ℕ
-responseText resp state plugged usable = filled (bytes "resp=# state=# plugged=# usable=#") (resp ∷ state ∷ plugged ∷ usable ∷ [])
+-- a response: `resp=0 state=2 plugged=8388608 usable=268435456 why=0`
+abbrev pub responseText : (resp state plugged usable why : ℕ) → List ℕ
+responseText resp state plugged usable why =
+    filled (bytes "resp=# state=# plugged=# usable=# why=#") (resp ∷ state ∷ plugged ∷ usable ∷ why ∷ [])
 
 -- a refusal, 10 too: `refuse=13`
 abbrev pub refusalText : ℕ → List ℕ

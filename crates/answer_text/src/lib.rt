@@ -35,13 +35,20 @@ pub fn put_sized(out: &mut [u8], requested: u64, usable: u64) -> usize
     forms::put_form(out, b"sized=0 requested=# usable=#", &[requested, usable])
 }
 
-pub fn put_response(out: &mut [u8], resp: u16, state: u16, plugged: u64, usable: u64) -> usize
-    ensures { λ r. ⌜ Put (now (out .entry)) 0 (responseText resp state plugged usable) (now (out .exit)) r ⌝ }
+pub fn put_response(
+    out: &mut [u8],
+    resp: u16,
+    state: u16,
+    plugged: u64,
+    usable: u64,
+    why: u64,
+) -> usize
+    ensures { λ r. ⌜ Put (now (out .entry)) 0 (responseText resp state plugged usable why) (now (out .exit)) r ⌝ }
 {
     forms::put_form(
         out,
-        b"resp=# state=# plugged=# usable=#",
-        &[resp as u64, state as u64, plugged, usable],
+        b"resp=# state=# plugged=# usable=# why=#",
+        &[resp as u64, state as u64, plugged, usable, why],
     )
 }
 

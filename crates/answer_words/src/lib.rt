@@ -42,7 +42,7 @@ fn answer_words(answer: Answer) -> [u64; ANSWER_WORDS]
                 resp.resp_type as u64,
                 resp.state as u64,
                 reply.used as u64,
-                0,
+                reply.why,
             ]
         }
         Answer::Done => [6, 0, 0, 0, 0, 0, 0, 0, 0],

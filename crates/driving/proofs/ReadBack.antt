@@ -37,6 +37,7 @@ use Rattle.change.specs.Change.{stateIn, stateOf}
 use Rattle.step.specs.declared.Answer.{Answer}
 use Rattle.step.specs.declared.Answer.the-variants.{Refused, Wants, Sized, Unserved, Served, Done}
 use Rattle.step.specs.declared.Reply.{Reply}
+use Rattle.step.specs.declared.Verdict.{Verdict}
 use Rattle.step.specs.Answers.{servedWith}
 use Rattle.step.specs.World.{World, Guest, Call, Place, SetRequestedSize, Request, HostAnswer, ReadConfig, WriteConfig, Outcome}
 use Rattle.step.specs.Step.{blockSize, region, plugged, requested, several, coveredBy, ack, nack, error, served, stateType, unless, plugAs, plug, unplugAs, oneAs, nextAs, serve, request, resizes, placing, place, setRequestedSize, hostAnswer, readConfig, writeConfig, step}
@@ -116,15 +117,15 @@ module _ (K : Reply → List ℕ → Type 0) where
   unfolding writeConfig Tells
   write-told w buffer = either (not (shapedOf (w .device))) _ _ (record { told = refl }) (record { told = refl })
 
-  module _ (g : Guest) (status : ℕ) (say : (resp : VirtioMemResp) (w : World) → resp .«resp_type» ≤ 3 → resp .state ≤ 2 → Told K (served resp status w g)) where
+  module _ (g : Guest) (status : ℕ) (say : (v : Verdict) (w : World) → v .response .«resp_type» ≤ 3 → v .response .state ≤ 2 → Told K (served v status w g)) where
     ack-told : (w : World) → Told K (served ack status w g)
     ack-told w = say ack w (omega arith) (omega arith)
 
     nack-told : (w : World) → Told K (served nack status w g)
     nack-told w = say nack w (omega arith) (omega arith)
 
-    error-told : (w : World) → Told K (served error status w g)
-    error-told w = say error w (omega arith) (omega arith)
+    error-told : {why : ℕ} (w : World) → Told K (served (error why) status w g)
+    error-told w = say (error _) w (omega arith) (omega arith)
 
     plug-told : (x : Change) (w : World) (count : ℕ) → Told K (plugAs x w count status g)
     unfolding plugAs
@@ -163,19 +164,20 @@ module _ (K : Reply → List ℕ → Type 0) where
         (either (eqb type 3) _ _ (say _ w (type-known _) (state-known _ _ _ _ _ _)) (record { told = refl }))))
 
 -- ---- a response that is delivered is read back
-read-at : (g : Guest) (status : GuestAddr) (resp : VirtioMemResp) (w : World) → resp .«resp_type» ≤ 3 → resp .state ≤ 2
-    → _≡_ {A = ℕ} (cond (reaches (g .mem) (g .base) (status .0)) 10 0) 10 → ReadAt g status (served resp (status .0) w g .bytes) resp
-read-at g status resp w t s ten xs same r reads =
+read-at : (g : Guest) (status : GuestAddr) (v : Verdict) (w : World) → v .response .«resp_type» ≤ 3 → v .response .state ≤ 2
+    → _≡_ {A = ℕ} (cond (reaches (g .mem) (g .base) (status .0)) 10 0) 10 → ReadAt g status (served v (status .0) w g .bytes) (v .response)
+read-at g status v w t s ten xs same r reads =
+    let resp = v .response in
     by-test (reaches (g .mem) (g .base) (status .0))
     (λ u. reads .only resp (record { text = same ∙ delivered-reads (g .mem) (g .base) (status .0) resp u; type-known = t; state-known = s }))
     (λ u. let z : _≡_ {A = ℕ} 0 10 = rw u at ten in absurd (omega arith))
 
 module _ (w : World) where
   goes-back : (c : Call) (g : Guest) (status : GuestAddr) → GoesTo w c g status
-      → (resp : VirtioMemResp) (w′ : World) → resp .«resp_type» ≤ 3 → resp .state ≤ 2 → Told (ReadBack w c) (served resp (status .0) w′ g)
+      → (v : Verdict) (w′ : World) → v .response .«resp_type» ≤ 3 → v .response .state ≤ 2 → Told (ReadBack w c) (served v (status .0) w′ g)
   unfolding Tells
-  goes-back c g status goes resp w′ t s =
-      record { told = record { type-known = t; state-known = s; guest = g; status = status; goes = goes; read = read-at g status resp w′ t s } }
+  goes-back c g status goes v w′ t s =
+      record { told = record { type-known = t; state-known = s; guest = g; status = status; goes = goes; read = read-at g status v w′ t s } }
 
   request-told : (g : Guest) (descriptors head : ℕ) (p : Parsed) → parsed (g .mem) (g .base) descriptors head ≡ p → Told (ReadBack w (Request g descriptors head)) (request p w g)
   unfolding request Tells
@@ -230,11 +232,11 @@ moved bytes resp a b x = rw (a, b) x
 
 -- the response to a request that guest memory holds
 pub held-read : (w : World) (g : Guest) (descriptors head : ℕ) (q : VirtioMemReq) (status : GuestAddr) → HoldsRequest g descriptors head q status
-    → (resp : VirtioMemResp) → step w (Request g descriptors head) .answer ≡ servedWith resp 10 → ReadAt g status (step w (Request g descriptors head) .bytes) resp
-held-read w g descriptors head q status h resp e =
+    → (v : Verdict) → step w (Request g descriptors head) .answer ≡ servedWith v 10 → ReadAt g status (step w (Request g descriptors head) .bytes) (v .response)
+held-read w g descriptors head q status h v e =
     let b = read-back w (Request g descriptors head) _ e in
     let o = goes-once w g (b .guest) descriptors head q status (b .status) (held-parses g descriptors head q status h) (b .goes) in
-    moved (step w (Request g descriptors head) .bytes) resp (o .0) (o .1) (b .read refl)
+    moved (step w (Request g descriptors head) .bytes) (v .response) (o .0) (o .1) (b .read refl)
 
 -- ---- the config
 config-fits : (d : Device) → shapedOf d ≡ true → d .config .«node_id» < 65536 → ConfigFits (d .config)

@@ -53,7 +53,7 @@ plain-ack w r g descriptors head addr count status q =
     let h : Hears w g descriptors head (plugRequest addr count) status = record { shaped = r .shaped; is-idle = r .idle; is-placed = r .placed; fits = fit; reads = q } in
     rw (to-plug w g descriptors head (plugRequest addr count) status h refl)
     (plug-cases P w (parts-of (w .device) (r .shaped)) (status .0) g addr count (λ _ _ _ _ _. (_, refl))
-    (λ e. let z : _≡_ {A = ℕ} 0 1 = cc in absurd (omega arith))
+    (λ _ e. let z : _≡_ {A = ℕ} 0 1 = cc in absurd (omega arith))
     (λ e. let z : _≡_ {A = ℕ} 0 1 = cc in absurd (omega arith)))
 
 -- a request can ask for what is proposed, and for less

@@ -14,7 +14,8 @@ use Rattle.units.specs.declared.GuestAddr.{GuestAddr}
 use Rattle.bitmap.specs.Blocks.{nextSet}
 use Rattle.bitmap.specs.declared.Found.the-variants.{At, Nothing as NoneSet}
 use Rattle.wire.specs.declared.VirtioMemReq.{VirtioMemReq}
-use Rattle.wire.specs.declared.VirtioMemResp.{VirtioMemResp}
+use Rattle.change.specs.Why.{failedDiscard}
+use Rattle.step.specs.declared.Verdict.{Verdict}
 use Rattle.chain.specs.declared.Parsed.{Parsed}
 use Rattle.chain.specs.declared.Parsed.the-variants.{Request as Got, Bad}
 use Rattle.chain.specs.Chain.{parsed}
@@ -29,8 +30,8 @@ use Rattle.step.specs.declared.Answer.the-variants.{Done}
 use Rattle.step.specs.Answers.{refusal, response}
 use Rattle.step.specs.World.{World, Guest, Call, Place, SetRequestedSize, Request, HostAnswer, ReadConfig, WriteConfig, Outcome}
 use Rattle.step.specs.Step.{blockSize, region, usable, plugged, requested, several, regionBlocks, regionRows, deviceOf, newUsable}
-use Rattle.step.specs.Step.{refused, unserved, served, plugs, asksDiscard, unplugs, stops, asksOne, cleared, endsAll, sizes, asksCreate, creates, createFails, placed, coveredBy}
-use Rattle.step.specs.Step.{step, stateResp, serve, request, hostAnswer, place, setRequestedSize}
+use Rattle.step.specs.Step.{refused, unserved, nack, error, served, plugs, asksDiscard, unplugs, stops, asksOne, cleared, endsAll, sizes, asksCreate, creates, createFails, placed, coveredBy}
+use Rattle.step.specs.Step.{step, stateVerdict, serve, request, hostAnswer, place, setRequestedSize}
 use Rattle.history.specs.History.{Event, PlugAck, UnplugAck, Discarded, UnplugAllAck, openOf, blockOf}
 use Rattle.history.specs.History.{ackToType, ackToRequest, ackToHost, acknowledges, discardOf, reports, ifAck, ifNotRefused, eventsOf}
 use Rattle.history.specs.Questions.{typeOf}
@@ -107,7 +108,7 @@ pub record Endings (w : World) (K : Call → Outcome → List Event → Type 0) 
   pub writes : (offset : ℕ) (buffer : List ℕ) → K (WriteConfig offset buffer) (record { world = w; answer = Done; bytes = buffer }) []
   pub unserves : {type : Option ℕ} (a : Requesting w type) (reason : ℕ) → K (requestOf a) (unserved reason w (a .guest)) []
   -- NACK, ERROR and every response to a state request
-  pub responds : {type : Option ℕ} (a : Requesting w type) (resp : VirtioMemResp) → K (requestOf a) (served resp (a .status) w (a .guest)) []
+  pub responds : {type : Option ℕ} (a : Requesting w type) (v : Verdict) → K (requestOf a) (served v (a .status) w (a .guest)) []
   pub plugs-range : (a : Requesting w (some 0)) (addr count first offset : ℕ) → plugged w + bytesOf (blockSize w) count ≤ requested w → Lies w addr count true first offset
       → K (requestOf a) (plugs w first count (a .status) (a .guest)) (PlugAck first count ∷ [])
   pub asks-range : (a : Requesting w (some 1)) (addr count first offset host : ℕ) → bytesOf (blockSize w) count ≤ plugged w → Lies w addr count false first offset
@@ -117,19 +118,19 @@ pub record Endings (w : World) (K : Call → Outcome → List Event → Type 0) 
   pub ends-at-once : (a : Requesting w (some 2)) → nextSet (w .blocks) 0 (regionBlocks w) ≡ NoneSet → K (requestOf a) (endsAll w (a .status) (a .guest)) (UnplugAllAck ∷ [])
   pub asks-first : (a : Requesting w (some 2)) (block offset host : ℕ) → nextSet (w .blocks) 0 (regionBlocks w) ≡ At block → Located w block 1 offset host
       → K (requestOf a) (asksOne w block offset host (a .status) (a .guest)) []
-  pub stops-at-once : (a : Requesting w (some 2)) → K (requestOf a) (stops w (a .status) (a .guest)) []
+  pub stops-at-once : {why : ℕ} (a : Requesting w (some 2)) → K (requestOf a) (stops why w (a .status) (a .guest)) []
   pub maps : (i last : ℕ) (a : Answering w (Create i last) true) → K (answerOf a) (creates w i last (a .host) (a .guest .mem)) []
   pub create-fails : (i last : ℕ) (a : Answering w (Create i last) false) → K (answerOf a) (createFails w (a .guest .mem)) []
   pub unplugs-range : (first count : ℕ) (status : GuestAddr) (a : Answering w (Discard first count status) true)
       → K (answerOf a) (unplugs w first count (status .0) (a .guest)) (UnplugAck first count ∷ [])
-  pub discard-fails : (first count : ℕ) (status : GuestAddr) (a : Answering w (Discard first count status) false) → K (answerOf a) (stops w (status .0) (a .guest)) []
+  pub discard-fails : (first count : ℕ) (status : GuestAddr) (a : Answering w (Discard first count status) false) → K (answerOf a) (stops failedDiscard w (status .0) (a .guest)) []
   pub ends-all : (j : ℕ) (status : GuestAddr) (a : Answering w (DiscardOne j status) true) → nextSet (cleared w j .blocks) (j + 1) (regionBlocks w) ≡ NoneSet
       → K (answerOf a) (endsAll (cleared w j) (status .0) (a .guest)) (UnplugAllAck ∷ Discarded j ∷ [])
   pub asks-next : (j : ℕ) (status : GuestAddr) (a : Answering w (DiscardOne j status) true) (block offset host : ℕ)
       → nextSet (cleared w j .blocks) (j + 1) (regionBlocks w) ≡ At block → Located (cleared w j) block 1 offset host
       → K (answerOf a) (asksOne (cleared w j) block offset host (status .0) (a .guest)) (Discarded j ∷ [])
-  pub stops-after : (j : ℕ) (status : GuestAddr) (a : Answering w (DiscardOne j status) true) → K (answerOf a) (stops (cleared w j) (status .0) (a .guest)) (Discarded j ∷ [])
-  pub one-fails : (j : ℕ) (status : GuestAddr) (a : Answering w (DiscardOne j status) false) → K (answerOf a) (stops w (status .0) (a .guest)) []
+  pub stops-after : {why : ℕ} (j : ℕ) (status : GuestAddr) (a : Answering w (DiscardOne j status) true) → K (answerOf a) (stops why (cleared w j) (status .0) (a .guest)) (Discarded j ∷ [])
+  pub one-fails : (j : ℕ) (status : GuestAddr) (a : Answering w (DiscardOne j status) false) → K (answerOf a) (stops failedDiscard w (status .0) (a .guest)) []
   pub resizes : (a : Resizing w) → K (SetRequestedSize (a .mib)) (sizes (resizedBy a)) []
   pub resize-asks : (a : Resizing w) (i last size : ℕ) → Grows (resizedBy a) i last size → K (SetRequestedSize (a .mib)) (asksCreate (resizedBy a) i last size) []
   pub places : (a : Placing w) → K (placeOf a) (sizes (placedBy a)) []
@@ -171,9 +172,9 @@ module _ (w : World) (K : Call → Outcome → List Event → Type 0) (k : Endin
     asking status type t = record { guest = g; descriptors = descriptors; head = head; status = status; of-type = t; is-placed = p; entry = e }
 
     -- a response that acknowledges nothing
-    of-response : (status : ℕ) (resp : VirtioMemResp) → With c [] [] (served resp status w g)
+    of-response : (status : ℕ) (v : Verdict) → With c [] [] (served v status w g)
     unfolding response refusal
-    of-response status resp = simp cond-same (k .responds (asking status _ refl) resp)
+    of-response status v = simp cond-same (k .responds (asking status _ refl) v)
 
     of-serve : (req : VirtioMemReq) (status : ℕ) → typeOf (parsed (g .mem) (g .base) descriptors head) ≡ some (req .«req_type»)
         → With c (ackToType w req) [] (serve w req status g)
@@ -186,17 +187,17 @@ module _ (w : World) (K : Call → Outcome → List Event → Type 0) (k : Endin
         serve-cases (With c (ackToType w req) []) w req status g
         (λ t. rw t (plug-cases (With c (PlugAck (blockOf w addr) count ∷ []) []) w s status g addr count
         (λ first offset r l. rw (← l .first-is) (k .plugs-range (of 0 t) addr count first offset r l))
-        (k .responds (of 0 t) _)
-        (k .responds (of 0 t) _)))
+        (λ why. k .responds (of 0 t) (error why))
+        (k .responds (of 0 t) nack)))
         (λ t₀ t₁. rw (t₀, t₁) (unplug-cases (With c [] []) w s status g addr count
         (λ first offset host r l at. k .asks-range (of 1 t₁) addr count first offset host r l at)
         (λ first offset r l. k .spoils (of 1 t₁) addr count first offset r l)
-        (k .responds (of 1 t₁) _)))
+        (λ why. k .responds (of 1 t₁) (error why))))
         (λ t₀ t₁ t₂. rw (t₀, t₁, t₂) (unplug-all-cases (With c (UnplugAllAck ∷ []) []) w s status g 0
         (λ r. k .ends-at-once (of 2 t₂) r)
         (λ block offset host r at. k .asks-first (of 2 t₂) block offset host r at)
-        (k .stops-at-once (of 2 t₂))))
-        (λ t₀ t₁ t₂. rw (t₀, t₁, t₂) (of-response status (stateResp w addr count)))
+        (λ why. k .stops-at-once (of 2 t₂))))
+        (λ t₀ t₁ t₂. rw (t₀, t₁, t₂) (of-response status (stateVerdict w addr count)))
         (k .unserves (asking status _ q) 0)
 
     of-request : (chain : Parsed) → parsed (g .mem) (g .base) descriptors head ≡ chain → With c (ackToRequest w chain) [] (request chain w g)
@@ -219,7 +220,7 @@ module _ (w : World) (K : Call → Outcome → List Event → Type 0) (k : Endin
       unplug-all-cases (With (answerOf a) (UnplugAllAck ∷ []) (Discarded j ∷ [])) (cleared w j) (cleared-shaped w j (a .entry .is-shaped)) (status .0) (a .guest) (j + 1)
       (λ r. k .ends-all j status a r)
       (λ block offset host r at. k .asks-next j status a block offset host r at)
-      (k .stops-after j status a)
+      (λ why. k .stops-after j status a)
   of-answer (DiscardOne j status) false a = k .one-fails j status a
 
   pub each-call : (c : Call) → K c (step w c) (eventsOf w (openOf (w .device .pending)) c (step w c .answer))

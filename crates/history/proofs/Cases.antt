@@ -35,7 +35,7 @@ use Rattle.step.specs.declared.Answer.the-variants.{Done}
 use Rattle.step.specs.World.{World, Guest, Outcome}
 use Rattle.step.specs.Step.{blockSize, region, usable, plugged, requested, start, several, regionBlocks, regionRows, deviceOf}
 use Rattle.step.specs.Step.{refused, unserved, nack, error, served, plugs, asksDiscard, stops, asksOne, endsAll, newUsable, sizes, asksCreate, placed}
-use Rattle.step.specs.Step.{tablesFit, readyRefusal, unplacedRefusal, pendingRefusal, rangeRefusal, unless, changing, plugAs, plug, unplugAs, unplug, oneAs, unplugOne, nextAs, unplugAll, stateResp, serve, resizes, resized, placing, place, setRequestedSize, readConfig, writeConfig}
+use Rattle.step.specs.Step.{tablesFit, readyRefusal, unplacedRefusal, pendingRefusal, rangeRefusal, unless, changing, plugAs, plug, unplugAs, unplug, oneAs, unplugOne, nextAs, unplugAll, stateVerdict, serve, resizes, resized, placing, place, setRequestedSize, readConfig, writeConfig}
 use Rattle.record.proofs.Laws.{Parts, parts as shaped-is, whole as shaped-when, shaped-is as facts-of}
 use Rattle.history.proofs.Shaped.{size-whole, size-within, block-is}
 
@@ -156,7 +156,7 @@ located w addr count wanted first offset host s e =
 module _ (P : Outcome → Type 0) (w : World) (s : Parts (w .device)) (status : ℕ) (g : Guest) where
   pub plug-cases : (addr count : ℕ)
       → ((first offset : ℕ) → plugged w + bytesOf (blockSize w) count ≤ requested w → Lies w addr count true first offset → P (plugs w first count status g))
-      → P (served error status w g) → P (served nack status w g) → P (plug w addr count status g)
+      → ((why : ℕ) → P (served (error why) status w g)) → P (served nack status w g) → P (plug w addr count status g)
   unfolding plug plugAs
   plug-cases addr count legal bad over =
       by-cond P (ltb (requested w) (plugged w + bytesOf (blockSize w) count)) _ _ (λ _. over)
@@ -164,15 +164,15 @@ module _ (P : Outcome → Type 0) (w : World) (s : Parts (w .device)) (status : 
     where
       go : (c : Change) → changing w addr count true ≡ c → plugged w + bytesOf (blockSize w) count ≤ requested w → P (plugAs c w count status g)
       go (Legal first offset host) e h = legal first (offset .0) h (lies w addr count true first offset host s e)
-      go (Outside part) e h = bad
-      go WrongState e h = bad
-      go (NoHost part) e h = bad
+      go (Outside part) e h = bad _
+      go WrongState e h = bad _
+      go (NoHost part) e h = bad _
 
   pub unplug-cases : (addr count : ℕ)
       → ((first offset host : ℕ) → bytesOf (blockSize w) count ≤ plugged w → Lies w addr count false first offset → Located w first count offset host
       → P (asksDiscard w first count offset host status g))
       → ((first offset : ℕ) → plugged w < bytesOf (blockSize w) count → Lies w addr count false first offset → P (refused 12 w (g .mem)))
-      → P (served error status w g) → P (unplug w addr count status g)
+      → ((why : ℕ) → P (served (error why) status w g)) → P (unplug w addr count status g)
   unfolding unplugAs
   unplug-cases addr count legal spoiled bad = go (changing w addr count false) refl
     where
@@ -182,13 +182,13 @@ module _ (P : Outcome → Type 0) (w : World) (s : Parts (w .device)) (status : 
           by-cond P (ltb (plugged w) (bytesOf (blockSize w) count)) _ _
           (λ h. spoiled first (offset .0) (ltb-true (plugged w) (bytesOf (blockSize w) count) h) l)
           (λ h. legal first (offset .0) (host .0) (ltb-false (plugged w) (bytesOf (blockSize w) count) h) l (located w addr count false first offset host s e))
-      go (Outside part) e = bad
-      go WrongState e = bad
-      go (NoHost part) e = bad
+      go (Outside part) e = bad _
+      go WrongState e = bad _
+      go (NoHost part) e = bad _
 
   one-cases : (block : ℕ)
       → ((offset host : ℕ) → Located w block 1 offset host → P (asksOne w block offset host status g))
-      → P (stops w status g) → P (unplugOne w block status g)
+      → ((why : ℕ) → P (stops why w status g)) → P (unplugOne w block status g)
   unfolding oneAs
   one-cases block asks stop = go (changing w (start w + bytesOf (blockSize w) block) 1 false) refl
     where
@@ -198,14 +198,14 @@ module _ (P : Outcome → Type 0) (w : World) (s : Parts (w .device)) (status : 
           let l = lies w addr 1 false first offset host s e in
           let at = located w addr 1 false first offset host s e in
           asks (offset .0) (host .0) (record { offset-is = omega (arith, l .offset-is); host-is = at .host-is })
-      go (Outside part) e = stop
-      go WrongState e = stop
-      go (NoHost part) e = stop
+      go (Outside part) e = stop _
+      go WrongState e = stop _
+      go (NoHost part) e = stop _
 
   pub unplug-all-cases : (from : ℕ)
       → (nextSet (w .blocks) from (regionBlocks w) ≡ NoneSet → P (endsAll w status g))
       → ((block offset host : ℕ) → nextSet (w .blocks) from (regionBlocks w) ≡ At block → Located w block 1 offset host → P (asksOne w block offset host status g))
-      → P (stops w status g) → P (unplugAll w from status g)
+      → ((why : ℕ) → P (stops why w status g)) → P (unplugAll w from status g)
   unfolding nextAs
   unplug-all-cases from ends asks stop = go (nextSet (w .blocks) from (regionBlocks w)) refl
     where
@@ -220,7 +220,7 @@ module _ (P : Outcome → Type 0) (w : World) (req : VirtioMemReq) (status : ℕ
       → P (unplug w (req .addr .0) (req .«nb_blocks») status g))
       → (eqb (req .«req_type») 0 ≡ false → eqb (req .«req_type») 1 ≡ false → eqb (req .«req_type») 2 ≡ true → P (unplugAll w 0 status g))
       → (eqb (req .«req_type») 0 ≡ false → eqb (req .«req_type») 1 ≡ false → eqb (req .«req_type») 2 ≡ false
-      → P (served (stateResp w (req .addr .0) (req .«nb_blocks»)) status w g))
+      → P (served (stateVerdict w (req .addr .0) (req .«nb_blocks»)) status w g))
       → P (unserved 0 w g) → P (serve w req status g)
   unfolding serve
   serve-cases plugging unplugging all state other =

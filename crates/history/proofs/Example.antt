@@ -20,11 +20,12 @@ use Rattle.record.specs.declared.HostCall.the-variants.{Create, Discard}
 use Rattle.record.specs.Shape.{alignmentOk, regionOk, sizeOk, spanOf, startOk, severalOk, pendingOk, shapedOf}
 use Rattle.resize.specs.Resize.{newSize, growthOf}
 use Rattle.change.specs.Change.{insideOf, rangeOf, hostSum, hostIn, hostOf, legalAt, changeIn, stateIn, stateOf}
+use Rattle.change.specs.Why.{rangeWhy, failedDiscard}
 use Rattle.step.specs.declared.Answer.{Answer}
 use Rattle.step.specs.declared.Answer.the-variants.{Wants, Sized}
 use Rattle.step.specs.Answers.{servedWith, refusal, response}
 use Rattle.step.specs.World.{World, Guest, Call, Place, SetRequestedSize, Request, HostAnswer}
-use Rattle.step.specs.Step.{tablesFit, readyRefusal, unplacedRefusal, pendingRefusal, rangeRefusal, unless, plugAs, plug, unplugAs, oneAs, nextAs, stateType, serve, request, resizes, placing, place, setRequestedSize, hostAnswer, step, plugged, respond}
+use Rattle.step.specs.Step.{tablesFit, readyRefusal, unplacedRefusal, pendingRefusal, rangeRefusal, unless, plugAs, plug, unplugAs, oneAs, nextAs, stateType, serve, request, resizes, placing, place, setRequestedSize, hostAnswer, step, plugged, verdict, ack, nack, error}
 use Rattle.history.specs.History.{Event, PlugAck, UnplugAck, Discarded, UnplugAllAck, ackToType, ackToRequest, ackToHost, acknowledges, discardOf, reports, eventsOf, openedByType, openedByRequest, goesOn, openedBy, askedBy, openAfter, Story, next, after, Fresh, begun, wasPlug, used}
 use Rattle.history.specs.Reached.{marks, counts, could, marked, counted, allCould, allPlugs, CanRestore, restored}
 
@@ -128,12 +129,12 @@ pub record Example : Type 0 where
       answers (begun device .world) calls
       ≡ Wants (Create (record { 0 = 4294967296 }) 268435456 1)
       ∷ Sized
-      ∷ servedWith (respond 0 0) 10
-      ∷ servedWith (respond 1 0) 10
-      ∷ servedWith (respond 0 2) 10
+      ∷ servedWith ack 10
+      ∷ servedWith nack 10
+      ∷ servedWith (verdict 0 2 0) 10
       ∷ Wants (Discard (record { 0 = 0 }) 4194304 (record { 0 = 140737488355328 }))
       ∷ Wants (Discard (record { 0 = 4194304 }) 4194304 (record { 0 = 140737492549632 }))
-      ∷ servedWith (respond 3 0) 10
+      ∷ servedWith (error failedDiscard) 10
       ∷ Sized
       ∷ []
   pub told : after (begun device) calls .events ≡ Discarded 0 ∷ PlugAck 0 2 ∷ []
@@ -143,11 +144,11 @@ pub record Example : Type 0 where
       answers (begun device .world) more
       ≡ Wants (Create (record { 0 = 4294967296 }) 268435456 1)
       ∷ Sized
-      ∷ servedWith (respond 0 0) 0
+      ∷ servedWith ack 0
       ∷ Wants (Discard (record { 0 = 0 }) 4194304 (record { 0 = 140737488355328 }))
-      ∷ servedWith (respond 0 0) 10
+      ∷ servedWith ack 10
       ∷ Wants (Discard (record { 0 = 4194304 }) 4194304 (record { 0 = 140737492549632 }))
-      ∷ servedWith (respond 0 0) 10
+      ∷ servedWith ack 10
       ∷ []
   pub more-told : after (begun device) more .events ≡ UnplugAllAck ∷ Discarded 1 ∷ UnplugAck 0 1 ∷ PlugAck 0 2 ∷ []
   pub more-left : plugged (after (begun device) more .world) ≡ 0
@@ -156,11 +157,11 @@ pub record Example : Type 0 where
       answers (begun device .world) again
       ≡ Wants (Create (record { 0 = 4294967296 }) 268435456 1)
       ∷ Sized
-      ∷ servedWith (respond 0 0) 10
+      ∷ servedWith ack 10
       ∷ Wants (Discard (record { 0 = 0 }) 4194304 (record { 0 = 140737488355328 }))
       ∷ Wants (Discard (record { 0 = 4194304 }) 4194304 (record { 0 = 140737492549632 }))
-      ∷ servedWith (respond 3 0) 10
-      ∷ servedWith (respond 0 0) 10
+      ∷ servedWith (error failedDiscard) 10
+      ∷ servedWith ack 10
       ∷ []
   pub again-told : after (begun device) again .events ≡ PlugAck 0 1 ∷ Discarded 0 ∷ PlugAck 0 4 ∷ []
   pub again-left : plugged (after (begun device) again .world) ≡ 16777216
@@ -169,14 +170,14 @@ pub record Example : Type 0 where
   pub resumed-answered :
       answers (resumed .world) on-with
       ≡ Wants (Discard (record { 0 = 0 }) 4194304 (record { 0 = 140737488355328 }))
-      ∷ servedWith (respond 0 0) 10
+      ∷ servedWith ack 10
       ∷ []
   pub resumed-told : after resumed on-with .events ≡ UnplugAck 0 1 ∷ PlugAck 3 2 ∷ PlugAck 0 1 ∷ []
   pub resumed-left : plugged (after resumed on-with .world) ≡ 8388608
   pub resumed-counted : ones (used (after resumed on-with .world)) ≡ 2
 
 pub example : Example
-unfolding device chainTo chain place-it calls more again saved resumed on-with answers mapRegions every fill firstFrom ones value littleEndian part put requestAt responseBytes virtqDesc descriptorAt descriptorAddr inside linkAt linkAfter withSecond withFirst parsed reaches delivered mappingOf fillRows rowsLaid alignmentOk regionOk sizeOk spanOf startOk severalOk pendingOk shapedOf newSize growthOf insideOf rangeOf hostSum hostIn hostOf legalAt changeIn stateIn stateOf tablesFit readyRefusal unplacedRefusal pendingRefusal rangeRefusal unless plugAs plug unplugAs oneAs nextAs stateType serve request resizes placing place setRequestedSize hostAnswer step ackToType ackToRequest ackToHost acknowledges discardOf reports response refusal eventsOf openedByType openedByRequest goesOn openedBy askedBy openAfter next after wasPlug marks counts could marked counted allCould allPlugs
+unfolding device chainTo chain place-it calls more again saved resumed on-with answers mapRegions every fill firstFrom ones value littleEndian part put requestAt responseBytes virtqDesc descriptorAt descriptorAddr inside linkAt linkAfter withSecond withFirst parsed reaches delivered mappingOf fillRows rowsLaid alignmentOk regionOk sizeOk spanOf startOk severalOk pendingOk shapedOf newSize growthOf insideOf rangeOf hostSum hostIn hostOf legalAt changeIn stateIn stateOf tablesFit readyRefusal unplacedRefusal pendingRefusal rangeRefusal unless plugAs plug unplugAs oneAs nextAs stateType rangeWhy serve request resizes placing place setRequestedSize hostAnswer step ackToType ackToRequest ackToHost acknowledges discardOf reports response refusal eventsOf openedByType openedByRequest goesOn openedBy askedBy openAfter next after wasPlug marks counts could marked counted allCould allPlugs
 example =
     record {
       answered = refl;

@@ -153,9 +153,9 @@ module _ (w : World) (m : InMemory w) where
   unfolding isCreation
   serve-stays s req status g =
       serve-cases Stays w req status g
-      (λ _. plug-cases Stays w s status g (req .addr .0) (req .«nb_blocks») (λ _ _ _ _. m) m m)
-      (λ _ _. unplug-cases Stays w s status g (req .addr .0) (req .«nb_blocks») (λ _ _ _ _ _ _. elsewhere _ refl) (λ _ _ _ _. m) m)
-      (λ _ _ _. unplug-all-cases Stays w s status g 0 (λ _. elsewhere _ refl) (λ _ _ _ _ _. elsewhere _ refl) (elsewhere _ refl))
+      (λ _. plug-cases Stays w s status g (req .addr .0) (req .«nb_blocks») (λ _ _ _ _. m) (λ _. m) m)
+      (λ _ _. unplug-cases Stays w s status g (req .addr .0) (req .«nb_blocks») (λ _ _ _ _ _ _. elsewhere _ refl) (λ _ _ _ _. m) (λ _. m))
+      (λ _ _ _. unplug-all-cases Stays w s status g 0 (λ _. elsewhere _ refl) (λ _ _ _ _ _. elsewhere _ refl) (λ _. elsewhere _ refl))
       (λ _ _ _. m)
       m
 
@@ -174,7 +174,7 @@ module _ (w : World) (m : InMemory w) where
   answer-stays (Discard first count status) g true host q e = elsewhere Nothing refl
   answer-stays (Discard first count status) g false host q e = elsewhere Nothing refl
   answer-stays (DiscardOne j status) g true host q e =
-      unplug-all-cases Stays (cleared w j) (cleared-shaped w j (e .is-shaped)) (status .0) g (j + 1) (λ _. elsewhere _ refl) (λ _ _ _ _ _. elsewhere _ refl) (elsewhere _ refl)
+      unplug-all-cases Stays (cleared w j) (cleared-shaped w j (e .is-shaped)) (status .0) g (j + 1) (λ _. elsewhere _ refl) (λ _ _ _ _ _. elsewhere _ refl) (λ _. elsewhere _ refl)
   answer-stays (DiscardOne j status) g false host q e = elsewhere Nothing refl
 
   pub memory-kept : (c : Call) → Stays (step w c)

@@ -54,15 +54,15 @@ module _ (w : World) where
       let quiet = idle-open (w .device .pending) (e .is-idle) in
       let P = Sees (w .device .pending) (Request g descriptors head) in
       serve-cases P w req (status .0) g
-      (λ _. plug-cases P w (e .is-shaped) (status .0) g (req .addr .0) (req .«nb_blocks») (λ _ _ _ _. quiet) quiet quiet)
+      (λ _. plug-cases P w (e .is-shaped) (status .0) g (req .addr .0) (req .«nb_blocks») (λ _ _ _ _. quiet) (λ _. quiet) quiet)
       (λ t₀ t₁. unplug-cases P w (e .is-shaped) (status .0) g (req .addr .0) (req .«nb_blocks»)
       (λ first offset host _ l _. rw (q, t₁, l .first-is))
       (λ _ _ _ _. refl)
-      quiet)
+      (λ _. quiet))
       (λ t₀ t₁ t₂. unplug-all-cases P w (e .is-shaped) (status .0) g 0
       (λ _. refl)
       (λ block offset host _ l. rw (q, t₁) (ap UnpluggingAll (offset-block w block offset (e .is-shaped) (l .offset-is))))
-      refl)
+      (λ _. refl))
       (λ _ _ _. quiet)
       quiet
 
@@ -79,7 +79,7 @@ module _ (w : World) where
       unplug-all-cases (Sees (DiscardOne j status) (HostAnswer g true host)) (cleared w j) (cleared-shaped w j (e .is-shaped)) (status .0) g (j + 1)
       (λ _. refl)
       (λ block offset _ _ l. ap UnpluggingAll (offset-block w block offset (e .is-shaped) (l .offset-is)))
-      refl
+      (λ _. refl)
   sees-host (DiscardOne j status) g false host q e = refl
 
   pub sees : (c : Call) → Sees (w .device .pending) c (step w c)

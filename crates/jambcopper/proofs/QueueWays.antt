@@ -19,7 +19,7 @@ use Rattle.step.specs.World.{Outcome, Call}
 use Rattle.step.specs.Step.{step}
 use Rattle.step.specs.Promise.{Lent, lent, on}
 use Rattle.step.specs.Answers.{answerWords}
-use Rattle.step.proofs.Lengths.{Short}
+use Rattle.step.proofs.Served.{Short}
 use Rattle.queue.specs.declared.QueueAnswer.{QueueAnswer}
 use Rattle.queue.specs.declared.Ending.{Ending}
 use Rattle.queue.specs.Queue.{endingOf, queueBy, unmoved, aside, about, Settles, queueAnswerWords, queueNumberOf}

@@ -10,6 +10,7 @@ use Rattle.record.specs.declared.HostCall.the-variants.{Create, Discard}
 use Rattle.step.specs.declared.Answer.{Answer}
 use Rattle.step.specs.declared.Answer.the-variants.{Refused, Wants, Sized, Unserved, Done}
 use Rattle.step.specs.Answers.{answerLength, servedWith}
+use Rattle.step.specs.Step.{verdict}
 use Rattle.words.specs.Record.{word}
 use Rattle.jambcopper.specs.Exports.{Handed}
 use Rattle.history.specs.History.{Event, Open, NoRequest, eventsOf, openAfter, Demand3}
@@ -23,7 +24,7 @@ answerOf ws =
     (cond (eqb (word ws 0) 2) (Wants (Discard (record { 0 = word ws 2 }) (word ws 3) (record { 0 = word ws 4 })))
     (cond (eqb (word ws 0) 3) Sized
     (cond (eqb (word ws 0) 4) (Unserved (word ws 8))
-    (cond (eqb (word ws 0) 5) (servedWith (record { «resp_type» = word ws 5; state = word ws 6 }) (word ws 7)) Done)))))
+    (cond (eqb (word ws 0) 5) (servedWith (verdict (word ws 5) (word ws 6) (word ws 8)) (word ws 7)) Done)))))
 
 -- the answer that a call has told; the config's calls tell a number alone
 unfoldable pub heardBy : Function → (after : Handed) → Answer

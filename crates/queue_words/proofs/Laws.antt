@@ -18,13 +18,13 @@ use Rattle.rings.specs.declared.Taken.{Taken}
 use Rattle.rings.specs.declared.Taken.the-variants.{Nothing, Head}
 use Rattle.queue_words.specs.declared.DecodedQueue.{DecodedQueue}
 use Rattle.queue_words.specs.declared.DecodedQueue.the-variants.{Is, NoQueue}
-use Rattle.wire.specs.declared.VirtioMemResp.{VirtioMemResp}
+use Rattle.step.specs.declared.Verdict.{Verdict}
 use Rattle.record.specs.declared.HostCall.{HostCall}
 use Rattle.record.specs.declared.HostCall.the-variants.{Create, Discard}
 use Rattle.step.specs.declared.Answer.{Answer}
 use Rattle.step.specs.declared.Answer.the-variants.{Refused, Wants, Sized, Unserved, Served, Done}
-use Rattle.step.specs.Answers.{answerWords, servedWith}
-use Rattle.step.proofs.Lengths.{Short}
+use Rattle.step.specs.Answers.{answerWords, servedWith, OfReply}
+use Rattle.step.proofs.Served.{Short}
 use Rattle.queue.specs.declared.Ending.the-variants.{Out, Used}
 use Rattle.queue.specs.Queue.{endingOf}
 use Rattle.queue_words.specs.Words.{takenWord, takenOf, queueWords, isQueue, queueOf, decodedQueueOf, endingWords}
@@ -129,16 +129,16 @@ unfolding endingWords
 ending-question (Create guest size slot) = refl
 ending-question (Discard offset size host) = refl
 
-ending-served : (resp : VirtioMemResp) (t : Bool) → endingWords (answerWords (servedWith resp (cond t 10 0))) ≡ Used (cond t 10 0)
+ending-served : (v : Verdict) (t : Bool) → endingWords (answerWords (servedWith v (cond t 10 0))) ≡ Used (cond t 10 0)
 unfolding endingWords
-ending-served resp true = refl
-ending-served resp false = refl
+ending-served v true = refl
+ending-served v false = refl
 
 pub ending-told : (a : Answer) → Short a → endingWords (answerWords a) ≡ endingOf a
-unfolding endingWords Short
+unfolding endingWords OfReply
 ending-told (Refused n) s = refl
 ending-told (Wants call) s = ending-question call
 ending-told Sized s = refl
 ending-told (Unserved reason) s = refl
-ending-told (Served reply) s = rw (s .1) (ending-served (reply .response) (s .0))
+ending-told (Served reply) s = rw (s .1) (ending-served (record { response = reply .response; why = reply .why }) (s .0))
 ending-told Done s = refl

@@ -12,7 +12,7 @@ use borrow.Author.Tests.{le-leb}
 use Rattle.units.specs.Numbers.{top, mapRegion}
 use Rattle.units.specs.declared.GuestAddr.{GuestAddr}
 use Rattle.wire.specs.declared.VirtioMemReq.{VirtioMemReq}
-use Rattle.wire.specs.declared.VirtioMemResp.{VirtioMemResp}
+use Rattle.step.specs.declared.Verdict.{Verdict}
 use Rattle.chain.specs.declared.Parsed.{Parsed}
 use Rattle.chain.specs.declared.Parsed.the-variants.{Request as Got, Bad}
 use Rattle.chain.specs.Chain.{parsed, reaches, delivered}
@@ -71,7 +71,7 @@ pub record Quiet (w : World) (c : Call) (o : Outcome) : Type 0 where
 
 -- ---- a call that may end a request, whose response goes to the address `status`
 pub data Says (g : Guest) (status : ℕ) (o : Outcome) : Type 0 where
-  Responded : (resp : VirtioMemResp) → o .answer ≡ servedWith resp (cond (reaches (g .mem) (g .base) status) 10 0) → o .bytes ≡ delivered (g .mem) (g .base) status resp → Says g status o
+  Responded : (v : Verdict) → o .answer ≡ servedWith v (cond (reaches (g .mem) (g .base) status) 10 0) → o .bytes ≡ delivered (g .mem) (g .base) status (v .response) → Says g status o
   Silent : responseOf (o .answer) ≡ none → o .bytes ≡ g .mem → Says g status o
 
 pub record Leaf (w : World) (g : Guest) (status : ℕ) (o : Outcome) : Type 0 where
@@ -80,9 +80,9 @@ pub record Leaf (w : World) (g : Guest) (status : ℕ) (o : Outcome) : Type 0 wh
   pub no-creation : CreatesNothing o
 
 module _ (w : World) (g : Guest) (status : ℕ) where
-  leaf-served : (resp : VirtioMemResp) (w′ : World) → Leaf w g status (served resp status w′ g)
-  leaf-served resp w′ =
-      record { says = Responded resp refl refl; keeps-status = λ call e. let z : _≡_ {A = ℕ} 0 1 = cc in absurd (omega arith); no-creation = λ guest size slot e. let z : _≡_ {A = ℕ} 0 1 = cc in omega arith }
+  leaf-served : (v : Verdict) (w′ : World) → Leaf w g status (served v status w′ g)
+  leaf-served v w′ =
+      record { says = Responded v refl refl; keeps-status = λ call e. let z : _≡_ {A = ℕ} 0 1 = cc in absurd (omega arith); no-creation = λ guest size slot e. let z : _≡_ {A = ℕ} 0 1 = cc in omega arith }
 
   leaf-silent : (o : Outcome) → responseOf (o .answer) ≡ none → o .bytes ≡ g .mem → ((call : HostCall) → AsksFor o call → statusOfPending (o .world .device .pending) ≡ some status)
       → CreatesNothing o → Leaf w g status o
@@ -94,15 +94,15 @@ module _ (w : World) (g : Guest) (status : ℕ) where
     leaf-serve req =
         let P = Leaf w g status in
         serve-cases P w req status g
-        (λ _. plug-cases P w shaped status g (req .addr .0) (req .«nb_blocks») (λ _ _ _ _. leaf-served _ _) (leaf-served _ _) (leaf-served _ _))
+        (λ _. plug-cases P w shaped status g (req .addr .0) (req .«nb_blocks») (λ _ _ _ _. leaf-served _ _) (λ _. leaf-served _ _) (leaf-served _ _))
         (λ _ _. unplug-cases P w shaped status g (req .addr .0) (req .«nb_blocks»)
         (λ _ _ _ _ _ _. leaf-silent _ refl refl (λ _ _. refl) (λ _ _ _ e. let z : _≡_ {A = ℕ} 0 1 = cc in omega arith))
         (λ _ _ _ _. leaf-silent _ refl refl (λ call e. let z : _≡_ {A = ℕ} 0 1 = cc in absurd (omega arith)) (λ _ _ _ e. let z : _≡_ {A = ℕ} 0 1 = cc in omega arith))
-        (leaf-served _ _))
+        (λ _. leaf-served _ _))
         (λ _ _ _. unplug-all-cases P w shaped status g 0
         (λ _. leaf-served _ _)
         (λ _ _ _ _ _. leaf-silent _ refl refl (λ _ _. refl) (λ _ _ _ e. let z : _≡_ {A = ℕ} 0 1 = cc in omega arith))
-        (leaf-served _ _))
+        (λ _. leaf-served _ _))
         (λ _ _ _. leaf-served _ _)
         (leaf-silent _ refl refl (λ call e. let z : _≡_ {A = ℕ} 0 1 = cc in absurd (omega arith)) (λ _ _ _ e. let z : _≡_ {A = ℕ} 0 1 = cc in omega arith))
 
@@ -117,7 +117,7 @@ leaf-one w g shaped j status true host =
     unplug-all-cases (Leaf w g (status .0)) (cleared w j) (cleared-shaped w j shaped) (status .0) g (j + 1)
     (λ _. leaf-served w g (status .0) _ _)
     (λ _ _ _ _ _. leaf-silent w g (status .0) _ refl refl (λ _ _. refl) (λ _ _ _ e. let z : _≡_ {A = ℕ} 0 1 = cc in omega arith))
-    (leaf-served w g (status .0) _ _)
+    (λ _. leaf-served w g (status .0) _ _)
 leaf-one w g shaped j status false host = leaf-served w g (status .0) _ _
 
 -- ---- every call is one of these

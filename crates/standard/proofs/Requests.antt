@@ -36,7 +36,7 @@ use Rattle.change.proofs.Laws.{InRange, inside-is, inside-when, host-is, legal-
 use Rattle.step.specs.declared.Answer.the-variants.{Refused}
 use Rattle.step.specs.Answers.{response}
 use Rattle.step.specs.World.{World, Guest, Request, HostAnswer, Outcome}
-use Rattle.step.specs.Step.{step, request, unless, pendingRefusal, tablesFit, serve, blockSize, region, usable, plugged, requested, start, several, regionBlocks, deviceOf, changing, plugAs, plug, plugs, unplugAs, asksDiscard, unplugs, asksOne, oneAs, nextAs, unplugAll, stops, cleared, stateType, stateResp, served, unserved, error, hostAnswer}
+use Rattle.step.specs.Step.{step, request, unless, pendingRefusal, tablesFit, serve, blockSize, region, usable, plugged, requested, start, several, regionBlocks, deviceOf, changing, plugAs, plug, plugs, unplugAs, asksDiscard, unplugs, asksOne, oneAs, nextAs, unplugAll, stops, cleared, stateType, stateVerdict, served, unserved, error, hostAnswer}
 use Rattle.step.proofs.Entry.{ready-when, waits-when}
 use Rattle.step.proofs.InTable.{cleared-shaped, cleared-fits}
 use Rattle.step.proofs.Laws.{one-inside, one-before, one-behind}
@@ -241,7 +241,7 @@ module _ (w : World) (req : VirtioMemReq) (sound : Sound w) where
             responses = λ type e. only-type (0 ∷ 1 ∷ 3 ∷ []) 0 type refl e;
           }
 
-      bad : (c : Change) → changing w (req .addr .0) (req .«nb_blocks») true ≡ c → isLegal c ≡ false → plugged w + sizeOf w req ≤ requested w → Plug w req (served error status w g)
+      bad : {why : ℕ} (c : Change) → changing w (req .addr .0) (req .«nb_blocks») true ≡ c → isLegal c ≡ false → plugged w + sizeOf w req ≤ requested w → Plug w req (served (error why) status w g)
       bad c e illegal fits =
           record {
             over = λ h. absurd (omega arith);
@@ -268,9 +268,9 @@ module _ (w : World) (req : VirtioMemReq) (sound : Sound w) where
       unchanged : (o : Outcome) → (Responds o 0 → ⊥) → Unchanged w (o .world) → WholeOrNothing w req o
       unchanged o no-ack same = record { acknowledged = λ e. absurd (no-ack e); otherwise = λ _. same }
 
-      bad : (c : Change) → changing w (req .addr .0) (req .«nb_blocks») false ≡ c → isLegal c ≡ false → Unplug w req (served error status w g)
-      bad c e illegal =
-          let never : (call : HostCall) → AsksFor (served error status w g) call → ⊥ = λ call f. let z : _≡_ {A = ℕ} 0 1 = cc in omega arith in
+      bad : {why : ℕ} (c : Change) → changing w (req .addr .0) (req .«nb_blocks») false ≡ c → isLegal c ≡ false → Unplug w req (served (error why) status w g)
+      bad {why} c e illegal =
+          let never : (call : HostCall) → AsksFor (served (error why) status w g) call → ⊥ = λ call f. let z : _≡_ {A = ℕ} 0 1 = cc in omega arith in
           let not-can : CanUnplug w req → ⊥ = λ can. clash (ap isLegal (sym e ∙ legal-change false (can .valid) (can .all-plugged) (can .mapped))) illegal in
           record {
             bad-range = λ _. refl;
@@ -370,7 +370,7 @@ module _ (w : World) (req : VirtioMemReq) (sound : Sound w) where
       let sp = spans-of (offsetOf w req) (in-range v) in
       rw (le-ltb (req .addr .0) (start w) (v .from-start), range-take (regionBlocks w) (w .blocks) (blocksIn (blockSize w) (offsetOf w req)) (req .«nb_blocks») (sp .ends))
 
-  state-at : req .«req_type» ≡ «VIRTIO_MEM_REQ_STATE» → (status : ℕ) (g : Guest) → StateRequest w req (served (stateResp w (req .addr .0) (req .«nb_blocks»)) status w g)
+  state-at : req .«req_type» ≡ «VIRTIO_MEM_REQ_STATE» → (status : ℕ) (g : Guest) → StateRequest w req (served (stateVerdict w (req .addr .0) (req .«nb_blocks»)) status w g)
   unfolding response stateIn
   state-at t status g =
       let enough = long w sound in
@@ -469,9 +469,9 @@ module _ (w : World) (sound : Sound w) where
       all-clear : nextSet (w .blocks) from (regionBlocks w) ≡ NoneSet → NoneFrom w from
       all-clear e i p q = all-clear-at (w .blocks) from (regionBlocks w - from) i (next-nothing true (w .blocks) from (regionBlocks w) e) p (omega arith)
 
-      stopped : (block : ℕ) → Lowest w from block → (CanDiscard w block → ⊥) → UnplugsFrom w from (stops w status g)
-      stopped block l cannot-be =
-          let not-acknowledged : Responds (stops w status g) 0 → ⊥ = λ r. let z : _≡_ {A = ℕ} 0 1 = cc in omega arith in
+      stopped : {why : ℕ} (block : ℕ) → Lowest w from block → (CanDiscard w block → ⊥) → UnplugsFrom w from (stops why w status g)
+      stopped {why} block l cannot-be =
+          let not-acknowledged : Responds (stops why w status g) 0 → ⊥ = λ r. let z : _≡_ {A = ℕ} 0 1 = cc in omega arith in
           record {
             none-left = λ all. clash (l .is-plugged) (all block (l .from-there) (l .in-region));
             only-none-left = λ r. absurd (not-acknowledged r);
@@ -560,7 +560,7 @@ module _ (w : World) (g : Guest) (descriptors head : ℕ) (req : VirtioMemReq) (
   unfolding serve
   to-unplug t = heard ∙ rw t
 
-  pub to-state : req .«req_type» ≡ «VIRTIO_MEM_REQ_STATE» → step w (Request g descriptors head) ≡ served (stateResp w (req .addr .0) (req .«nb_blocks»)) (status .0) w g
+  pub to-state : req .«req_type» ≡ «VIRTIO_MEM_REQ_STATE» → step w (Request g descriptors head) ≡ served (stateVerdict w (req .addr .0) (req .«nb_blocks»)) (status .0) w g
   unfolding serve
   to-state t = heard ∙ rw t
 
@@ -639,13 +639,13 @@ one-standard w j status a g ok host = rw (answered w (DiscardOne j status) a ref
         }
 
 -- ---- tried against M11, M14 and M15: a device that answers ERROR always
-module _ (w : World) (req : VirtioMemReq) (status : ℕ) (g : Guest) where
-  pub error-always-no-plug : CanPlug w req → Plug w req (served error status w g) → ⊥
+module _ (w : World) (req : VirtioMemReq) (why status : ℕ) (g : Guest) where
+  pub error-always-no-plug : CanPlug w req → Plug w req (served (error why) status w g) → ⊥
   unfolding response
   error-always-no-plug can p = let e = p .granted can in let z : _≡_ {A = ℕ} 0 1 = cc in omega arith
 
   pub error-always-no-unplug : CanUnplug w req → sizeOf w req ≤ plugged w → Unplug w req (served error status w g) → ⊥
   error-always-no-unplug can enough p = let e = p .granted can enough in let z : _≡_ {A = ℕ} 0 1 = cc in omega arith
 
-  pub error-always-no-unplug-all : (from i : ℕ) → Lowest w from i → CanDiscard w i → UnplugsFrom w from (served error status w g) → ⊥
+  pub error-always-no-unplug-all : (from i : ℕ) → Lowest w from i → CanDiscard w i → UnplugsFrom w from (served (error why) status w g) → ⊥
   error-always-no-unplug-all from i l can u = let e = u .asks-lowest i l can .asks in let z : _≡_ {A = ℕ} 0 1 = cc in omega arith

@@ -13,6 +13,7 @@ use Rattle.units.specs.declared.GuestAddr.{GuestAddr}
 use Rattle.units.proofs.Tests.{by-test}
 use Rattle.wire.specs.declared.VirtioMemReq.{VirtioMemReq}
 use Rattle.wire.specs.declared.VirtioMemResp.{VirtioMemResp}
+use Rattle.step.specs.declared.Verdict.{Verdict}
 use Rattle.wire.proofs.Standard.{response as response-bytes}
 use Rattle.descriptors.specs.Descriptors.{inside, linkAt, linkAfter}
 use Rattle.descriptors.proofs.Laws.{inside-facts}
@@ -57,9 +58,10 @@ room : (g : Guest) (status : ℕ) → g .base ≤ status → status + 10 ≤ g .
 unfolding reaches inside
 room g status p q r = rw (le-leb (g .base) status p, le-leb (status + 10) (g .base + length (g .mem)) q, le-leb (status + 10) (2 ^ 64) r)
 
-delivery : (g : Guest) (status : ℕ) (resp : VirtioMemResp) → Delivered g status (record { response = resp; used = cond (reaches (g .mem) (g .base) status) 10 0 }) (delivered (g .mem) (g .base) status resp)
+delivery : (g : Guest) (status : ℕ) (v : Verdict) → Delivered g status (record { response = v .response; used = cond (reaches (g .mem) (g .base) status) 10 0; why = v .why }) (delivered (g .mem) (g .base) status (v .response))
 unfolding among
-delivery g status resp =
+delivery g status v =
+    let resp = v .response in
     by-test (reaches (g .mem) (g .base) status)
     (λ t. record { whole = λ _. laid g status resp t; nothing = λ e. let z = rw t at e in absurd (omega arith); no-other = rw t; with-room = λ _ _ _. rw t })
     (λ t. record { whole = λ e. let z = rw t at e in absurd (omega arith); nothing = λ _. undelivered (g .mem) (g .base) status resp t; no-other = rw t; with-room = λ p q r. clash (room g status p q r) t })
@@ -67,7 +69,7 @@ delivery g status resp =
 delivers : (g : Guest) (status : ℕ) (o : Outcome) → Says g status o → (reply : Reply) → o .answer ≡ Served reply → Delivered g status reply (o .bytes)
 unfolding response
 delivers g status o (Responded given a b) reply e =
-    let same : record { response = given; used = cond (reaches (g .mem) (g .base) status) 10 0 } ≡ reply = cc in
+    let same : record { response = given .response; used = cond (reaches (g .mem) (g .base) status) 10 0; why = given .why } ≡ reply = cc in
     rw (b, ← same) (delivery g status given)
 delivers g status o (Silent n b) reply e = let z : none ≡ some (reply .response .«resp_type») = sym n ∙ ap responseOf e in let y : _≡_ {A = ℕ} 0 1 = cc in absurd (omega arith)
 

@@ -18,6 +18,7 @@ use Rattle.bitmap.specs.Blocks.{blockAt}
 use Rattle.bitmap.proofs.Laws.{all-clear-at}
 use Rattle.wire.specs.declared.VirtioMemReq.{VirtioMemReq}
 use Rattle.wire.specs.declared.VirtioMemResp.{VirtioMemResp}
+use Rattle.step.specs.declared.Verdict.{Verdict}
 use Rattle.record.specs.declared.HostCall.{HostCall}
 use Rattle.record.specs.declared.HostCall.the-variants.{Discard as DiscardCall}
 use Rattle.record.specs.declared.Pending.the-variants.{Discard, DiscardOne}
@@ -176,7 +177,7 @@ Discards w c o = (offset : RegionOffset) (size : ℕ) (host : HostAddr) → Asks
     → AsksToUnplug w (openOf (w .device .pending)) c i × IsPlugged (o .world) i
 
 -- a response asks for nothing
-no-question : (resp : VirtioMemResp) (n : ℕ) (call : HostCall) → servedWith resp n ≡ Wants call → ⊥
+no-question : (v : Verdict) (n : ℕ) (call : HostCall) → servedWith v n ≡ Wants call → ⊥
 no-question resp n call e = let z : _≡_ {A = ℕ} 0 1 = cc in omega arith
 
 -- the block of an unplug-all that the host is asked for is plugged
@@ -242,7 +243,7 @@ discards w =
           by-type (req .«req_type»)
           (λ t.
           absurd (plug-cases (λ o. AsksFor o (DiscardCall offset size host) → ⊥) w (parts-of (w .device) (h .shaped)) (status .0) g (req .addr .0) (req .«nb_blocks»)
-          (λ _ _ _ _. no-question _ _ _) (no-question _ _ _) (no-question _ _ _) (rw (to-plug w g descriptors head req status h t) at e)))
+          (λ _ _ _ _. no-question _ _ _) (λ _. no-question _ _ _) (no-question _ _ _) (rw (to-plug w g descriptors head req status h t) at e)))
           (λ t. unplug-discards w g descriptors head req status h t offset size host e i low high)
           (λ t. (
             ByUnplugAll (record { guest = g; descriptors = descriptors; head = head; req = req; status = status; is-request = refl; hears = h; is-type = t }),

@@ -12,6 +12,8 @@ use Rattle.bitmap.specs.Blocks.{blocks}
 use Rattle.rows.specs.Rows.{written}
 use Rattle.rows.proofs.Words.{whole}
 use Rattle.step.specs.declared.Answered.{Answered}
+use Rattle.step.specs.declared.Answer.{Answer}
+use Rattle.step.specs.declared.Answer.the-variants.{Done}
 use Rattle.step.specs.World.{Outcome}
 use Rattle.step.specs.Promise.{Lent, meant, Leaves}
 use Rattle.trace_text.specs.declared.Line.{Line}
@@ -56,22 +58,22 @@ slot-fits s Bad h = tt
 unchanged : (l : Lent) → Leaves (meant l) l l
 unchanged l = record { marked = refl; mapped = sym (whole (l .table)); left = refl }
 
-pub printed-comes : (l : Lent) {run : Run} {text out out′ : List ℕ} {r : Shown}
-    → Prints run text out r out′ → Comes (record { run = run; left = meant l; printed = asLine text }) l l out out′ r
-printed-comes l p = record { stands = p .stands; leaves = unchanged l; printed = p .printed }
+pub printed-comes : (l : Lent) {run : Run} {said : Answer} {text out out′ : List ℕ} {r : Shown}
+    → Prints run said text out r out′ → Comes (record { run = run; answer = said; left = meant l; printed = asLine text }) l l out out′ r
+printed-comes l p = record { stands = p .stands; said = p .said; leaves = unchanged l; printed = p .printed }
 
-pub ended-comes : (l : Lent) (out : List ℕ) (r : Shown) → r .run ≡ Ended → r .length ≡ 0
-    → Comes (record { run = Ended; left = meant l; printed = [] }) l l out out r
-ended-comes l out r e z = record { stands = e; leaves = unchanged l; printed = record { held = refl; next = omega arith } }
+pub ended-comes : (l : Lent) (out : List ℕ) (r : Shown) → r .run ≡ Ended → r .answer ≡ Done → r .length ≡ 0
+    → Comes (record { run = Ended; answer = Done; left = meant l; printed = [] }) l l out out r
+ended-comes l out r e a z = record { stands = e; said = a; leaves = unchanged l; printed = record { held = refl; next = omega arith } }
 
 -- a call that was answered, with `mem` for the bytes of guest memory then
 module _ (o : Outcome) (mem : List ℕ) {s : Answered} {run : Run} {before after : Lent} {out out′ : List ℕ} {r : Shown}
     (a : s .answer ≡ o .answer) (d : s .device ≡ o .world .device) (m : blocks (after .bitmap) ≡ o .world .blocks)
     (t : after .table ≡ written (before .table) (o .world .rows)) (l : after .bytes ≡ mem)
-    (p : Prints run (answerText (s .answer) (s .device) (after .bytes)) out r out′) where
+    (p : Prints run (s .answer) (answerText (s .answer) (s .device) (after .bytes)) out r out′) where
   comes : (to : Run) → run ≡ to → Comes (answeredAs to o mem) before after out out′ r
   comes to e =
-      record { stands = p .stands ∙ e; leaves = record { marked = m; mapped = t; left = l }; printed = rw (a, d, l) at (p .printed) }
+      record { stands = p .stands ∙ e; said = p .said ∙ a; leaves = record { marked = m; mapped = t; left = l }; printed = rw (a, d, l) at (p .printed) }
 
   pub placed-comes : run ≡ placedAs (s .answer) (s .device) → Comes (placedOn o mem) before after out out′ r
   placed-comes e = comes _ (rw (a, d) at e)

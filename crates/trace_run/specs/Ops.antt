@@ -73,7 +73,7 @@ applied op w mem =
 abbrev pub Applies : Op → Device → (before after : Lent) → Answered → Type 0
 Applies op d before after s = Gives (applied op (on d before) (before .bytes)) before after s
 
--- the line of an answer: resp and state are read out of the response bytes
+-- the line of an answer: resp and state are read out of the response bytes, why is the answer's
 unfoldable pub answerText : Answer → Device → List ℕ → List ℕ
 answerText (Refused n) d mem = refusalText n
 answerText (Wants (Create guest size slot)) d mem = createText guest size slot
@@ -81,5 +81,5 @@ answerText (Wants (Discard offset size host)) d mem = discardText offset size ho
 answerText Sized d mem = sizedText (d .config .«requested_size») (d .config .«usable_region_size»)
 answerText (Unserved reason) d mem = []
 answerText (Served reply) d mem =
-    responseText (value (part mem 96 2)) (value (part mem 104 2)) (d .config .«plugged_size») (d .config .«usable_region_size»)
+    responseText (value (part mem 96 2)) (value (part mem 104 2)) (d .config .«plugged_size») (d .config .«usable_region_size») (reply .why)
 answerText Done d mem = []

@@ -29,9 +29,10 @@ use Rattle.trace_run.specs.declared.Shown.{Shown}
 abbrev pub worldOn : Device → Meant → World
 worldOn d m = record { device = d; blocks = m .blocks; rows = m .rows }
 
--- what a line comes to: where the run stands then, what is left in the lent slices, and what is printed
+-- what a line comes to: where the run stands then, the answer, what is left in the lent slices, and what is printed
 pub record Turn : Type 0 where
   pub run : Run
+  pub answer : Answer
   pub left : Meant
   pub printed : List ℕ
 
@@ -41,13 +42,14 @@ asLine text = text ++ 10 ∷ []
 
 -- R12.6: a refusal; here of a line that comes to no call, so nothing that is lent changes
 abbrev pub refusedAs : Run → ℕ → Meant → Turn
-refusedAs run n m = record { run = run; left = m; printed = asLine (refusalText n) }
+refusedAs run n m = record { run = run; answer = Refused n; left = m; printed = asLine (refusalText n) }
 
 -- a call of the device prints its answer
 abbrev pub answeredAs : Run → Outcome → List ℕ → Turn
 answeredAs run o mem =
     record {
       run = run;
+      answer = o .answer;
       left = record { blocks = o .world .blocks; rows = o .world .rows; bytes = mem };
       printed = asLine (answerText (o .answer) (o .world .device) mem);
     }
@@ -94,7 +96,7 @@ goneOn d op m =
     let o = step (worldOn d m) (opCall op (m .bytes)) in
     answeredAs (On (o .world .device)) o (bytesAfter op (m .bytes) o)
 
--- R12.5: a line where another is due is a bad line. R12.8: a bad first line ends the run, and after a bad later one it goes on. Nothing comes of a line after the end
+-- R12.5: a line where another is due is a bad line. R12.8: a bad first line ends the run, and after a bad later one it goes on. Nothing comes of a line after the end, and its answer is no number, question or response
 unfoldable pub turn : Run → Line → Meant → Turn
 turn Before (First f) m = begunBy f m
 turn Before (Later op) m = refusedAs Ended 13 m
@@ -102,18 +104,20 @@ turn Before Bad m = refusedAs Ended 13 m
 turn (On d) (First f) m = refusedAs (On d) 13 m
 turn (On d) (Later op) m = goneOn d op m
 turn (On d) Bad m = refusedAs (On d) 13 m
-turn Ended line m = record { run = Ended; left = m; printed = [] }
+turn Ended line m = record { run = Ended; answer = Done; left = m; printed = [] }
 
 -- ---- what the code promises
 
--- a line of output is printed, and the run stands here
-pub record Prints (run : Run) (text out : List ℕ) (r : Shown) (out′ : List ℕ) : Type 0 where
+-- a line of output is printed, and the run stands here after this answer
+pub record Prints (run : Run) (answer : Answer) (text out : List ℕ) (r : Shown) (out′ : List ℕ) : Type 0 where
   pub stands : r .run ≡ run
+  pub said : r .answer ≡ answer
   pub printed : Put out 0 (asLine text) out′ (r .length)
 
--- what a line comes to is given: where the run stands, what was lent, and what is printed
+-- what a line comes to is given: where the run stands, the answer, what was lent, and what is printed
 pub record Comes (t : Turn) (before after : Lent) (out out′ : List ℕ) (r : Shown) : Type 0 where
   pub stands : r .run ≡ t .run
+  pub said : r .answer ≡ t .answer
   pub leaves : Leaves (t .left) before after
   pub printed : Put out 0 (t .printed) out′ (r .length)
 

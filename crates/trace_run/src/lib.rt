@@ -37,6 +37,7 @@ ghost use lib.ListN.{length, take};
 ghost use Rattle.record.specs.Shape.{shapedOf};
 ghost use Rattle.making.specs.declared.Made.the-variants as made;
 ghost use Rattle.answer_text.specs.Texts.{refusalText};
+ghost use Rattle.step.specs.declared.Answer.the-variants.{Refused};
 ghost use Rattle.trace_run.specs.Run.{countedFrom, placedAs, begunOn, begunBy, goneOn, turn};
 ghost use Rattle.trace_run.specs.Run.{Prints, ComesTo, Serves, SlotFits};
 
@@ -47,9 +48,11 @@ pub enum Run {
     Ended,
 }
 
-// Where the run stands after a line, and how many bytes of output the line has put at the start of a buffer.
+// Where the run stands after a line, the line's answer, and how many bytes of output it has put at the start of a
+// buffer. A bad line, and a device that is not made, are refused; a line after the end has `Done` for an answer.
 pub struct Shown {
     pub run: Run,
+    pub answer: Answer,
     pub length: usize,
 }
 
@@ -133,12 +136,13 @@ fn put_answer(out: &mut [u8], s: Answered, mem: &[u8]) -> usize
             s.device.config.requested_size,
             s.device.config.usable_region_size,
         ),
-        Answer::Served(_) => put_response(
+        Answer::Served(reply) => put_response(
             out,
             read_u16(mem, 96),
             read_u16(mem, 104),
             s.device.config.plugged_size,
             s.device.config.usable_region_size,
+            reply.why,
         ),
         Answer::Unserved(_) => 0,
         Answer::Done => 0,
@@ -147,11 +151,12 @@ fn put_answer(out: &mut [u8], s: Answered, mem: &[u8]) -> usize
 
 // Prints a refusal.
 fn refuse(run: Run, out: &mut [u8], number: u64) -> Shown
-    ensures { λ r. ⌜ Prints run (refusalText number) (now (out .entry)) r (now (out .exit)) ⌝ }
+    ensures { λ r. ⌜ Prints run (Refused number) (refusalText number) (now (out .entry)) r (now (out .exit)) ⌝ }
 {
     let end = put_refusal(out, number);
     Shown {
         run: run,
+        answer: Answer::Refused(number),
         length: put(out, end, b'\n'),
     }
 }
@@ -159,12 +164,15 @@ fn refuse(run: Run, out: &mut [u8], number: u64) -> Shown
 // Prints an answer.
 fn answer(run: Run, s: Answered, mem: &[u8], out: &mut [u8]) -> Shown
     ensures { λ r. ⌜
-        Prints run (answerText (s .answer) (s .device) (now (mem .entry))) (now (out .entry)) r (now (out .exit))
+        Prints run (s .answer) (answerText (s .answer) (s .device) (now (mem .entry)))
+        (now (out .entry)) r (now (out .exit))
         ⌝ }
 {
     let end = put_answer(out, s, mem);
+    let answer = s.answer;
     Shown {
         run: run,
+        answer: answer,
         length: put(out, end, b'\n'),
     }
 }
@@ -339,6 +347,7 @@ pub fn serve(
         Run::On(device) => later_line(device, read, bitmap, table, mem, out),
         Run::Ended => Shown {
             run: Run::Ended,
+            answer: Answer::Done,
             length: 0,
         },
     }

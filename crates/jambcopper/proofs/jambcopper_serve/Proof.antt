@@ -2,7 +2,7 @@
 -- `jambcopper::jambcopper_serve` meets its contract: 12 where there is no record, or no queue; no head that is taken; or the device's request, and the head by its answer.
 use native.Mathlib.Omega.{arith}
 use mathlib.Core.Path.{refl}
-use Rattle.step.proofs.Lengths.{served-short}
+use Rattle.step.proofs.Served.{served-short}
 use Rattle.queue.proofs.Turns.{told-as, walk-as}
 use Rattle.jambcopper.proofs.QueueWays.{no-record, no-queue, unmoved-told, about-told}
 use borrow.Author.Needs.{needs}

@@ -2,7 +2,7 @@
 -- `jambcopper::jambcopper_serve_answer` meets its contract: 12 where there is no record, or no queue; a number of the queue's; or the device's answer, and the head that is out by it.
 use mathlib.Core.Path.{refl}
 use borrow.Author.Tests.{eq-eqb, ne-eqb}
-use Rattle.step.proofs.Lengths.{answered-short}
+use Rattle.step.proofs.Served.{answered-short}
 use Rattle.queue.specs.Queue.{answers}
 use Rattle.queue.proofs.Turns.{refused-as, heard-as}
 use Rattle.jambcopper.proofs.QueueWays.{no-record, no-queue, unmoved-told, aside-told, about-told}

@@ -29,7 +29,7 @@ pending-to-requires : tie.Need-pending-to-requires
 pending-to-requires c κs = search needs
 
 add-unplug-all : tie.Need-add-unplug-all
-add-unplug-all c = 
+add-unplug-all c =
     let pre = c .before .before .before .before .before .before .before .before .before .before .before .before .before .pre in
     omega (arith, shaped-is _ (pre .0), discard-one-is _ (pre .0) _ _ (pre .1))
 
@@ -43,7 +43,7 @@ same-length-3 : tie.Need-same-length-3
 same-length-3 c = search needs
 
 returns-2 : tie.Need-returns-2
-returns-2 c = 
+returns-2 c =
     one-done _ _ _ (c .before .before .before .before .before .before .before .before .before .before .before .before .before .before .before .before .pre .0) _ _ _ _ _ (c .before .before .before .before .before .before .before .before .before .before .before .before .if1 .left) _ (c .before .before .before .before .before .before .before .before .before .set-range .ensures) _ (c .before .before .before .before .before .before .before .before .before .before .before .saturating-sub .ensures) _ _
     (c .before .before .before .before .before .before .plugged-to .ensures) (c .before .before .before .before .before .pending-to .ensures) (c .before .before .unplug-all .ensures)
 

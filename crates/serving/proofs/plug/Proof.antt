@@ -50,7 +50,7 @@ set-range-requires : tie.Need-set-range-requires
 set-range-requires c κs = search needs
 
 add-plugged-to : tie.Need-add-plugged-to
-add-plugged-to c = 
+add-plugged-to c =
     let shape = shaped-is _ (c .before .before .before .before .before .before .before .before .before .before .before .before .before .before .before .before .before .pre) in
     omega (arith, shape, rw (shape .block-size) at (c .before .before .before .before .before .before .before .before .before .before .before .before .bytes-of .ensures))
 

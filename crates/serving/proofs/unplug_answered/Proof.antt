@@ -19,7 +19,7 @@ returns : tie.Need-returns
 returns c = unplug-fails _ _ _ (c .before .before .before .before .before .before .before .before .pre .0) _ _ _ _ _ _ (c .before .before .before .before .if1 .taken) (c .before .before .stopped .ensures)
 
 mul-left : tie.Need-mul-left
-mul-left c = 
+mul-left c =
     let entry = c .before .before .before .before .before in
     let a = entry .args in
     let shape = shaped-is _ (entry .pre .0) in
@@ -27,7 +27,7 @@ mul-left c =
     omega (arith, shape, same, discard-is _ (entry .pre .0) _ _ _ (entry .pre .1))
 
 sub-left : tie.Need-sub-left
-sub-left c = 
+sub-left c =
     let entry = c .before .before .before .before .before .before in
     let a = entry .args in
     let shape = shaped-is _ (entry .pre .0) in

@@ -1,9 +1,9 @@
 -- SPDX-License-Identifier: Apache-2.0 AND BSD-3-Clause
 -- `trace_run::put_answer` meets its contract: each answer has its own line.
-use borrow.Author.Needs.{needs}
 use mathlib.Core.Path.{refl}
 use native.Mathlib.Omega.{arith}
 use Rattle.trace_run.specs.Ops.{answerText}
+use borrow.Author.Needs.{needs}
 use Rattle.trace_run.proofs.put_answer.Statement.{statement}
 use Rattle.trace_run.proofs.put_answer.Tie as tie
 
@@ -34,8 +34,8 @@ enum-told c = search needs
 put-sized-requires : tie.Need-put-sized-requires
 put-sized-requires c κs = search needs
 
-enum-told-2 : tie.Need-enum-told-2
-enum-told-2 c = search needs
+enum-known-answer-3 : tie.Need-enum-known-answer-3
+enum-known-answer-3 c = search needs
 
 read-u16-requires : tie.Need-read-u16-requires
 read-u16-requires c κs = search needs
@@ -46,11 +46,11 @@ read-u16-requires-2 c κs = search needs
 put-response-requires : tie.Need-put-response-requires
 put-response-requires c κs = search needs
 
+enum-told-2 : tie.Need-enum-told-2
+enum-told-2 c = search needs
+
 enum-told-3 : tie.Need-enum-told-3
 enum-told-3 c = search needs
-
-enum-told-4 : tie.Need-enum-told-4
-enum-told-4 c = search needs
 
 same-length : tie.Need-same-length
 same-length c = search needs
@@ -85,15 +85,15 @@ same-length-5 c = search needs
 
 returns-5 : tie.Need-returns-5
 unfolding answerText
-returns-5 c = rw (c .before .before .before .before .before .before .enum-told2 .given .1, ← c .before .before .before .before .read-u16 .ensures, ← c .before .before .before .read-u162 .ensures) (c .before .before .put-response .ensures)
+returns-5 c = rw (c .before .before .before .before .before .before .before .answer3 .given .1, ← c .before .before .before .before .read-u16 .ensures, ← c .before .before .before .read-u162 .ensures) (c .before .before .put-response .ensures)
 
 returns-6 : tie.Need-returns-6
 unfolding answerText
-returns-6 c = rw (c .enum-told3 .given .1) (record { held = refl; next = omega arith })
+returns-6 c = rw (c .enum-told2 .given .1) (record { held = refl; next = omega arith })
 
 returns-7 : tie.Need-returns-7
 unfolding answerText
-returns-7 c = rw (c .enum-told4 .given .1) (record { held = refl; next = omega arith })
+returns-7 c = rw (c .enum-told3 .given .1) (record { held = refl; next = omega arith })
 
 pub put-answer-spec : {M : Type 1} → statement M
 put-answer-spec =
@@ -108,12 +108,12 @@ put-answer-spec =
     put-discard-requires
     enum-told
     put-sized-requires
-    enum-told-2
+    enum-known-answer-3
     read-u16-requires
     read-u16-requires-2
     put-response-requires
+    enum-told-2
     enum-told-3
-    enum-told-4
     same-length
     returns
     same-length-2

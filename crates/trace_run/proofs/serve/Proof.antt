@@ -57,7 +57,7 @@ returns-2 c = record { line = _; reads = c .before .before .before .before .befo
 
 returns-3 : tie.Need-returns-3
 unfolding turn
-returns-3 c = record { line = _; reads = c .before .before .read-line .ensures; comes = rw (c .enum-told2 .given .1) (ended-comes _ _ _ refl refl) }
+returns-3 c = record { line = _; reads = c .before .before .read-line .ensures; comes = rw (c .enum-told2 .given .1) (ended-comes _ _ _ refl refl refl) }
 
 pub serve-spec : {M : Type 1} → statement M
 serve-spec =
