@@ -271,7 +271,7 @@ module _ (d : Device) (e : shapedOf d ≡ true) (bs : List Bool) where
 -- the plug that is proposed, held by guest memory with room for the response, is acknowledged, and the driver reads the ACK
 pub ack-read : (w : World) → Ready w → (addr : GuestAddr) (n : ℕ) → planOf (w .device .config) (w .blocks) ≡ Plug addr n
     → (g : Guest) (descriptors head : ℕ) (status : GuestAddr) → HoldsRequest g descriptors head (plugOf addr n) status → reaches (g .mem) (g .base) (status .0) ≡ true
-    → ReadAt g status (step w (Request g descriptors head) .bytes) ack
+    → ReadAt g status (step w (Request g descriptors head) .bytes) (ack .response)
 ack-read w r addr n e g descriptors head status h room =
     let a = acknowledged-held w r addr n e g descriptors head status h in
     held-read w g descriptors head (plugOf addr n) status h ack (ap (λ (o : Outcome). o .answer) (a .outcome) ∙ rw room)
@@ -284,7 +284,7 @@ pub turn : (w : World) → Ready w → w .device .config .«node_id» < 65536
     → let p = in66 (g .base) in
     let g′ = laidIn g p (plugOf addr n) in
     let o = step w (Request g′ (p .descriptors) (p .head)) in
-    PlugAcknowledged w (addr .0) n (p .status .0) g′ o × ReadAt g′ (p .status) (o .bytes) ack
+    PlugAcknowledged w (addr .0) n (p .status .0) g′ o × ReadAt g′ (p .status) (o .bytes) (ack .response)
 unfolding reaches
 turn w r node buffer long got reads c is addr n e g room low =
     let p = in66 (g .base) in

@@ -644,7 +644,7 @@ module _ (w : World) (req : VirtioMemReq) (why status : ℕ) (g : Guest) where
   unfolding response
   error-always-no-plug can p = let e = p .granted can in let z : _≡_ {A = ℕ} 0 1 = cc in omega arith
 
-  pub error-always-no-unplug : CanUnplug w req → sizeOf w req ≤ plugged w → Unplug w req (served error status w g) → ⊥
+  pub error-always-no-unplug : CanUnplug w req → sizeOf w req ≤ plugged w → Unplug w req (served (error why) status w g) → ⊥
   error-always-no-unplug can enough p = let e = p .granted can enough in let z : _≡_ {A = ℕ} 0 1 = cc in omega arith
 
   pub error-always-no-unplug-all : (from i : ℕ) → Lowest w from i → CanDiscard w i → UnplugsFrom w from (served (error why) status w g) → ⊥

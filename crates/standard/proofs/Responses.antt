@@ -146,7 +146,7 @@ NoByte c o = isConfigCall c ≡ false → responseOf (o .answer) ≡ none → o 
 
 says-nothing : (g : Guest) (status : ℕ) (o : Outcome) → Says g status o → responseOf (o .answer) ≡ none → o .bytes ≡ g .mem
 unfolding response
-says-nothing g status o (Responded resp a b) n = let y : some (resp .«resp_type») ≡ none = sym (ap responseOf a) ∙ n in let z : _≡_ {A = ℕ} 0 1 = cc in absurd (omega arith)
+says-nothing g status o (Responded v a b) n = let y : some (v .response .«resp_type») ≡ none = sym (ap responseOf a) ∙ n in let z : _≡_ {A = ℕ} 0 1 = cc in absurd (omega arith)
 says-nothing g status o (Silent _ b) n = b
 
 no-byte : (w : World) → Ways w NoByte
