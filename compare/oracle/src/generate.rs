@@ -13,7 +13,7 @@ use std::rc::Rc;
 use crate::host::Answer;
 use crate::random::Random;
 use crate::rust::{Config, Rust, BLOCK, MAP_REGION};
-use crate::trace::{First, Op, Outcome, Run, Want, MAX_SLOT};
+use crate::trace::{without_why, First, Op, Outcome, Run, Want, MAX_SLOT};
 
 const MIB: u64 = 1 << 20;
 const GIB: u64 = 1 << 30;
@@ -54,10 +54,10 @@ pub struct Trace {
 }
 
 impl Trace {
-    /// Bytes of both parts.
+    /// Bytes of both parts, without the reasons: so a sample's choice is that of mem.rs alone.
     pub fn bytes(&self) -> usize {
         let lines = self.input.iter().chain(&self.output);
-        lines.map(|line| line.len() + 1).sum()
+        lines.map(|line| without_why(line).len() + 1).sum()
     }
 
     fn happened(&mut self, kind: String) {

@@ -26,6 +26,8 @@ pub mod chains;
 pub mod generate;
 pub mod guest;
 pub mod host;
+pub mod lines;
 pub mod random;
 pub mod rust;
 pub mod trace;
+pub mod why;

@@ -8,7 +8,8 @@ use std::rc::Rc;
 
 use crate::guest::Guest;
 use crate::host::{answering, Answer, Question};
-use crate::rust::{Rust, BLOCK, ERROR, MAP_REGION, PLUG, STATE, UNPLUG, UNPLUG_ALL};
+use crate::rust::{Config, Rust, BLOCK, ERROR, MAP_REGION, PLUG, STATE, UNPLUG, UNPLUG_ALL};
+use crate::why::{self, Asked};
 
 /// The greatest first slot.
 pub const MAX_SLOT: u64 = 4_294_966_000;
@@ -177,8 +178,18 @@ pub enum Outcome {
         state: u16,
         plugged: u64,
         usable: u64,
+        /// By the model, which mem.rs is not; none where it does not fit what mem.rs responds.
+        why: Option<u64>,
     },
     Refuse(u64),
+}
+
+/// A line of the output without the reason, which no line of mem.rs has: all but that is its own.
+pub fn without_why(line: &str) -> &str {
+    match line.rsplit_once(" why=") {
+        Some((rest, _)) => rest,
+        None => line,
+    }
 }
 
 impl fmt::Display for Outcome {
@@ -192,14 +203,51 @@ impl fmt::Display for Outcome {
                 state,
                 plugged,
                 usable,
+                why,
             } => {
+                // A question mark is what no program prints, and so differs from all of them.
+                let why = why.map_or("?".to_string(), |why| why.to_string());
                 write!(
                     f,
-                    "resp={resp} state={state} plugged={plugged} usable={usable}"
+                    "resp={resp} state={state} plugged={plugged} usable={usable} why={why}"
                 )
             }
             Outcome::Refuse(n) => write!(f, "refuse={n}"),
         }
+    }
+}
+
+/// What the reason of a request is worked out from: a device as it was before it.
+struct Before {
+    config: Config,
+    several: bool,
+    blocks: Vec<bool>,
+    rows: Vec<(u32, Option<u64>)>,
+}
+
+impl Before {
+    fn of(device: &mut Rust) -> Before {
+        Before {
+            config: device.config(),
+            several: device.multi(),
+            blocks: device.blocks(),
+            rows: device.rows(),
+        }
+    }
+
+    /// With these answers of the host to its discards.
+    fn why(&self, asked: Asked, granted: &[bool]) -> Option<u64> {
+        let device = why::Device {
+            start: self.config.start,
+            usable: self.config.usable,
+            plugged: self.config.plugged,
+            requested: self.config.requested,
+            several: self.several,
+            blocks: self.blocks.len() as u64,
+            is_plugged: &|block| self.blocks[block as usize],
+            host: &|row| self.rows[row as usize].1,
+        };
+        device.why(asked, granted)
     }
 }
 
@@ -226,7 +274,7 @@ impl Run {
     /// Places it, and lends it a guest's memory with a table at 4096.
     pub fn place(&mut self, first: &First) -> Outcome {
         let (addr, slot) = (first.addr, first.slot as u32);
-        let placed = self.asked(VecDeque::new(), |device| device.place_at(addr, slot));
+        let placed = self.asked(|device| device.place_at(addr, slot));
         if placed.is_ok() {
             let guest = Guest::new(4096, 4096, 4096).expect("a small range");
             assert!(self.device.activate(guest), "a placed device is activated");
@@ -251,7 +299,7 @@ impl Run {
                 self.request(UNPLUG_ALL, 0, 0, offsets)
             }
             Op::Size { mib } => {
-                let done = self.asked(VecDeque::new(), |device| device.set_requested_size(mib));
+                let done = self.asked(|device| device.set_requested_size(mib));
                 self.sized(done)
             }
             Op::Host { .. } => panic!("no host call is pending"),
@@ -268,6 +316,7 @@ impl Run {
                 resp: ERROR,
                 state,
                 usable,
+                why,
                 ..
             } if op == Op::UnplugAll => {
                 let refused = Outcome::Response {
@@ -275,6 +324,7 @@ impl Run {
                     state,
                     plugged: self.device.plugged_by_blocks(),
                     usable,
+                    why,
                 };
                 (refused, false)
             }
@@ -294,25 +344,40 @@ impl Run {
     }
 
     fn request(&mut self, kind: u16, addr: u64, blocks: u16, offsets: VecDeque<u64>) -> Outcome {
-        let served = self.asked(offsets, |device| device.request(kind, addr, blocks));
+        let before = Before::of(&mut self.device);
+        let call = |device: &mut Rust| device.request(kind, addr, blocks);
+        let (served, granted) = self.asked_for_discards(offsets, call);
         assert_eq!(served.length, 10, "a trace's response lies inside");
         let config = self.device.config();
+        let why = Asked::of(kind, addr, blocks).and_then(|asked| before.why(asked, &granted));
         Outcome::Response {
             resp: served.resp,
             state: served.state,
             plugged: config.plugged,
             usable: config.usable,
+            why: why.filter(|&why| (why == 0) == (served.resp != ERROR)),
         }
     }
 
-    /// Runs a call whose questions the run answers. `offsets` are those of the discards it may ask
-    /// for, in order: mem.rs names host addresses alone, and each is held against its row.
-    fn asked<T>(&mut self, mut offsets: VecDeque<u64>, call: impl FnOnce(&mut Rust) -> T) -> T {
+    /// Runs a call whose questions the run answers.
+    fn asked<T>(&mut self, call: impl FnOnce(&mut Rust) -> T) -> T {
+        self.asked_for_discards(VecDeque::new(), call).0
+    }
+
+    /// The same. `offsets` are those of the discards it may ask for, in order: mem.rs names host addresses
+    /// alone, and each is held against its row. Which of them the host has granted is told too.
+    fn asked_for_discards<T>(
+        &mut self,
+        mut offsets: VecDeque<u64>,
+        call: impl FnOnce(&mut Rust) -> T,
+    ) -> (T, Vec<bool>) {
         let (rows, multi) = match offsets.is_empty() {
             true => (Vec::new(), false),
             false => (self.device.rows(), self.device.multi()),
         };
         let answers = self.answers.clone();
+        let granted = Rc::new(RefCell::new(Vec::new()));
+        let noted = granted.clone();
         let answerer = move |question| {
             let want = match question {
                 Question::Create { guest, size, slot } => Want::Create { guest, size, slot },
@@ -327,10 +392,15 @@ impl Run {
                     Want::Discard { offset, size, host }
                 }
             };
-            (answers.borrow_mut())(want)
+            let answer = (answers.borrow_mut())(want);
+            if let Want::Discard { .. } = want {
+                noted.borrow_mut().push(answer.is_some());
+            }
+            answer
         };
         let device = &mut self.device;
-        answering(answerer, || call(device))
+        let out = answering(answerer, || call(device));
+        (out, granted.take())
     }
 }
 

@@ -8,19 +8,23 @@ use std::process::{exit, Command, Stdio};
 
 use oracle::chains::Chain;
 use oracle::generate::{trace, LONG};
-use oracle::trace::replayed;
+use oracle::lines::{traces_of, with_reasons};
+use oracle::trace::{replayed, without_why};
 
 const HELP: &str = "\
 compare sample FILE                         mem.rs prints what the sample says
 compare sample FILE PROGRAM [ARG..]         so does PROGRAM, which reads a trace on its input
+compare reasons FILE                        each response of the sample has the reason that lines and answers tell
 compare chains FILE                         mem.rs serves each chain as the file says
-compare random SEED COUNT PROGRAM [ARG..]   PROGRAM and mem.rs print the same, seeds counting up";
+compare random SEED COUNT PROGRAM [ARG..]   PROGRAM and mem.rs print the same, seeds counting up
+The reason, why=N, is a model's: mem.rs has none. What differs in it alone is told apart.";
 
 fn main() {
     let args: Vec<String> = env::args().skip(1).collect();
     let args: Vec<&str> = args.iter().map(|arg| arg.as_str()).collect();
     let same = match args[..] {
         ["sample", file] => sample(file, |input| replayed(input).unwrap_or_else(|e| vec![e])),
+        ["reasons", file] => reasons(file),
         ["chains", file] => chains(file),
         ["sample", file, ref program @ ..] => sample(file, |input| printed(program, input)),
         ["random", seed, count, ref program @ ..] if !program.is_empty() => {
@@ -63,6 +67,27 @@ fn printed(program: &[&str], input: &[String]) -> Vec<String> {
     split(&String::from_utf8_lossy(&output.stdout))
 }
 
+/// How two outputs differ: in what mem.rs prints, or in the reason alone, which it has not.
+#[derive(Clone, Copy, PartialEq, Eq)]
+enum Differs {
+    Lines,
+    ReasonAlone,
+}
+
+fn differs(one: &[String], other: &[String]) -> Option<Differs> {
+    let lines = |of: &[String]| -> Vec<String> {
+        let lines = of.iter().map(|line| without_why(line).to_string());
+        lines.collect()
+    };
+    if one == other {
+        None
+    } else if lines(one) == lines(other) {
+        Some(Differs::ReasonAlone)
+    } else {
+        Some(Differs::Lines)
+    }
+}
+
 /// Shows a trace on which two outputs differ.
 fn show(input: &[String], rust: &[String], theirs: &[String]) {
     println!("{}", input.join("\n"));
@@ -80,18 +105,33 @@ fn show(input: &[String], rust: &[String], theirs: &[String]) {
 
 fn sample(file: &str, run: impl Fn(&[String]) -> Vec<String>) -> bool {
     let text = fs::read_to_string(file).unwrap_or_else(|e| panic!("{file}: {e}"));
-    let (mut traces, mut differ) = (0, 0);
-    for block in text.split_terminator("\n\n") {
-        let (input, output) = block.split_once("\n--\n").expect("input, `--`, output");
-        let (input, expected) = (split(input), split(output));
+    let (mut traces, mut differ, mut reasons) = (0, 0, 0);
+    for (input, expected) in traces_of(&text) {
         let got = run(&input);
         traces += 1;
-        if got != expected {
+        match differs(&expected, &got) {
+            None => continue,
+            Some(Differs::Lines) => differ += 1,
+            Some(Differs::ReasonAlone) => reasons += 1,
+        }
+        show(&input, &expected, &got);
+    }
+    println!("{traces} traces of the sample, {differ} differ; {reasons} in why= alone");
+    (differ, reasons) == (0, 0)
+}
+
+fn reasons(file: &str) -> bool {
+    let text = fs::read_to_string(file).unwrap_or_else(|e| panic!("{file}: {e}"));
+    let (mut responses, mut differ) = (0, 0);
+    for (input, output) in traces_of(&text) {
+        let told = with_reasons(&input, &output).unwrap_or_else(|e| vec![e]);
+        responses += told.iter().filter(|line| line.contains(" why=")).count();
+        if told != output {
             differ += 1;
-            show(&input, &expected, &got);
+            show(&input, &told, &output);
         }
     }
-    println!("{traces} traces of the sample, {differ} differ");
+    println!("{responses} responses by lines and answers alone, {differ} traces differ");
     differ == 0
 }
 
@@ -116,22 +156,30 @@ fn chains(file: &str) -> bool {
 fn random(seed: u64, count: u64, run: impl Fn(&[String]) -> Vec<String>) -> bool {
     for seed in seed..seed + count {
         let made = trace(seed, LONG);
-        if run(&made.input) != made.output {
-            println!("seed {seed} differs; made shorter, `<` mem.rs, `>` the other:");
-            let input = shorter(made.input, &run);
+        if let Some(how) = differs(&made.output, &run(&made.input)) {
+            let how_much = match how {
+                Differs::Lines => "differs",
+                Differs::ReasonAlone => "differs in why= alone",
+            };
+            println!("seed {seed} {how_much}; made shorter, `<` mem.rs, `>` the other:");
+            let input = shorter(made.input, how, &run);
             let rust = replayed(&input).expect("a trace that can be compared");
             show(&input, &rust, &run(&input));
             return false;
         }
     }
-    println!("{count} random traces from seed {seed}, 0 differ");
+    println!("{count} random traces from seed {seed}, 0 differ, 0 in why= alone");
     true
 }
 
-/// Leaves lines out, as long as the outputs still differ.
-fn shorter(mut input: Vec<String>, run: impl Fn(&[String]) -> Vec<String>) -> Vec<String> {
+/// Leaves lines out, as long as the outputs still differ so.
+fn shorter(
+    mut input: Vec<String>,
+    how: Differs,
+    run: impl Fn(&[String]) -> Vec<String>,
+) -> Vec<String> {
     let differs = |input: &[String]| match replayed(input) {
-        Ok(rust) => run(input) != rust,
+        Ok(rust) => differs(&rust, &run(input)) == Some(how),
         Err(_) => false,
     };
     let mut at = input.len();

@@ -9,6 +9,7 @@ use std::process::exit;
 
 use oracle::chains::chain;
 use oracle::generate::{trace, Trace, LONG, SHORT};
+use oracle::lines::{traces_of, with_reasons};
 use oracle::random::Random;
 use oracle::trace::replayed;
 
@@ -16,6 +17,9 @@ const HELP: &str = "\
 generate files SEED COUNT DIR    COUNT traces as DIR/SEED.in and DIR/SEED.rust, seeds counting up
 generate sample EDGES SEED COUNT the traces of the file EDGES, then short random ones chosen for their
                                  variety, COUNT together, on the standard output
+generate reasons FILE            the sample of the file, with the reason of each response by its lines and answers
+                                 alone, likewise
+generate reasons TRACE ANSWERS   the answers of a trace, likewise
 generate chains SEED COUNT       COUNT chains, each with its outcome on the next line, likewise";
 
 /// Candidates for each trace of a sample.
@@ -27,6 +31,17 @@ fn main() {
     match args[..] {
         ["files", seed, count, dir] => files(number(seed), number(count), Path::new(dir)),
         ["sample", edges, seed, count] => sample(edges, number(seed), number(count)),
+        ["reasons", file] => {
+            for (input, output) in traces_of(&read(file)) {
+                print_trace(&input, &reasons(&input, &output));
+            }
+        }
+        ["reasons", trace, answers] => {
+            let split =
+                |text: String| -> Vec<String> { text.lines().map(str::to_string).collect() };
+            let (input, output) = (split(read(trace)), split(read(answers)));
+            print!("{}", lines(&reasons(&input, &output)));
+        }
         ["chains", seed, count] => chains(number(seed), number(count)),
         _ => {
             eprintln!("{HELP}");
@@ -39,6 +54,18 @@ fn number(text: &str) -> u64 {
     text.parse().unwrap_or_else(|_| {
         eprintln!("{text} is no number\n{HELP}");
         exit(2)
+    })
+}
+
+fn read(file: &str) -> String {
+    fs::read_to_string(file).unwrap_or_else(|e| panic!("{file}: {e}"))
+}
+
+/// The answers with their reasons.
+fn reasons(input: &[String], output: &[String]) -> Vec<String> {
+    with_reasons(input, output).unwrap_or_else(|wrong| {
+        eprintln!("{wrong}");
+        exit(1)
     })
 }
 
@@ -63,7 +90,7 @@ fn print_trace(input: &[String], output: &[String]) {
 
 /// Traces written by hand, an empty line between them; a line with `#` is a remark.
 fn edges(file: &str) -> Vec<Vec<String>> {
-    let text = fs::read_to_string(file).unwrap_or_else(|e| panic!("{file}: {e}"));
+    let text = read(file);
     let trace = |block: &str| {
         let lines = block.lines().filter(|line| !line.starts_with('#'));
         lines.map(str::to_string).collect()
