@@ -53,7 +53,7 @@ function plug_in_parts(line, answer,    op, got, plugged, i) {
         parts++
         plugged += size[i] * 4194304
         say("op=plug addr=" sprintf("%.0f", op["addr"] + first[i] * 4194304) " blocks=" size[i],
-            "resp=0 state=0 plugged=" sprintf("%.0f", plugged) " usable=" got["usable"])
+            "resp=0 state=0 plugged=" sprintf("%.0f", plugged) " usable=" got["usable"] " why=0")
     }
 }
 

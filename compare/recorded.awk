@@ -1,6 +1,6 @@
 # SPDX-License-Identifier: Apache-2.0 AND BSD-3-Clause
 # Holds a trace's output against a recorded one: awk -f fields.awk -f recorded.awk NAME.qemu OUTPUT
-# Every result line (all but want=) must agree in the fields that the recorded line names by cmp=.
+# Every result line (all but want=) must agree in the fields that the recorded line names by cmp=. The reason, why=, is in no recording.
 
 FNR == NR && /^#/ { next } # a request that the recording left out
 FNR == NR { recorded[++lines] = $0; next }
