@@ -61,6 +61,7 @@ struct host {
     int memfd;
     uint8_t *memory;
     unsigned refuse; /* which of the next discards is refused, from 1 on; 0 for none */
+    uint64_t why;    /* the last request's reason, which the guest is not told */
 };
 
 static void fail(const char *what)
@@ -131,6 +132,7 @@ static void serve_all(struct host *h)
             return;
         answer_all(h);
         expect(h->answer[JAMBCOPPER_ANSWER_KIND] == JAMBCOPPER_KIND_SERVED, "a request is not served");
+        h->why = h->answer[JAMBCOPPER_ANSWER_WHY];
         /* Here a host with vCPUs notifies the guest. */
     }
 }
@@ -193,6 +195,13 @@ static uint64_t ask(struct host *h, uint16_t type, uint64_t addr, uint16_t block
     uint64_t response = take(&h->guest);
     expect(h->guest.ring.used->idx == h->guest.taken, "the used ring has more than was asked");
     return response;
+}
+
+/* The guest asks for what is refused, and the host knows why. */
+static void ask_in_vain(struct host *h, uint16_t type, uint64_t addr, uint16_t blocks, uint64_t why, const char *what)
+{
+    expect(ask(h, type, addr, blocks) == VIRTIO_MEM_RESP_ERROR, what);
+    expect(h->why == why, "a refusal has another reason");
 }
 
 /* The guest reads its config. */
@@ -302,15 +311,18 @@ int main(void)
     print(&h, "unplugged 3 of 8");
 
     h.refuse = 1;
-    expect(ask(&h, VIRTIO_MEM_REQ_UNPLUG, REGION_START, 2) == VIRTIO_MEM_RESP_ERROR, "an unplug that the host refused");
+    ask_in_vain(&h, VIRTIO_MEM_REQ_UNPLUG, REGION_START, 2, JAMBCOPPER_WHY_FAILED_DISCARD,
+                "an unplug that the host refused");
     print(&h, "unplug host refused");
 
-    expect(ask(&h, VIRTIO_MEM_REQ_UNPLUG, REGION_START + block, 4) == VIRTIO_MEM_RESP_ERROR, "an unplug that is illegal");
+    ask_in_vain(&h, VIRTIO_MEM_REQ_UNPLUG, REGION_START + block, 4, JAMBCOPPER_WHY_BLOCK_STATE,
+                "an unplug that is illegal");
     print(&h, "unplug device refused");
 
     /* Of five blocks the first is given back: what is held and what is plugged go together, and there is room again. */
     h.refuse = 2;
-    expect(ask(&h, VIRTIO_MEM_REQ_UNPLUG_ALL, 0, 0) == VIRTIO_MEM_RESP_ERROR, "an unplug-all that the host refused");
+    ask_in_vain(&h, VIRTIO_MEM_REQ_UNPLUG_ALL, 0, 0, JAMBCOPPER_WHY_FAILED_DISCARD,
+                "an unplug-all that the host refused");
     print(&h, "unplug-all refused");
 
     expect(ask(&h, VIRTIO_MEM_REQ_PLUG, REGION_START + 8 * block, 12) == VIRTIO_MEM_RESP_ACK, "no plug again");
@@ -327,6 +339,7 @@ int main(void)
     expect(take(&h.guest) == VIRTIO_MEM_RESP_ACK, "no plug of three");
     expect(take(&h.guest) == VIRTIO_MEM_RESP_ACK, "no unplug of three");
     expect(take(&h.guest) == VIRTIO_MEM_RESP_ERROR, "a plug of what is plugged");
+    expect(h.why == JAMBCOPPER_WHY_BLOCK_STATE, "a plug of what is plugged has another reason");
     print(&h, "three requests at once");
 
     /* Blocks 3 to 7 are plugged, and 16 is what the guest is asked to have. */
@@ -346,7 +359,8 @@ int main(void)
                               length) == 0,
            "not restored");
     print(&other, "restored");
-    expect(ask(&other, VIRTIO_MEM_REQ_PLUG, REGION_START + block, 2) == VIRTIO_MEM_RESP_ERROR, "a plug that is illegal");
+    ask_in_vain(&other, VIRTIO_MEM_REQ_PLUG, REGION_START + block, 2, JAMBCOPPER_WHY_BLOCK_STATE,
+                "a plug that is illegal");
     expect(ask(&other, VIRTIO_MEM_REQ_PLUG, REGION_START + 2 * block, 3) == VIRTIO_MEM_RESP_ACK, "no plug elsewhere");
     print(&other, "plugged again");
     free(text);

@@ -140,6 +140,7 @@ extern "C" {
 #define JAMBCOPPER_ANSWER_STATE 6   /* served: the response's state, VIRTIO_MEM_STATE_.. */
 #define JAMBCOPPER_ANSWER_LENGTH 7  /* served: used length, 10, or 0 where the response could not be delivered */
 #define JAMBCOPPER_ANSWER_REASON 8  /* unserved: one of JAMBCOPPER_REASON_.. */
+#define JAMBCOPPER_ANSWER_WHY 8     /* served: one of JAMBCOPPER_WHY_.., also where the length is 0 */
 
 #define JAMBCOPPER_KIND_REFUSED 0  /* refused with the number */
 #define JAMBCOPPER_KIND_CREATE 1   /* the host is to map memory at the guest address */
@@ -236,6 +237,22 @@ extern "C" {
 #define JAMBCOPPER_REASON_NOT_WRITABLE 25    /* the second descriptor is not writable */
 #define JAMBCOPPER_REASON_STATUS_SHORT 26    /* the second descriptor's length is under 10 */
 #define JAMBCOPPER_REASON_INDIRECT 27        /* a descriptor has the indirect flag */
+
+/* ---- why a request is ERROR: the first of these that applies, in their order. The guest is not told. A state request
+ * has 1 to 6, an unplug-all 5 and 9 to 11. 9 and 10 take a map table that somebody else wrote: no run has them. */
+
+#define JAMBCOPPER_WHY_NONE 0            /* the response is no ERROR; NACK is decided before the range is looked at */
+#define JAMBCOPPER_WHY_ALIGNMENT 1       /* the address is not a multiple of 4 MiB */
+#define JAMBCOPPER_WHY_ZERO_BLOCKS 2     /* it is for no blocks */
+#define JAMBCOPPER_WHY_OVERFLOW 3        /* the address plus the size passes 2^64 - 1 */
+#define JAMBCOPPER_WHY_BELOW_START 4     /* the range begins below the start of the region */
+#define JAMBCOPPER_WHY_PAST_USABLE 5     /* the range begins at or past the end of the usable size */
+#define JAMBCOPPER_WHY_END_PAST_USABLE 6 /* the range begins inside the usable size and ends past it */
+#define JAMBCOPPER_WHY_BLOCK_STATE 7     /* a block is plugged already, or for an unplug is not plugged */
+#define JAMBCOPPER_WHY_CROSSED_BORDER 8  /* the range crosses a 2 GiB border of offsets, with several map regions */
+#define JAMBCOPPER_WHY_UNMAPPED_ROW 9    /* the row of the map table is not mapped */
+#define JAMBCOPPER_WHY_HOST_SUM 10       /* the row's host address, with offset and size, passes 2^64 - 1 */
+#define JAMBCOPPER_WHY_FAILED_DISCARD 11 /* the host could not discard */
 
 /* ---- the calls */
 
