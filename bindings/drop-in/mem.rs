@@ -414,8 +414,11 @@ impl<M: GuestMemory> Serving<'_, M> {
         succeeded(unsafe { libc::madvise(host, size, libc::MADV_REMOVE) })
     }
 
-    /// Logs what became of a chain.
+    /// Logs what became of a chain, and which ERROR it was.
     fn say(&self, answer: Answer) {
+        if let Answer::Served { why: Some(why), .. } = answer {
+            debug!(target: MEM_DRIVER_NAME, "{}: ERROR: {}", self.id, why);
+        }
         match answer {
             Answer::Unserved { reason: 0 } => {
                 debug!(target: MEM_DRIVER_NAME, "{}: a request of no known type", self.id);

@@ -209,6 +209,7 @@ impl Machine {
                 resp_type,
                 state,
                 length,
+                why,
             }) => [
                 5,
                 0,
@@ -218,7 +219,7 @@ impl Machine {
                 resp_type.into(),
                 state.into(),
                 length.into(),
-                0,
+                why.map_or(0, |why| why as u64),
             ],
         })
     }

@@ -41,6 +41,8 @@
 //! size change has ended ([`Device::set_requested_size`]). A host that goes over the rings itself, with
 //! [`Device::request`], puts each chain that has ended on the used ring with the length of the answer.
 //!
+//! A guest whose request is refused reads ERROR and no more. The answer tells the host which ERROR it was: [`Why`].
+//!
 //! # Threads
 //!
 //! A [`Device`] and a [`Queue`] are [`Send`] and not [`Sync`]. A call takes both by `&mut`, so that one thread at a time
@@ -79,9 +81,11 @@ mod queue;
 pub mod recorder;
 pub mod save;
 mod sys;
+mod why;
 
 pub use queue::Queue;
 use sys::{Lent, ANSWER_WORDS};
+pub use why::Why;
 
 /// The words of a record. `bindings/c/jambcopper.h` says what each one is.
 pub const RECORD_WORDS: usize = sys::RECORD_WORDS;
@@ -264,6 +268,8 @@ pub enum Answer {
         state: u16,
         /// 10, or 0 where the response could not be delivered.
         length: u32,
+        /// Why the type is ERROR; none where it is not. The guest is not told.
+        why: Option<Why>,
     },
 }
 
@@ -289,6 +295,7 @@ impl Answer {
                 resp_type: resp_type as u16,
                 state: state as u16,
                 length: length as u32,
+                why: Why::of(reason),
             },
             _ => unreachable!("the device answers with 1 to 5"),
         }

@@ -346,12 +346,16 @@ impl fmt::Display for Printed<'_> {
             }
             Ok(Answer::Sized) => write!(f, "sized=0 requested={requested} usable={usable}"),
             Ok(Answer::Served {
-                resp_type, state, ..
+                resp_type,
+                state,
+                why,
+                ..
             }) => {
                 let plugged = device.plugged_size();
+                let why = why.map_or(0, |why| why as u64);
                 write!(
                     f,
-                    "resp={resp_type} state={state} plugged={plugged} usable={usable}"
+                    "resp={resp_type} state={state} plugged={plugged} usable={usable} why={why}"
                 )
             }
             Ok(Answer::Unserved { .. }) => unreachable!("no line has such an answer"),

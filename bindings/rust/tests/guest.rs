@@ -4,12 +4,12 @@
 
 use jambcopper::driver::{plan, Config, Request, Response, CONFIG_BYTES, RESPONSE_BYTES};
 use jambcopper::{
-    Answer, Device, Error, HostAnswer, HostCall, BLOCK_SIZE, RECORD_WORDS, ROW_WORDS,
+    Answer, Device, Error, HostAnswer, HostCall, Why, BLOCK_SIZE, RECORD_WORDS, ROW_WORDS,
 };
 
 mod common;
 
-use common::{again, discard, placed, served, BASE, HOST, START};
+use common::{again, discard, in_vain, placed, served, BASE, HOST, START};
 
 const REQUEST: usize = 2048;
 const RESPONSE: usize = 2072;
@@ -61,7 +61,7 @@ fn the_whole_example() {
     assert_eq!((device.plugged_size(), device.bitmap()[0]), (4_194_304, 2));
     assert_eq!(
         device.host_answer(&mut mem, BASE, HostAnswer::Failed),
-        Ok(served(3, 0))
+        Ok(in_vain(Why::FailedDiscard))
     );
     let response = Response {
         resp_type: Response::ERROR,

@@ -2,13 +2,13 @@
 //! A guest's queue over the static library: which head is taken, what is refused, and what stands in the used ring.
 
 use jambcopper::driver::Request;
-use jambcopper::{Answer, Device, Error, HostAnswer, Queue, BLOCK_SIZE, QUEUE_WORDS};
+use jambcopper::{Answer, Device, Error, HostAnswer, Queue, Why, BLOCK_SIZE, QUEUE_WORDS};
 
 mod common;
 #[path = "common/rings.rs"]
 mod rings;
 
-use common::{again, discard, placed, served, BASE, HOST, START};
+use common::{again, discard, in_vain, placed, served, BASE, HOST, START};
 use rings::{Machine, AVAILABLE, MEMORY, USED};
 
 #[test]
@@ -141,6 +141,7 @@ fn every_head_is_reported_with_its_length() {
         (128, Answer::Unserved { reason: 21 }, 0),
         (65_535, Answer::Unserved { reason: 21 }, 0),
         (2, Answer::Unserved { reason: 0 }, 0), // a type that is none
+        (4, in_vain(Why::Alignment), 10),
     ] {
         let mut machine = Machine::new();
         machine.lay(0, Request::state(START, 1));
@@ -150,6 +151,7 @@ fn every_head_is_reported_with_its_length() {
             ..Request::state(START, 1)
         };
         machine.lay(2, none);
+        machine.lay(4, Request::plug(START + 1, 1));
         machine.offer(head);
         assert_eq!(machine.serve(), Ok(Some(told)), "head {head}");
         assert_eq!(machine.used(0), (head.into(), length));

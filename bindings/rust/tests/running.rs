@@ -8,14 +8,14 @@ use std::ops::RangeInclusive;
 
 use jambcopper::driver::Request;
 use jambcopper::guest::{BadRegion, GuestMemory, Regions};
-use jambcopper::{Answer, Device, Error, HostAnswer, Queue, BLOCK_SIZE};
+use jambcopper::{Answer, Device, Error, HostAnswer, Queue, Why, BLOCK_SIZE};
 
 mod common;
 #[allow(dead_code)] // what the direct calls' tests need more
 #[path = "common/rings.rs"]
 mod rings;
 
-use common::{again, discard, served, BASE, START};
+use common::{again, discard, in_vain, served, BASE, START};
 use rings::{Machine, AVAILABLE, EXCHANGE, EXCHANGES, MEMORY, USED};
 
 /// What was read or written: where, counted from the memory's beginning, and the bytes.
@@ -292,12 +292,13 @@ fn a_result_is_that_of_the_bytes_that_were_read() {
             told_of.push(told);
         }
     }
-    // Empty, refused, no request, a plug, an unplug-all and a state were among them.
+    // Empty, refused, no request, a plug, one of no blocks, an unplug-all and a state were among them.
     for told in [
         Ok(None),
         Err(Error::BadIndex),
         Ok(Some(Answer::Unserved { reason: 21 })),
         Ok(Some(served(0, 0))),
+        Ok(Some(in_vain(Why::ZeroBlocks))),
         Ok(Some(discard(0))),
         Ok(Some(served(0, 2))),
     ] {

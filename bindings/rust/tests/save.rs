@@ -4,10 +4,10 @@
 
 mod common;
 
-use common::{again, discard, placed, served, BASE, HOST, START};
+use common::{again, discard, in_vain, placed, served, BASE, HOST, START};
 use jambcopper::driver::{Request, Response};
 use jambcopper::save::{new_to_old, old_to_new, Fields};
-use jambcopper::{Answer, Device, Error, HostAnswer, BLOCK_SIZE};
+use jambcopper::{Answer, Device, Error, HostAnswer, Why, BLOCK_SIZE};
 
 const MIB: u64 = 1 << 20;
 const TIB: u64 = 1 << 40;
@@ -39,6 +39,7 @@ const ACK: Answer = Answer::Served {
     resp_type: Response::ACK,
     state: 0,
     length: 10,
+    why: None,
 };
 
 /// The device of the tests with blocks 1 and 6 to 7 plugged.
@@ -72,7 +73,7 @@ fn a_device_is_saved_restored_and_used_again() {
         assert_eq!(full, served(Response::NACK, 0));
         assert_eq!(
             ask(&mut device, Request::plug(address(6), 1)),
-            served(Response::ERROR, 0)
+            in_vain(Why::BlockState)
         );
         assert_eq!(ask(&mut device, Request::plug(address(8), 1)), ACK);
         assert!(device

@@ -6,12 +6,17 @@ use std::ops::Range;
 
 use jambcopper::driver::{Request, Response, RESPONSE_BYTES};
 use jambcopper::guest::GuestMemory;
-use jambcopper::{Answer, Device, Error, HostAnswer, HostCall, BLOCK_SIZE, MAP_REGION_SIZE};
+use jambcopper::{Answer, Device, Error, HostAnswer, HostCall, Why, BLOCK_SIZE, MAP_REGION_SIZE};
 
 const MIB: u64 = 1 << 20;
 
 /// A request, and where its response goes.
 pub type Asked = (Request, u64);
+
+/// A response's type, and why it is ERROR.
+type Verdict = (u16, Option<Why>);
+
+const ACK: Verdict = (Response::ACK, None);
 
 /// What a device must be.
 pub struct Account {
@@ -88,24 +93,20 @@ impl Account {
     pub fn asked(&mut self, asked: Asked, memory: &impl GuestMemory) -> Answer {
         let (request, _) = asked;
         match request.request_type {
-            Request::PLUG => {
-                let verdict = self.verdict(&request);
-                if verdict == Response::ACK {
-                    let range = self.range(&request).expect("a legal range");
-                    self.blocks[range].fill(true);
+            Request::PLUG => match self.change(&request) {
+                Ok(blocks) => {
+                    self.blocks[blocks].fill(true);
+                    served(memory, asked, ACK, 0)
                 }
-                served(memory, asked, verdict, 0)
-            }
-            Request::UNPLUG => match self.verdict(&request) {
-                Response::ACK => {
-                    let range = self.range(&request).expect("a legal range");
-                    self.wants_discard(range, asked)
-                }
-                verdict => served(memory, asked, verdict, 0),
+                Err(verdict) => served(memory, asked, verdict, 0),
+            },
+            Request::UNPLUG => match self.change(&request) {
+                Ok(blocks) => self.wants_discard(blocks, asked),
+                Err(verdict) => served(memory, asked, verdict, 0),
             },
             Request::UNPLUG_ALL => self.unplug_next(asked, memory),
             Request::STATE => {
-                let verdict = self.verdict(&request);
+                let verdict = self.range(&request).map_or_else(error, |_| ACK);
                 served(memory, asked, verdict, self.state(&request))
             }
             _ => Answer::Unserved { reason: 0 },
@@ -128,10 +129,12 @@ impl Account {
                 self.blocks[blocks].fill(false);
                 Ok(match asked.0.request_type {
                     Request::UNPLUG_ALL => self.unplug_next(asked, memory),
-                    _ => served(memory, asked, Response::ACK, 0),
+                    _ => served(memory, asked, ACK, 0),
                 })
             }
-            (Pending::Discard(_, asked), _) => Ok(served(memory, asked, Response::ERROR, 0)),
+            (Pending::Discard(_, asked), _) => {
+                Ok(served(memory, asked, error(Why::FailedDiscard), 0))
+            }
         }
     }
 
@@ -164,7 +167,7 @@ impl Account {
     fn unplug_next(&mut self, asked: Asked, memory: &impl GuestMemory) -> Answer {
         match self.blocks.iter().position(|&plugged| plugged) {
             Some(block) => self.wants_discard(block..block + 1, asked),
-            None => served(memory, asked, Response::ACK, 0),
+            None => served(memory, asked, ACK, 0),
         }
     }
 
@@ -193,33 +196,41 @@ impl Account {
         Answer::Sized
     }
 
-    /// The blocks of a request, where test (b) passes.
-    fn range(&self, request: &Request) -> Option<Range<usize>> {
+    /// The blocks of a request, where test (b) passes; or which part of it fails first.
+    fn range(&self, request: &Request) -> Result<Range<usize>, Why> {
         let size = u64::from(request.blocks) * BLOCK_SIZE;
-        let end = request.addr.checked_add(size)?;
-        let offset = request.addr.checked_sub(self.start)?;
-        let legal = is_whole(request.addr) && size > 0 && end <= self.start + self.usable;
+        refuse(!is_whole(request.addr), Why::Alignment)?;
+        refuse(size == 0, Why::ZeroBlocks)?;
+        let end = request.addr.checked_add(size).ok_or(Why::Overflow)?;
+        let offset = request.addr.checked_sub(self.start);
+        let offset = offset.ok_or(Why::BelowStart)?;
+        refuse(offset >= self.usable, Why::PastUsable)?;
+        refuse(end > self.start + self.usable, Why::EndPastUsable)?;
         let first = (offset / BLOCK_SIZE) as usize;
-        legal.then(|| first..first + usize::from(request.blocks))
+        Ok(first..first + usize::from(request.blocks))
     }
 
-    /// The response's type to a plug, an unplug whose discard is granted, or a state request.
-    fn verdict(&self, request: &Request) -> u16 {
+    /// The blocks that a plug changes, or an unplug whose discard is granted; or what it is answered else.
+    fn change(&self, request: &Request) -> Result<Range<usize>, Verdict> {
         let size = u64::from(request.blocks) * BLOCK_SIZE;
         let plugs = request.request_type == Request::PLUG;
         if plugs && self.plugged() + size > self.requested {
-            return Response::NACK;
+            return Err((Response::NACK, None));
         }
-        let Some(blocks) = self.range(request) else {
-            return Response::ERROR;
-        };
+        self.legal(request, plugs).map_err(error)
+    }
+
+    /// The same, behind test (a).
+    fn legal(&self, request: &Request, plugs: bool) -> Result<Range<usize>, Why> {
+        let blocks = self.range(request)?;
         let row = |block: usize| block as u64 * BLOCK_SIZE / MAP_REGION_SIZE;
         let crosses = self.rows > 1 && row(blocks.start) != row(blocks.end - 1);
-        let illegal = crosses || self.blocks[blocks].contains(&plugs);
-        if illegal && request.request_type != Request::STATE {
-            return Response::ERROR;
-        }
-        Response::ACK
+        refuse(
+            self.blocks[blocks.clone()].contains(&plugs),
+            Why::BlockState,
+        )?;
+        refuse(crosses, Why::CrossedBorder)?;
+        Ok(blocks)
     }
 
     /// The state of such blocks of a request as there are.
@@ -243,12 +254,26 @@ fn is_whole(size: u64) -> bool {
     size / BLOCK_SIZE * BLOCK_SIZE == size
 }
 
+fn refuse(refused: bool, why: Why) -> Result<(), Why> {
+    if refused {
+        Err(why)
+    } else {
+        Ok(())
+    }
+}
+
+fn error(why: Why) -> Verdict {
+    (Response::ERROR, Some(why))
+}
+
 /// The end of a request, with a response where there is room for it.
-fn served(memory: &impl GuestMemory, (_, status): Asked, resp_type: u16, state: u16) -> Answer {
+fn served(memory: &impl GuestMemory, (_, status): Asked, verdict: Verdict, state: u16) -> Answer {
     let inside = memory.contains(status, RESPONSE_BYTES as u64);
+    let (resp_type, why) = verdict;
     Answer::Served {
         resp_type,
         state,
         length: if inside { RESPONSE_BYTES as u32 } else { 0 },
+        why,
     }
 }

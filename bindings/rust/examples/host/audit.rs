@@ -193,7 +193,10 @@ impl Tally {
             (
                 Ok((request, _)),
                 Answer::Served {
-                    resp_type, length, ..
+                    resp_type,
+                    length,
+                    why,
+                    ..
                 },
             ) => {
                 let asked =
@@ -201,6 +204,9 @@ impl Tally {
                 let told = ["ACK", "NACK", "BUSY", "ERROR"][usize::from(resp_type)];
                 self.count(&format!("{asked}-{told}"), 1);
                 self.count("undelivered", u64::from(length == 0));
+                if let Some(why) = why {
+                    self.count(&format!("why-{:02}", why as u64), 1);
+                }
             }
             (_, Answer::Unserved { reason }) => self.count(&format!("unserved-{reason}"), 1),
             _ => {}

@@ -133,6 +133,7 @@ impl Taken {
                     resp_type,
                     state,
                     length,
+                    ..
                 },
                 Ok((_, status)),
             ) if length > 0 => {

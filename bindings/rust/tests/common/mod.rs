@@ -1,7 +1,8 @@
 // SPDX-License-Identifier: Apache-2.0 AND BSD-3-Clause
 //! A device of 256 MiB at 4 GiB in one region, of which the guest may have 16 MiB, and what it answers.
 
-use jambcopper::{Answer, Device, HostAnswer, HostCall, BLOCK_SIZE};
+use jambcopper::driver::Response;
+use jambcopper::{Answer, Device, HostAnswer, HostCall, Why, BLOCK_SIZE};
 
 pub const BASE: u64 = 0x4000_0000;
 pub const START: u64 = 4_294_967_296;
@@ -16,11 +17,23 @@ pub fn placed() -> Device {
     device
 }
 
+/// ACK or NACK.
 pub fn served(resp_type: u16, state: u16) -> Answer {
     Answer::Served {
         resp_type,
         state,
         length: 10,
+        why: None,
+    }
+}
+
+/// ERROR, of any request but that for a state.
+pub fn in_vain(why: Why) -> Answer {
+    Answer::Served {
+        resp_type: Response::ERROR,
+        state: 0,
+        length: 10,
+        why: Some(why),
     }
 }
 
