@@ -4,6 +4,7 @@
 
 use crate::queue::{Held, Memory, Told, UNSERVED};
 use crate::sys::{ANSWER_LENGTH, ANSWER_WORDS, KIND_SERVED, REQUEST_BYTES, RESPONSE_BYTES};
+use crate::why::Asked;
 
 /// The record's word that has the status address while a discard is pending.
 const STATUS: usize = 14;
@@ -84,6 +85,14 @@ fn walk(memory: &Memory, table: u64, head: u16) -> Result<(Vec<u8>, u64), u64> {
         return Err(26);
     }
     Ok((memory.bytes[at..at + REQUEST_BYTES].to_vec(), second.addr))
+}
+
+/// The request of a chain, where it has a known type.
+pub fn asked(memory: &Memory, table: u64, head: u16) -> Option<Asked> {
+    let (bytes, _) = walk(memory, table, head).ok()?;
+    let number = |at: usize| u16::from_le_bytes([bytes[at], bytes[at + 1]]);
+    let addr = u64::from_le_bytes(bytes[8..16].try_into().ok()?);
+    Asked::of(number(0), addr, number(16))
 }
 
 /// What the device tells of a chain.

@@ -8,6 +8,7 @@ use crate::random::Random;
 use crate::sys::{self, PENDING_DISCARD, PENDING_NOTHING, QUEUE_WORDS, RECORD_WORDS};
 
 const BLOCK: u64 = 4 << 20;
+const BORDER: u64 = 512; // the first block of the second map region
 const START: u64 = 4 << 30;
 const HOST: u64 = 0x7f00_0000_0000;
 
@@ -251,15 +252,26 @@ fn request_bytes(random: &mut Random, held: &Held) -> [u8; REQUEST_BYTES] {
         let byte = held.bitmap.get(block as usize / 8).copied().unwrap_or(0);
         byte >> (block % 8) & 1 == 1
     };
-    let mut block = random.below(64);
+    // Of a device with several regions also one about the first border.
+    let several = held.record.get(8) == Some(&1);
+    let from = if several && random.chance(30) {
+        BORDER - 32
+    } else {
+        0
+    };
+    let mut block = from + random.below(64);
     for _ in 0..8 {
         if plugged(block) == (request_type == 1) {
             break;
         }
-        block = random.below(64);
+        block = from + random.below(64);
     }
+    let usable = held.record.get(4).copied().unwrap_or(0);
+    let end = START.wrapping_add(usable);
+    let top = 0u64.wrapping_sub(BLOCK);
+    let edge = random.pick(&[START - BLOCK, end, end.wrapping_sub(BLOCK), top]);
     let addr = START + BLOCK * block;
-    let addr = random.pick(&[addr, addr, addr, addr, addr, addr, addr + 1, any]);
+    let addr = random.pick(&[addr, addr, addr, addr, addr, addr, edge, addr + 1, any]);
     let blocks = random.pick(&[1, 1, 1, 1, 2, 3, 9, 0, any as u16]);
     let request = Request {
         request_type,
@@ -328,7 +340,7 @@ pub fn spoil(random: &mut Random, memory: &mut Memory, held: &mut Held) {
     let (any, part) = (random.next(), random.below(3) as usize);
     let queue = words(held);
     let length = memory.bytes.len();
-    match random.below(14) {
+    match random.below(15) {
         0 => {
             // Memory that ends in a part, or just with it.
             let end = queue[part].wrapping_add(SIZES[part] - random.below(3));
@@ -384,6 +396,14 @@ pub fn spoil(random: &mut Random, memory: &mut Memory, held: &mut Held) {
         12 => {
             let taken = random.pick(&[1, 128, 129, 65_536, any % 65_537]);
             set(&mut held.queue, 5, taken);
+        }
+        13 => {
+            // A row of which somebody else wrote whether it is mapped, and where.
+            let row = 3 * random.below(2) as usize;
+            let near_top = 0u64.wrapping_sub(any % 64 * BLOCK);
+            let host = random.pick(&[HOST, near_top, near_top, u64::MAX, any]);
+            set(&mut held.table, row + 1, random.pick(&[0, 1, 1, any]));
+            set(&mut held.table, row + 2, host);
         }
         _ => rewrite(random, memory, held),
     }

@@ -21,12 +21,14 @@ mod running;
 #[path = "../src/sys.rs"]
 mod sys;
 mod tally;
+#[path = "../../../compare/oracle/src/why.rs"]
+mod why;
 
 use fence::Fence;
 use inputs::Guest;
-use queue::{Held, Memory, Told};
+use queue::{Held, Memory, Told, ANSWER_WHY};
 use random::Random;
-use tally::{Outcomes, Tally, TOLD};
+use tally::{Outcomes, Tally, TOLD, WHY};
 
 fn main() {
     let args: Vec<String> = env::args().skip(1).collect();
@@ -126,11 +128,21 @@ impl Library {
     }
 }
 
-/// The outcomes of each call: a number, or that of an answer.
+/// The outcomes of each call: a number, or that of an answer; that of a response is by its reason.
 const MAKE: Outcomes = &[(16, "made"), (12, "12")];
 const SERVE: Outcomes = &[
     (23, "empty"),
-    (21, "served"),
+    (WHY, "served"),
+    (WHY + 1, "why-1"),
+    (WHY + 2, "why-2"),
+    (WHY + 3, "why-3"),
+    (WHY + 4, "why-4"),
+    (WHY + 5, "why-5"),
+    (WHY + 6, "why-6"),
+    (WHY + 7, "why-7"),
+    (WHY + 8, "why-8"),
+    (WHY + 9, "why-9"),
+    (WHY + 10, "why-10"),
     (20, "unserved"),
     (18, "discard"),
     (12, "12"),
@@ -141,7 +153,10 @@ const SERVE: Outcomes = &[
     (15, "15"),
 ];
 const ANSWER: Outcomes = &[
-    (21, "served"),
+    (WHY, "served"),
+    (WHY + 9, "why-9"),
+    (WHY + 10, "why-10"),
+    (WHY + 11, "why-11"),
     (18, "discard"),
     (19, "sized"),
     (12, "12"),
@@ -154,7 +169,11 @@ const ANSWER: Outcomes = &[
 const CALLS: &[(&str, Outcomes)] = &[("make", MAKE), ("serve", SERVE), ("answer", ANSWER)];
 
 fn outcome(told: &Told) -> usize {
-    told.map_or_else(|number| number as usize, |words| TOLD + words[0] as usize)
+    match *told {
+        Err(number) => number as usize,
+        Ok(words) if words[0] == sys::KIND_SERVED => tally::why(words[ANSWER_WHY]),
+        Ok(words) => TOLD + words[0] as usize,
+    }
 }
 
 fn run(calls: u64, seed: u64) -> Tally {

@@ -1,18 +1,24 @@
 // SPDX-License-Identifier: Apache-2.0 AND BSD-3-Clause
 //! The split queue by the words of Virtio 1.2 (docs/STANDARD.md, Q1 to Q7) and of docs/RULES.md, R13. The device's own part is the
-//! library's `request` and `host_answer`.
+//! library's `request` and `host_answer`, but for the reason of a response, which a model of it works out (`why.rs`).
 
 use std::ops::Range;
 
 use crate::chain;
 use crate::sys::{self, ANSWER_LENGTH, ANSWER_WORDS, KIND_EMPTY, KIND_SERVED};
 use crate::sys::{PENDING_DISCARD, PENDING_DISCARD_ONE};
+use crate::why;
 
 /// What a call tells: the words of its answer, or the number of its refusal.
 pub type Told = Result<[u64; ANSWER_WORDS], u64>;
 
 /// The kind of answer, word 0, to a chain that is no request.
 pub const UNSERVED: u64 = 4;
+
+/// The word of an answer that has a response's reason, and those of a record with the pending call and its first block.
+pub const ANSWER_WHY: usize = 8;
+const PENDING: usize = 11;
+const FIRST: usize = 12;
 
 /// "Queue size 128", and the sizes of the rings (Q1).
 const SIZE: u16 = 128;
@@ -77,9 +83,12 @@ impl Held {
             return chain::request(self, memory, table, head);
         }
         let mut words = [0; ANSWER_WORDS];
+        let (before, asked) = (self.clone(), chain::asked(memory, table, head));
         let Memory { bytes, base, .. } = memory;
         match self.device().request(bytes, *base, table, head, &mut words) {
-            0 => Ok(words),
+            0 => Ok(with_why(words, || {
+                before.with_device(|device| device.why(asked?, &[]))
+            })),
             number => Err(number),
         }
     }
@@ -90,14 +99,41 @@ impl Held {
             return chain::host_answer(self, memory, ok, host);
         }
         let mut words = [0; ANSWER_WORDS];
+        let before = self.clone();
         let Memory { bytes, base, .. } = memory;
         match self
             .device()
             .host_answer(bytes, *base, ok, host, &mut words)
         {
-            0 => Ok(words),
+            0 => Ok(with_why(words, || before.why_ended(ok))),
             number => Err(number),
         }
+    }
+
+    /// Why the request that waits for a discard ends with the host's answer, if it does.
+    fn why_ended(&self, ok: bool) -> Option<u64> {
+        if !ok || self.record[PENDING] == PENDING_DISCARD {
+            return Some(why::of_discard(ok));
+        }
+        self.with_device(|device| device.of_unplug_all(self.record[FIRST] + 1, &[]))
+    }
+
+    /// The device as the model of reasons takes it, of a record that the library has taken.
+    fn with_device<T>(&self, ask: impl FnOnce(why::Device) -> T) -> T {
+        let record = &self.record;
+        ask(why::Device {
+            start: record[2],
+            usable: record[4],
+            plugged: record[5],
+            requested: record[6],
+            several: record[8] == 1,
+            blocks: record[3] / record[0],
+            is_plugged: &|block| self.bitmap[block as usize / 8] >> (block % 8) & 1 == 1,
+            host: &|row| {
+                let row = &self.table[3 * row as usize..];
+                (row[1] != 0).then_some(row[2])
+            },
+        })
     }
 
     /// The queue of the words. 12: "too few, or one out of its bounds", or a head is out while no discard is pending.
@@ -121,6 +157,17 @@ impl Held {
         }
         told
     }
+}
+
+/// A response's reason is the model's. Where that finds none, it is one that the library never gives.
+fn with_why(
+    mut words: [u64; ANSWER_WORDS],
+    why: impl FnOnce() -> Option<u64>,
+) -> [u64; ANSWER_WORDS] {
+    if words[0] == KIND_SERVED {
+        words[ANSWER_WHY] = why().unwrap_or(u64::MAX);
+    }
+    words
 }
 
 /// Where the guest has its queue, and where the device stands in it.

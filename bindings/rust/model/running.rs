@@ -12,7 +12,7 @@ use crate::queue::{self, Held, Memory, Told};
 use crate::random::Random;
 use crate::regions::{cut, whole, without, Access, Ground, Watched};
 use crate::sys::{PENDING_CREATE, PENDING_NOTHING, QUEUE_WORDS};
-use crate::tally::{Outcomes, Tally, TOLD};
+use crate::tally::{self, Outcomes, Tally, TOLD, WHY};
 
 /// Outcomes beside the refusals and the answers: a chain that is no request, by its reason; a response that was not delivered; an
 /// answer to another question.
@@ -22,7 +22,17 @@ const WRONG: usize = 61;
 
 const SERVE: Outcomes = &[
     (TOLD + 7, "empty"),
-    (TOLD + 5, "served"),
+    (WHY, "served"),
+    (WHY + 1, "why-1"),
+    (WHY + 2, "why-2"),
+    (WHY + 3, "why-3"),
+    (WHY + 4, "why-4"),
+    (WHY + 5, "why-5"),
+    (WHY + 6, "why-6"),
+    (WHY + 7, "why-7"),
+    (WHY + 8, "why-8"),
+    (WHY + 9, "why-9"),
+    (WHY + 10, "why-10"),
     (LENGTH_0, "undelivered"),
     (TOLD + 2, "discard"),
     (REASON, "unknown"),
@@ -40,7 +50,10 @@ const SERVE: Outcomes = &[
     (15, "15"),
 ];
 const ANSWER: Outcomes = &[
-    (TOLD + 5, "served"),
+    (WHY, "served"),
+    (WHY + 9, "why-9"),
+    (WHY + 10, "why-10"),
+    (WHY + 11, "why-11"),
     (LENGTH_0, "undelivered"),
     (TOLD + 2, "discard"),
     (TOLD + 3, "sized"),
@@ -230,6 +243,7 @@ impl Machine {
             Err(number) => number as usize,
             Ok([4, .., reason]) => REASON + reason as usize,
             Ok([5, .., 0, _]) => LENGTH_0,
+            Ok([5, .., why]) => tally::why(why),
             Ok([kind, ..]) => TOLD + kind as usize,
         }
     }

@@ -5,10 +5,17 @@ use std::fmt;
 
 /// The outcomes of a call: a number below [`OUTCOMES`], and its name.
 pub type Outcomes = &'static [(usize, &'static str)];
-pub const OUTCOMES: usize = 64;
+pub const OUTCOMES: usize = 80;
 
 /// The outcome of a refusal is its number; that of an answer is this and its kind.
 pub const TOLD: usize = 16;
+
+/// That of a response is this and its reason, or one more than all where the model has none.
+pub const WHY: usize = 64;
+
+pub fn why(reason: u64) -> usize {
+    WHY + reason.min(12) as usize
+}
 
 /// How often each outcome came up, and how many calls had another than they should.
 pub struct Tally {
