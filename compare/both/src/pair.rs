@@ -12,6 +12,7 @@ use oracle::guest::Guest;
 use oracle::host::{answering, Answer, Question};
 use oracle::rust::{Rust, BLOCK, ERROR, MAP_REGION, PLUG, QUEUE_SIZE, STATE, UNPLUG, UNPLUG_ALL};
 use oracle::trace::{First, Op, Want};
+use oracle::why::Asked;
 
 use crate::drop_in::{self, DropIn};
 use crate::proved::{Proved, Told};
@@ -68,7 +69,7 @@ impl fmt::Display for Call {
 pub type Host<'a> = &'a mut dyn FnMut(Want) -> (bool, u64);
 
 /// The questions that the proved device asked in a call, with their answers.
-type Asked = Vec<(Want, bool, u64)>;
+type Questions = Vec<(Want, bool, u64)>;
 
 /// How often each call had each outcome: its number, its response's type, or the host's success.
 pub type Seen = BTreeMap<(&'static str, u64), u64>;
@@ -84,6 +85,8 @@ pub struct Pair {
     rings: Option<Rings>,
     placed: bool,
     over: bool,
+    /// The first reason of a step that is not the model's: told when all else has been compared.
+    why: Result<(), String>,
     /// Calls of the exports so far, without the reads that compare.
     pub calls: u64,
     pub seen: Seen,
@@ -152,6 +155,7 @@ impl Pair {
             rings: layout.map(Rings::new),
             placed: false,
             over: false,
+            why: Ok(()),
             calls: 1,
             seen: Seen::from([(("make, number", 0), 1)]),
         };
@@ -200,7 +204,16 @@ impl Pair {
             Call::Op(Op::UnplugAll) => self.request(UNPLUG_ALL, 0, 0, host)?,
             Call::Op(Op::Host { .. }) => panic!("answers come from the host"),
         }
-        self.compare()
+        self.compare()?;
+        std::mem::replace(&mut self.why, Ok(()))
+    }
+
+    /// The reason of a response is held against the model's.
+    fn hold_why(&mut self, told: &Told, due: Option<u64>) {
+        let held = told.why_is(due);
+        if self.why.is_ok() {
+            self.why = held;
+        }
     }
 
     fn place(&mut self, start: u64, slots: i64, bytes: i64, host: Host) -> Result<(), String> {
@@ -256,6 +269,9 @@ impl Pair {
         let before = self.memory.clone();
         let told = self.proved.request(&mut self.memory, BASE, BASE, 0);
         let (told, asked) = self.answered(told, host)?;
+        // mem.rs is as it was before the request, and has no reason: it is the model's of that.
+        let due = Asked::of(kind, addr, blocks);
+        let due = due.and_then(|due| self.rust.why(due, &granted(&asked)));
         let (head, length) = self.scripted(asked.clone(), |rust| rust.serve(0))?;
         let used = told.used().map(|(length, _)| length);
         same("used length", (0, Some(length)), (told.number, used))?;
@@ -288,7 +304,10 @@ impl Pair {
         let (kind, state) = (told.words[5] as u16, told.words[6] as u16);
         let at = req as usize + 32 - BASE as usize;
         let word = |at: usize| u16::from_le_bytes([memory[at], memory[at + 1]]);
-        same("answer", (word(at), word(at + 8)), (kind, state))
+        same("answer", (word(at), word(at + 8)), (kind, state))?;
+        self.saw("response, why", told.words[8]);
+        self.hold_why(&told, due);
+        Ok(())
     }
 
     /// Makes a chain available; where the ring is full, or nothing may come behind, the devices are woken.
@@ -315,6 +334,10 @@ impl Pair {
         let mut refused = false;
         loop {
             let rings = self.rings.as_mut().expect("a run with rings");
+            // mem.rs will serve all heads at once. So the model has the proved device as it was before each.
+            let device = self.proved.clone();
+            let chain = heads.get(used.len());
+            let chain = chain.map(|&head| rings.layout.chain(head, &self.memory));
             let told = self.proved.serve(&mut rings.words, &mut self.memory, base);
             let (told, asked) = self.answered(told, host)?;
             if told.empty() {
@@ -324,9 +347,15 @@ impl Pair {
                 return Err(format!("serve, {} heads waited: {told:?}", heads.len()));
             };
             match reason {
-                0 if told.words[0] == 5 => self.saw("head, response", told.words[5]),
+                0 if told.words[0] == 5 => {
+                    self.saw("head, response", told.words[5]);
+                    self.saw("head, why", told.words[8]);
+                }
                 _ => self.saw("head, reason", reason),
             }
+            let due = chain.and_then(|chain| chain.asked());
+            let due = due.and_then(|due| device.why(due, &granted(&asked)));
+            self.hold_why(&told, due);
             self.saw("head, used length", length.into());
             refused = told.words[5] == u64::from(ERROR);
             used.push((u32::from(head), length));
@@ -377,7 +406,7 @@ impl Pair {
     }
 
     /// Answers the proved device until it asks no more.
-    fn answered(&mut self, mut told: Told, host: Host) -> Result<(Told, Asked), String> {
+    fn answered(&mut self, mut told: Told, host: Host) -> Result<(Told, Questions), String> {
         let mut asked = Vec::new();
         self.calls += 1;
         while let Some(want) = told.want() {
@@ -409,7 +438,7 @@ impl Pair {
     /// Runs mem.rs, whose questions must be those that were asked, in their order.
     fn scripted<T>(
         &mut self,
-        asked: Asked,
+        asked: Questions,
         call: impl FnOnce(&mut Rust) -> T,
     ) -> Result<T, String> {
         let script = Script::new("mem.rs", asked);
@@ -421,7 +450,7 @@ impl Pair {
     /// Runs the drop-in, where it takes part: its questions must be the same, and what comes of them what came of mem.rs.
     fn also<T: PartialEq + fmt::Debug>(
         &mut self,
-        asked: Asked,
+        asked: Questions,
         rust: T,
         call: impl FnOnce(&mut DropIn) -> T,
     ) -> Result<(), String> {
@@ -518,7 +547,7 @@ struct Script {
 }
 
 impl Script {
-    fn new(who: &'static str, asked: Asked) -> Script {
+    fn new(who: &'static str, asked: Questions) -> Script {
         let left = Rc::new(RefCell::new((VecDeque::from(asked), None)));
         Script { who, left }
     }
@@ -547,6 +576,13 @@ impl Script {
             _ => Ok(()),
         }
     }
+}
+
+/// The host's answers to discards.
+fn granted(asked: &Questions) -> Vec<bool> {
+    let discards = asked.iter();
+    let discards = discards.filter(|(want, ..)| matches!(want, Want::Discard { .. }));
+    discards.map(|&(_, ok, _)| ok).collect()
 }
 
 fn agrees(question: Question, want: Want) -> bool {
@@ -592,6 +628,7 @@ pub fn chain(case: &Chain, drop_in: bool, seen: &mut Seen) -> Result<u64, String
     let mut memory = case.memory.clone();
     proved.place(first.addr, proved.region(), &[first.slot as u32]);
     proved.host_answer(&mut [], 0, true, 140_737_488_355_328);
+    let due = case.asked().and_then(|due| proved.why(due, &[]));
     let told = proved.request(&mut memory, case.base, case.table, case.head);
     let (length, reason) = told.used().ok_or_else(|| format!("{told:?}"))?;
     same(
@@ -602,5 +639,6 @@ pub fn chain(case: &Chain, drop_in: bool, seen: &mut Seen) -> Result<u64, String
     *seen.entry(("chain, reason", reason)).or_default() += 1;
     same("plugged", rust.plugged, proved.record[5])?;
     same("memory", rust.memory, memory)?;
+    told.why_is(due)?;
     Ok(4)
 }

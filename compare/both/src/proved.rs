@@ -1,8 +1,9 @@
 // SPDX-License-Identifier: Apache-2.0 AND BSD-3-Clause
 //! The proved device as one value, driven through the exports of the static library.
 
-use oracle::rust::{BLOCK, MAP_REGION};
+use oracle::rust::{BLOCK, ERROR, MAP_REGION};
 use oracle::trace::{First, Want};
+use oracle::why::{Asked, Device};
 
 use crate::sys::{self, Lent, ANSWER_WORDS, RECORD_WORDS};
 
@@ -47,6 +48,18 @@ impl Told {
         (self.number, self.words) == (0, [7, 0, 0, 0, 0, 0, 0, 0, 0])
     }
 
+    /// Whether the reason of a response, where it is one, is the model's, and goes with its type.
+    pub fn why_is(&self, due: Option<u64>) -> Result<(), String> {
+        let [kind, .., resp, _, _, why] = self.words;
+        let fits = (why == 0) == (resp != u64::from(ERROR));
+        match kind == 5 && (due != Some(why) || !fits) {
+            true => Err(format!(
+                "why: the model {due:?}, proved {why} with the type {resp}"
+            )),
+            false => Ok(()),
+        }
+    }
+
     /// Used length and reason, where the chain is done with.
     pub fn used(&self) -> Option<(u32, u64)> {
         match self.words[0] {
@@ -58,6 +71,7 @@ impl Told {
 }
 
 /// Record, bitmap and map table, the last two with some more behind.
+#[derive(Clone)]
 pub struct Proved {
     pub record: [u64; RECORD_WORDS],
     bitmap: Vec<u8>,
@@ -118,6 +132,21 @@ impl Proved {
     pub fn rows(&self) -> impl Iterator<Item = (u64, Option<u64>)> + '_ {
         let rows = self.table[..self.table.len() - SPARE_WORDS].chunks_exact(3);
         rows.map(|row| (row[0], (row[1] != 0).then_some(row[2])))
+    }
+
+    /// Why a request that comes now ends as it does, by the model, with these answers of the host to its discards.
+    pub fn why(&self, asked: Asked, granted: &[bool]) -> Option<u64> {
+        let device = Device {
+            start: self.record[2],
+            usable: self.record[4],
+            plugged: self.record[5],
+            requested: self.record[6],
+            several: self.record[8] == 1,
+            blocks: self.region() / BLOCK,
+            is_plugged: &|block| self.bitmap[block as usize / 8] >> (block % 8) & 1 == 1,
+            host: &|row| self.rows().nth(row as usize)?.1,
+        };
+        device.why(asked, granted)
     }
 
     /// True where what was lent behind the need is as it was.

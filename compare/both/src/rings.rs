@@ -3,6 +3,7 @@
 
 use std::fmt;
 
+use oracle::chains::Chain;
 use oracle::guest::{request, Descriptor, Guest, NEXT, WRITE};
 use oracle::random::Random;
 use oracle::rust::{PLUG, STATE, UNPLUG, UNPLUG_ALL};
@@ -66,6 +67,16 @@ impl Layout {
         let mut guest = guest.expect("a range below 2^64");
         guest.begin_at(self.index);
         guest
+    }
+
+    /// A head as a chain in guest memory.
+    pub fn chain(&self, head: u16, memory: &[u8]) -> Chain {
+        Chain {
+            base: self.base,
+            table: self.table,
+            head,
+            memory: memory.to_vec(),
+        }
     }
 
     /// Has the drop-in activated with such a guest.

@@ -12,6 +12,7 @@ use crate::host::answering;
 use crate::random::Random;
 use crate::rust::{Rust, BLOCK};
 use crate::stand_ins::log;
+use crate::why::Asked;
 
 const GIB: u64 = 1 << 30;
 const START: u64 = 4 * GIB;
@@ -98,6 +99,16 @@ impl Chain {
             plugged: device.config().plugged,
             memory,
         }
+    }
+
+    /// The request behind the head, of a chain that is one.
+    pub fn asked(&self) -> Option<Asked> {
+        let first = self.descriptor(self.head)?;
+        let at = self.place(first.addr, 24)?;
+        let bytes = &self.memory[at..at + 24];
+        let addr = u64::from_le_bytes(bytes[8..16].try_into().unwrap());
+        let number = |at: usize| u16::from_le_bytes([bytes[at], bytes[at + 1]]);
+        Asked::of(number(0), addr, number(16))
     }
 
     /// Where `length` bytes from a guest address on lie in the memory, if they all do.

@@ -14,6 +14,7 @@ use crate::stand_ins::dbs::dbs_interrupt::NoopNotifier;
 use crate::stand_ins::dbs::dbs_utils::epoll_manager::{EpollManager, EventOps, EventSet, Events};
 use crate::stand_ins::dbs::kvm_ioctls::VmFd;
 use crate::stand_ins::virtio_queue::{QueueSync, QueueT};
+use crate::why::{self, Asked};
 use crate::Error;
 
 type Space = Arc<GuestMemoryMmap>;
@@ -45,6 +46,31 @@ pub struct Config {
     pub usable: u64,
     pub plugged: u64,
     pub requested: u64,
+}
+
+impl Config {
+    /// Why a request ends as it does, by the model, with these answers of the host to its discards. The device has this
+    /// config, these blocks and rows.
+    pub fn why(
+        &self,
+        several: bool,
+        blocks: &[bool],
+        rows: &[(u32, Option<u64>)],
+        asked: Asked,
+        granted: &[bool],
+    ) -> Option<u64> {
+        let device = why::Device {
+            start: self.start,
+            usable: self.usable,
+            plugged: self.plugged,
+            requested: self.requested,
+            several,
+            blocks: blocks.len() as u64,
+            is_plugged: &|block| blocks[block as usize],
+            host: &|row| rows[row as usize].1,
+        };
+        device.why(asked, granted)
+    }
 }
 
 /// What became of a chain: the used length, and the response where its bytes lie inside.
@@ -288,5 +314,11 @@ impl Rust {
 
     pub fn multi(&self) -> bool {
         self.with_handler(|handler| handler.multi_region)
+    }
+
+    /// Why a request that comes now ends as it does, by the model.
+    pub fn why(&mut self, asked: Asked, granted: &[bool]) -> Option<u64> {
+        let (config, several, rows) = (self.config(), self.multi(), self.rows());
+        self.with_blocks(|blocks| config.why(several, blocks, &rows, asked, granted))
     }
 }

@@ -9,7 +9,7 @@ use std::rc::Rc;
 use crate::guest::Guest;
 use crate::host::{answering, Answer, Question};
 use crate::rust::{Config, Rust, BLOCK, ERROR, MAP_REGION, PLUG, STATE, UNPLUG, UNPLUG_ALL};
-use crate::why::{self, Asked};
+use crate::why::Asked;
 
 /// The greatest first slot.
 pub const MAX_SLOT: u64 = 4_294_966_000;
@@ -237,17 +237,8 @@ impl Before {
 
     /// With these answers of the host to its discards.
     fn why(&self, asked: Asked, granted: &[bool]) -> Option<u64> {
-        let device = why::Device {
-            start: self.config.start,
-            usable: self.config.usable,
-            plugged: self.config.plugged,
-            requested: self.config.requested,
-            several: self.several,
-            blocks: self.blocks.len() as u64,
-            is_plugged: &|block| self.blocks[block as usize],
-            host: &|row| self.rows[row as usize].1,
-        };
-        device.why(asked, granted)
+        self.config
+            .why(self.several, &self.blocks, &self.rows, asked, granted)
     }
 }
 

@@ -2,7 +2,8 @@
 //! Raw random bytes through every export of the static library; run it under valgrind.
 //!
 //! Each slice is a block of the heap of just its own length, so that memcheck sees a byte read or
-//! written outside. A call that is refused must leave every slice but the answer and the scratch as it was.
+//! written outside. A call that is refused must leave every slice but the answer and the scratch as it was. A response
+//! must have a reason, 1 to 11, exactly where it is ERROR.
 //! `bytes SEED SECONDS` runs until the time is over.
 
 use std::env;
@@ -12,6 +13,7 @@ use std::time::{Duration, Instant};
 use both::sys;
 use oracle::guest::request;
 use oracle::random::Random;
+use oracle::rust::ERROR;
 
 const MIB: u64 = 1 << 20;
 const GIB: u64 = 1 << 30;
@@ -33,6 +35,7 @@ fn main() {
     let mut random = Random::new(seed);
     let began = Instant::now();
     let mut numbers = [[0u64; 20]; 19];
+    let mut reasons = [0u64; 12];
     let mut calls = 0;
     while began.elapsed() < Duration::from_secs(seconds) {
         let mut lent = Lent::any(&mut random);
@@ -46,6 +49,15 @@ fn main() {
                     lent == before,
                     "{export}: refused, and yet something changed"
                 );
+            }
+            if let (3 | 4 | 8 | 9, &[5, _, _, _, _, resp, _, _, why, ..]) = (export, &*lent.answer)
+            {
+                let error = resp == u64::from(ERROR);
+                assert!(
+                    why <= 11 && (why != 0) == error,
+                    "{export}: type {resp}, why {why}"
+                );
+                reasons[why as usize] += 1;
             }
             numbers[export][number as usize] += 1;
             calls += 1;
@@ -76,6 +88,7 @@ fn main() {
     for (name, numbers) in names.iter().zip(numbers) {
         println!("{name:13} {numbers:?}");
     }
+    println!("responses by their reason, 0 to 11: {reasons:?}");
 }
 
 /// A number at an edge, a small one, or any.
