@@ -14,7 +14,7 @@ use oracle::trace::{replayed, without_why};
 const HELP: &str = "\
 compare sample FILE                         mem.rs prints what the sample says
 compare sample FILE PROGRAM [ARG..]         so does PROGRAM, which reads a trace on its input
-compare reasons FILE                        each response of the sample has the reason that lines and answers tell
+compare reasons FILE..                      each response of the samples has the reason that lines and answers tell
 compare chains FILE                         mem.rs serves each chain as the file says
 compare random SEED COUNT PROGRAM [ARG..]   PROGRAM and mem.rs print the same, seeds counting up
 The reason, why=N, is a model's: mem.rs has none. What differs in it alone is told apart.";
@@ -24,7 +24,7 @@ fn main() {
     let args: Vec<&str> = args.iter().map(|arg| arg.as_str()).collect();
     let same = match args[..] {
         ["sample", file] => sample(file, |input| replayed(input).unwrap_or_else(|e| vec![e])),
-        ["reasons", file] => reasons(file),
+        ["reasons", ref files @ ..] if !files.is_empty() => reasons(files),
         ["chains", file] => chains(file),
         ["sample", file, ref program @ ..] => sample(file, |input| printed(program, input)),
         ["random", seed, count, ref program @ ..] if !program.is_empty() => {
@@ -120,18 +120,20 @@ fn sample(file: &str, run: impl Fn(&[String]) -> Vec<String>) -> bool {
     (differ, reasons) == (0, 0)
 }
 
-fn reasons(file: &str) -> bool {
-    let text = fs::read_to_string(file).unwrap_or_else(|e| panic!("{file}: {e}"));
+fn reasons(files: &[&str]) -> bool {
     let (mut responses, mut differ) = (0, 0);
-    for (input, output) in traces_of(&text) {
-        let told = with_reasons(&input, &output).unwrap_or_else(|e| vec![e]);
-        responses += told.iter().filter(|line| line.contains(" why=")).count();
-        if told != output {
-            differ += 1;
-            show(&input, &told, &output);
+    for file in files {
+        let text = fs::read_to_string(file).unwrap_or_else(|e| panic!("{file}: {e}"));
+        for (input, output) in traces_of(&text) {
+            let told = with_reasons(&input, &output).unwrap_or_else(|e| vec![e]);
+            responses += told.iter().filter(|line| line.contains(" why=")).count();
+            if told != output {
+                differ += 1;
+                show(&input, &told, &output);
+            }
         }
     }
-    println!("{responses} responses by lines and answers alone, {differ} traces differ");
+    println!("{responses} reasons by lines and answers alone, {differ} traces differ");
     differ == 0
 }
 
