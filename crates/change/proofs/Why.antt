@@ -28,32 +28,32 @@ part-reasoned BelowStart = record { exactly = refl; most = omega arith }
 part-reasoned PastUsable = record { exactly = refl; most = omega arith }
 part-reasoned EndPastUsable = record { exactly = refl; most = omega arith }
 
--- a change that is not legal has a reason
-unfoldable pub Failed : Change → Type 0
-Failed (Legal first offset host) = Prim.Unit {0}
-Failed (Outside part) = Reasoned 3 (partWhy part)
-Failed WrongState = Reasoned 3 wrongState
-Failed (NoHost host) = Reasoned 3 (hostWhy host)
+-- what holds of the reason of a change that is not legal
+unfoldable pub Failed : (ℕ → Type 0) → Change → Type 0
+Failed P (Legal first offset host) = Prim.Unit {0}
+Failed P (Outside part) = P (partWhy part)
+Failed P WrongState = P wrongState
+Failed P (NoHost host) = P (hostWhy host)
 
-host-failed : (b offset : ℕ) (h : HostRange) → Failed (legalAt b offset h)
+host-failed : (b offset : ℕ) (h : HostRange) → Failed (Reasoned 3) (legalAt b offset h)
 unfolding Failed legalAt hostWhy
 host-failed b offset (At host) = tt
 host-failed b offset CrossesBorder = record { exactly = refl; most = omega arith }
 host-failed b offset Unmapped = record { exactly = refl; most = omega arith }
 host-failed b offset SumPasses = record { exactly = refl; most = omega arith }
 
-either : (t : Bool) (x y : Change) → Failed x → Failed y → Failed (cond t x y)
-either true x y p q = p
-either false x y p q = q
+pub either-failed : (P : ℕ → Type 0) (t : Bool) (x y : Change) → Failed P x → Failed P y → Failed P (cond t x y)
+either-failed P true x y p q = p
+either-failed P false x y p q = q
 
-in-failed : (r : Range) (b : ℕ) (several : Bool) (count : ℕ) (wanted : Bool) (blocks : List Bool) (rows : List MapRow) → Failed (changeIn r b several count wanted blocks rows)
+in-failed : (r : Range) (b : ℕ) (several : Bool) (count : ℕ) (wanted : Bool) (blocks : List Bool) (rows : List MapRow) → Failed (Reasoned 3) (changeIn r b several count wanted blocks rows)
 unfolding Failed changeIn
 in-failed (Inside offset) b several count wanted blocks rows =
-    either (allAre blocks (blocksIn b (offset .0)) count (not wanted)) _ _
+    either-failed (Reasoned 3) (allAre blocks (blocksIn b (offset .0)) count (not wanted)) _ _
     (host-failed b (offset .0) (hostOf several rows (offset .0) (bytesOf b count)))
     (record { exactly = refl; most = omega arith })
 in-failed (NotInside part) b several count wanted blocks rows = part-reasoned part
 
-pub change-failed : (b start usable : ℕ) (several : Bool) (addr count : ℕ) (wanted : Bool) (blocks : List Bool) (rows : List MapRow) → Failed (changeOf b start usable several addr count wanted blocks rows)
+pub change-failed : (b start usable : ℕ) (several : Bool) (addr count : ℕ) (wanted : Bool) (blocks : List Bool) (rows : List MapRow) → Failed (Reasoned 3) (changeOf b start usable several addr count wanted blocks rows)
 change-failed b start usable several addr count wanted blocks rows =
     in-failed (rangeOf b start usable addr count) b several count wanted blocks rows

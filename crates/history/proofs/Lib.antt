@@ -12,6 +12,7 @@ pub mod Due
 pub mod Inside
 pub mod Memory
 pub mod Good
+pub mod Backed
 pub mod Demand3
 pub mod Sizes
 pub mod SizeChange

@@ -16,7 +16,7 @@ use Rattle.record.specs.declared.HostCall.the-variants.{Discard as DiscardCall}
 use Rattle.record.specs.Shape.{shapedOf}
 use Rattle.step.specs.declared.Answer.{Answer}
 use Rattle.step.specs.declared.Answer.the-variants.{Refused, Wants}
-use Rattle.step.specs.Answers.{refusal, question}
+use Rattle.step.specs.Answers.{refusal, question, OfReply}
 use Rattle.step.specs.World.{World, Call, Place, SetRequestedSize, Request, HostAnswer, ReadConfig, WriteConfig, Outcome}
 use Rattle.step.specs.Step.{step, blockSize, usable, plugged, requested, newUsable, regionBlocks, Untouched}
 use Rattle.history.specs.History.{Event, present, eventsOf, Story, next, after}
@@ -42,6 +42,13 @@ KeepsShape s c = shapedOf (next s c .world .device) ≡ true
 -- so 12 never appears
 abbrev pub Never12 : Story → Call → Type 0
 Never12 s c = step (s .world) c .answer ≡ Refused 12 → ⊥
+
+-- R10.19: an unmapped row and a host sum that passes come of a spoiled table alone: no response of a run has reason 9 or 10
+abbrev pub NotSpoiled : (why : ℕ) → Type 0
+NotSpoiled why = (why ≡ 9 → ⊥) × (why ≡ 10 → ⊥)
+
+abbrev pub Never9Or10 : Story → Call → Type 0
+Never9Or10 s c = OfReply (λ reply. NotSpoiled (reply .why)) (step (s .world) c .answer)
 
 -- R6.2: the usable size never shrinks
 abbrev pub UsableNeverShrinks : World → Call → Outcome → Type 0

@@ -34,6 +34,7 @@ fn write_range(range: Range) {
         Range::Inside(offset) => number(b": inside ", offset.0),
         Range::Outside(part) => write_part(part),
     }
+    number(b", why ", range.why());
 }
 
 fn write_host(host: HostRange) {
@@ -43,6 +44,11 @@ fn write_host(host: HostRange) {
         HostRange::Unmapped => word(b": unmapped"),
         HostRange::SumPasses => word(b": sum passes"),
     }
+}
+
+fn write_host_range(host: HostRange) {
+    write_host(host);
+    number(b", why ", host.why());
 }
 
 fn write_legal(first: u64, offset: RegionOffset, host: HostAddr) {
@@ -59,6 +65,7 @@ fn write_change(change: Change) {
         Change::WrongState => word(b": wrong state"),
         Change::NoHost(host) => write_host(host),
     }
+    number(b", why ", change.why());
 }
 
 fn range(start: u64, usable: u64, addr: u64, blocks: u64) {
@@ -102,7 +109,7 @@ pub fn command(kind: u8, v: Numbers, name: &[u8], bitmap: &[u8], table: &[u64]) 
     word(name);
     match kind {
         b'r' => range(v.0, v.1, v.2, v.3),
-        b'h' => write_host(host_of(v.0 == 1, table, RegionOffset(v.1), v.2)),
+        b'h' => write_host_range(host_of(v.0 == 1, table, RegionOffset(v.1), v.2)),
         b'c' => change(v.0 == 1, v.1 == 1, v.2, v.3, bitmap, table),
         b's' => state(v.0, v.1, v.2, bitmap),
         _ => word(b": no command"),

@@ -36,8 +36,13 @@ fn show_call(call: HostCall) {
 fn show_reply(reply: Reply) {
     let resp = reply.response;
     print(
-        b"resp=# state=# length=#",
-        &[resp.resp_type as u64, resp.state as u64, reply.used as u64],
+        b"resp=# state=# length=# why=#",
+        &[
+            resp.resp_type as u64,
+            resp.state as u64,
+            reply.used as u64,
+            reply.why,
+        ],
     );
 }
 

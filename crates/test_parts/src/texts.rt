@@ -92,11 +92,11 @@ fn read_line(out: &mut [u8], command: &[u8]) -> usize {
     put_line(out, trace_text::read_line(front(&bytes, length)))
 }
 
-fn put(room: &mut [u8], kind: u8, a: u64, b: u64, c: u64, d: u64) -> usize {
+fn put(room: &mut [u8], kind: u8, a: u64, b: u64, c: u64, d: u64, e: u64) -> usize {
     match kind {
         b'c' => answer_text::put_create(room, GuestAddr(a), b, c),
         b'd' => answer_text::put_discard(room, RegionOffset(a), b, HostAddr(c)),
-        b'g' => answer_text::put_response(room, narrow(a), narrow(b), c, d),
+        b'g' => answer_text::put_response(room, narrow(a), narrow(b), c, d, e),
         b'r' => answer_text::put_refusal(room, a),
         _ => answer_text::put_sized(room, a, b),
     }
@@ -110,6 +110,6 @@ pub fn answer(out: &mut [u8], kind: u8, v: Row, command: &[u8]) -> usize {
     if out.len() < room {
         return 0;
     }
-    let n = put(&mut out[..room], kind, v[1], v[2], v[3], v[4]);
+    let n = put(&mut out[..room], kind, v[1], v[2], v[3], v[4], v[5]);
     put_form_at(out, room, b" #", &[n as u64])
 }

@@ -7,7 +7,8 @@
 // mem.rs answers (request 10/12). amended.txt goes on behind a refused unplug-all, where the rules depart from
 // mem.rs: its answers were worked out by a model of both documents. recorded.txt has requests that Linux's driver made
 // in a guest of QEMU, and the fields of QEMU's answers that may be compared. edges.txt has the edges of a line's form:
-// its answers were read against the rules (R12).
+// its answers were read against the rules (R12). why.txt has each reason of an ERROR at its edge and next to it, and
+// two at once: the earlier is told (request 8/12).
 use libc::STDOUT_FILENO;
 use trace_run::Run;
 use trace_run::first_bytes;
@@ -336,4 +337,5 @@ fn main() {
     run_file(b"amended.txt");
     run_file(b"recorded.txt");
     run_file(b"edges.txt");
+    run_file(b"why.txt");
 }

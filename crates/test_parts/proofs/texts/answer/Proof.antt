@@ -40,6 +40,9 @@ array-read-put-3 c = search needs
 array-read-put-4 : tie.Need-array-read-put-4
 array-read-put-4 c = search needs
 
+array-read-put-5 : tie.Need-array-read-put-5
+array-read-put-5 c = search needs
+
 put-requires : tie.Need-put-requires
 put-requires c κs = search needs
 
@@ -73,6 +76,7 @@ answer-spec =
     array-read-put-2
     array-read-put-3
     array-read-put-4
+    array-read-put-5
     put-requires
     slice-aggregate-put-form-at
     slice-aggregate-put-form-at-2
