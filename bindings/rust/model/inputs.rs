@@ -64,10 +64,10 @@ fn bytes(random: &mut Random, length: usize) -> Vec<u8> {
 
 /// A device, mostly placed, with its queue.
 fn device(random: &mut Random, memory: &mut Memory, nth: u64) -> Held {
-    let capacity = random.pick(&[256, 256, 512, 2304, 4096]);
+    let capacity = random.pick(&[256, 256, 512, 2304, 4096, 4096]);
     let any = 4 * random.below(capacity / 4);
-    let requested = random.pick(&[16, 64, 128, capacity, any]);
-    let several = random.chance(40);
+    let requested = random.pick(&[16, 64, 128, capacity, capacity, any]);
+    let several = random.chance(60);
     let mut record = vec![0; RECORD_WORDS];
     sys::make(&mut record, capacity, requested, several, false, 0, 1 << 30);
     let rows = match record[8] {
@@ -252,19 +252,18 @@ fn request_bytes(random: &mut Random, held: &Held) -> [u8; REQUEST_BYTES] {
         let byte = held.bitmap.get(block as usize / 8).copied().unwrap_or(0);
         byte >> (block % 8) & 1 == 1
     };
-    // Of a device with several regions also one about the first border.
+    // Of a device with several regions often one about the first border.
     let several = held.record.get(8) == Some(&1);
-    let from = if several && random.chance(30) {
-        BORDER - 32
-    } else {
-        0
+    let (from, among) = match several && random.chance(60) {
+        true => (BORDER - 8, 16),
+        false => (0, 64),
     };
-    let mut block = from + random.below(64);
+    let mut block = from + random.below(among);
     for _ in 0..8 {
         if plugged(block) == (request_type == 1) {
             break;
         }
-        block = from + random.below(64);
+        block = from + random.below(among);
     }
     let usable = held.record.get(4).copied().unwrap_or(0);
     let end = START.wrapping_add(usable);
@@ -340,7 +339,7 @@ pub fn spoil(random: &mut Random, memory: &mut Memory, held: &mut Held) {
     let (any, part) = (random.next(), random.below(3) as usize);
     let queue = words(held);
     let length = memory.bytes.len();
-    match random.below(15) {
+    match random.below(18) {
         0 => {
             // Memory that ends in a part, or just with it.
             let end = queue[part].wrapping_add(SIZES[part] - random.below(3));
@@ -397,7 +396,7 @@ pub fn spoil(random: &mut Random, memory: &mut Memory, held: &mut Held) {
             let taken = random.pick(&[1, 128, 129, 65_536, any % 65_537]);
             set(&mut held.queue, 5, taken);
         }
-        13 => {
+        13..=16 => {
             // A row of which somebody else wrote whether it is mapped, and where.
             let row = 3 * random.below(2) as usize;
             let near_top = 0u64.wrapping_sub(any % 64 * BLOCK);

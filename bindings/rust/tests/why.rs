@@ -166,13 +166,13 @@ fn a_map_table_that_somebody_else_wrote() {
             expected
         );
         let mut unplug = spoiled(&single, 0, mapped, host, &[]);
+        // The state of blocks looks at no row.
+        assert_eq!(ask(&mut unplug, Request::state(START, 2)), served(0, 0));
         let told = ask(&mut unplug, Request::unplug(START, blocks));
         match expected {
             Some(expected) => assert_eq!(told, in_vain(expected)),
             None => assert!(matches!(told, Answer::Wants(_)), "{told:?}"),
         }
-        // The state of blocks looks at no row.
-        assert_eq!(ask(&mut unplug, Request::state(START, 2)), served(0, 0));
     }
 
     // The second of several rows; the border comes before the row.
