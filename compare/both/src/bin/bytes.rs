@@ -50,8 +50,8 @@ fn main() {
                     "{export}: refused, and yet something changed"
                 );
             }
-            if let (3 | 4 | 8 | 9, &[5, _, _, _, _, resp, _, _, why, ..]) = (export, &*lent.answer)
-            {
+            let told = (number, export, &*lent.answer);
+            if let (0, 3 | 4 | 8 | 9, &[5, _, _, _, _, resp, _, _, why, ..]) = told {
                 let error = resp == u64::from(ERROR);
                 assert!(
                     why <= 11 && (why != 0) == error,
