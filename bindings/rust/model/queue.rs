@@ -83,11 +83,13 @@ impl Held {
             return chain::request(self, memory, table, head);
         }
         let mut words = [0; ANSWER_WORDS];
-        let (before, asked) = (self.clone(), chain::asked(memory, table, head));
+        let asked = chain::asked(memory, table, head);
+        let before = asked.map(|asked| (self.clone(), asked));
         let Memory { bytes, base, .. } = memory;
         match self.device().request(bytes, *base, table, head, &mut words) {
             0 => Ok(with_why(words, || {
-                before.with_device(|device| device.why(asked?, &[]))
+                let (held, asked) = before?;
+                held.with_device(|device| device.why(asked, &[]))
             })),
             number => Err(number),
         }
@@ -99,13 +101,13 @@ impl Held {
             return chain::host_answer(self, memory, ok, host);
         }
         let mut words = [0; ANSWER_WORDS];
-        let before = self.clone();
+        let before = self.discarding().then(|| self.clone());
         let Memory { bytes, base, .. } = memory;
         match self
             .device()
             .host_answer(bytes, *base, ok, host, &mut words)
         {
-            0 => Ok(with_why(words, || before.why_ended(ok))),
+            0 => Ok(with_why(words, || before?.why_ended(ok))),
             number => Err(number),
         }
     }
