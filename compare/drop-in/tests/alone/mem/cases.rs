@@ -615,6 +615,41 @@ fn an_unplug_all_that_the_host_refuses_takes_off_what_it_has_cleared() {
 }
 
 #[test]
+fn the_log_says_which_error_it_was() {
+    let rig = Rig::placed();
+    log::take();
+    for (request, told, said) in [
+        (Request::plug(START, 1), 0, None),
+        (
+            Request::plug(START + 1, 1),
+            3,
+            Some("the address is no multiple of 4 MiB (1)"),
+        ),
+        (
+            Request::plug(START, 1),
+            3,
+            Some("a block is plugged already or, for an unplug, is not plugged (7)"),
+        ),
+        (Request::plug(START + 1, 65), 1, None), // NACK
+        (
+            Request::state(START - BLOCK, 1),
+            3,
+            Some("the range begins below the start of the region (4)"),
+        ),
+    ] {
+        assert_eq!(rig.request(request), told);
+        let logged = log::take();
+        let logged = logged.split_once("ERROR: ").map(|(_, why)| why);
+        assert_eq!(logged, said, "{request:?}");
+    }
+    libc::fail(Some(Call::Madvise(HOST, BLOCK as usize, libc::MADV_REMOVE)));
+    assert_eq!(rig.request(Request::unplug_all()), 3);
+    assert!(log::take().ends_with("the host could not discard the memory (11)"));
+    libc::fail(None);
+    libc::take();
+}
+
+#[test]
 fn what_a_handler_shows_is_the_devices() {
     let mut rig = Rig::new(4096, 4096, true);
     rig.place(START, 3).expect("placed");
