@@ -1,19 +1,17 @@
 -- SPDX-License-Identifier: Apache-2.0 AND BSD-3-Clause
 -- Every response and every config that the device gives is read back by the driver: by one walk over `step`, of what a response leaves.
-use Prim.Native.Nat.{ℕ, _+_, _-_, _*_, _≤_, _<_, _^_}
+use Prim.Native.Nat.{ℕ, _+_, _-_, _≤_, _<_, _^_}
 use mathlib.Core.Path.{_≡_, refl, sym, ap, _∙_}
-use mathlib.Core.Bool.{Bool, true, false, cond, not}
-use mathlib.Core.List.{List, []}
+use mathlib.Core.Bool.{Bool, true, false, cond}
+use mathlib.Core.List.{List}
 use native.Mathlib.Omega.{arith}
-use lib.Dec.{ltb, eqb}
+use lib.Dec.{ltb}
 use lib.ListN.{length}
-use Rattle.units.specs.Numbers.{top, bytesOf, blocksIn}
+use Rattle.units.specs.Numbers.{blocksIn}
 use Rattle.units.specs.declared.GuestAddr.{GuestAddr}
 use Rattle.units.proofs.Tests.{by-test}
 use Rattle.little_endian.specs.Bytes.{part}
 use Rattle.bitmap.specs.Blocks.{every}
-use Rattle.bitmap.specs.declared.Found.{Found}
-use Rattle.bitmap.specs.declared.Found.the-variants.{At, Nothing as NoneSet}
 use Rattle.wire.specs.declared.VirtioMemReq.{VirtioMemReq}
 use Rattle.wire.specs.declared.VirtioMemResp.{VirtioMemResp}
 use Rattle.wire.specs.declared.VirtioMemConfig.{VirtioMemConfig}
@@ -21,26 +19,24 @@ use Rattle.chain.specs.declared.Parsed.{Parsed}
 use Rattle.chain.specs.declared.Parsed.the-variants.{Request as Got, Bad}
 use Rattle.chain.specs.Chain.{parsed, reaches}
 use Rattle.chain.proofs.Laws.{delivered-reads}
-use Rattle.rows.specs.declared.MapRow.{MapRow}
 use Rattle.record.specs.declared.Device.{Device}
 use Rattle.record.specs.declared.Pending.{Pending}
 use Rattle.record.specs.declared.Pending.the-variants.{Nothing, Create, Discard, DiscardOne}
-use Rattle.record.specs.Shape.{shapedOf, sizeOk}
+use Rattle.record.specs.Shape.{shapedOf}
 use Rattle.record.proofs.Laws.{shaped-is, config-shaped-of}
-use Rattle.resize.specs.declared.Growth.{Growth}
-use Rattle.resize.specs.declared.Growth.the-variants.{Asks, Settled}
 use Rattle.change.specs.declared.Range.{Range}
 use Rattle.change.specs.declared.Range.the-variants.{Inside, Outside as NotInside}
 use Rattle.change.specs.declared.Change.{Change}
 use Rattle.change.specs.declared.Change.the-variants.{Legal, Outside, WrongState, NoHost}
 use Rattle.change.specs.Change.{stateIn, stateOf}
-use Rattle.step.specs.declared.Answer.{Answer}
-use Rattle.step.specs.declared.Answer.the-variants.{Refused, Wants, Sized, Unserved, Served, Done}
+use Rattle.change.proofs.Why.{Failed}
+use Rattle.step.specs.declared.Answer.the-variants.{Served}
 use Rattle.step.specs.declared.Reply.{Reply}
 use Rattle.step.specs.declared.Verdict.{Verdict}
-use Rattle.step.specs.Answers.{servedWith}
-use Rattle.step.specs.World.{World, Guest, Call, Place, SetRequestedSize, Request, HostAnswer, ReadConfig, WriteConfig, Outcome}
-use Rattle.step.specs.Step.{blockSize, region, plugged, requested, several, coveredBy, ack, nack, error, served, stateType, unless, plugAs, plug, unplugAs, oneAs, nextAs, serve, request, resizes, placing, place, setRequestedSize, hostAnswer, readConfig, writeConfig, step}
+use Rattle.step.specs.Answers.{servedWith, OfReply}
+use Rattle.step.specs.World.{World, Guest, Call, Request, HostAnswer, ReadConfig, Outcome}
+use Rattle.step.specs.Step.{region, plugged, requested, ack, error, served, stateType, request, hostAnswer, readConfig, step}
+use Rattle.step.proofs.Served.{Of, Known, SaysAt, each-call, serve-of, unplug-ends, one-ends, create-of}
 use Rattle.driver.specs.declared.GotConfig.{GotConfig}
 use Rattle.driver.specs.declared.GotConfig.the-variants.{Config}
 use Rattle.driver.specs.declared.Proposal.the-variants.{Plug, Refused as NoPlug}
@@ -70,98 +66,30 @@ state-known : (b start region addr count : ℕ) (bs : List Bool) → stateOf b s
 unfolding stateOf
 state-known b start region addr count bs = at-most (ltb addr start) 0 _ 2 (omega arith) (state-in-known _)
 
--- ---- the walk: K holds of each response that an outcome gives, with its used length and the bytes afterwards
-unfoldable Tells : (K : Reply → List ℕ → Type 0) → Answer → List ℕ → Type 0
-Tells K (Refused n) bytes = _≡_ {A = ℕ} 0 0
-Tells K (Wants call) bytes = _≡_ {A = ℕ} 0 0
-Tells K Sized bytes = _≡_ {A = ℕ} 0 0
-Tells K (Unserved reason) bytes = _≡_ {A = ℕ} 0 0
-Tells K (Served reply) bytes = K reply bytes
-Tells K Done bytes = _≡_ {A = ℕ} 0 0
+-- ---- so every verdict's are known
+abbrev KnownVerdict : Verdict → Type 0
+KnownVerdict v = (v .response .«resp_type» ≤ 3) × (v .response .state ≤ 2)
 
-record Told (K : Reply → List ℕ → Type 0) (o : Outcome) : Type 0 where
-  told : Tells K (o .answer) (o .bytes)
+abbrev AnyWorld : World → Type 0
+AnyWorld w = Prim.Unit {0}
 
-module _ (K : Reply → List ℕ → Type 0) where
-  either : (t : Bool) (x y : Outcome) → Told K x → Told K y → Told K (cond t x y)
-  either true x y p q = p
-  either false x y p q = q
+any-failed : (x : Change) → Failed (λ why. KnownVerdict (error why)) x
+unfolding Failed
+any-failed (Legal first offset host) = tt
+any-failed (Outside part) = (omega arith, omega arith)
+any-failed WrongState = (omega arith, omega arith)
+any-failed (NoHost host) = (omega arith, omega arith)
 
-  unless-told : (n : ℕ) (w : World) (bytes : List ℕ) (o : Outcome) → Told K o → Told K (unless n w bytes o)
-  unfolding unless Tells
-  unless-told n w bytes o p = either (eqb n 0) _ _ p (record { told = refl })
-
-  -- no response is given by a placing, a size change or a config call
-  resizes-told : (x : Growth) (w : World) → Told K (resizes x w)
-  unfolding resizes Tells
-  resizes-told Settled w = record { told = refl }
-  resizes-told (Asks i last size) w = record { told = refl }
-
-  placing-told : (w : World) → Told K (placing w)
-  unfolding placing Tells
-  placing-told w = either (several w) _ _ (resizes-told _ w) (record { told = refl })
-
-  place-told : (w : World) (at size : ℕ) (slots : List ℕ) (bs : List Bool) (rows : List MapRow) → Told K (place w at size slots bs rows)
-  unfolding place
-  place-told w at size slots bs rows = unless-told _ w [] _ (placing-told _)
-
-  size-told : (w : World) (mib : ℕ) → Told K (setRequestedSize w mib)
-  unfolding setRequestedSize Tells
-  size-told w mib = either (not (sizeOk (blockSize w) (mib * 1048576) (region w))) _ _ (record { told = refl }) (resizes-told _ _)
-
-  read-told : (w : World) (offset : ℕ) (buffer : List ℕ) → Told K (readConfig w offset buffer)
-  unfolding readConfig Tells
-  read-told w offset buffer = either (not (shapedOf (w .device))) _ _ (record { told = refl }) (record { told = refl })
-
-  write-told : (w : World) (buffer : List ℕ) → Told K (writeConfig w buffer)
-  unfolding writeConfig Tells
-  write-told w buffer = either (not (shapedOf (w .device))) _ _ (record { told = refl }) (record { told = refl })
-
-  module _ (g : Guest) (status : ℕ) (say : (v : Verdict) (w : World) → v .response .«resp_type» ≤ 3 → v .response .state ≤ 2 → Told K (served v status w g)) where
-    ack-told : (w : World) → Told K (served ack status w g)
-    ack-told w = say ack w (omega arith) (omega arith)
-
-    nack-told : (w : World) → Told K (served nack status w g)
-    nack-told w = say nack w (omega arith) (omega arith)
-
-    error-told : {why : ℕ} (w : World) → Told K (served (error why) status w g)
-    error-told w = say (error _) w (omega arith) (omega arith)
-
-    plug-told : (x : Change) (w : World) (count : ℕ) → Told K (plugAs x w count status g)
-    unfolding plugAs
-    plug-told (Legal first offset host) w count = ack-told _
-    plug-told (Outside part) w count = error-told _
-    plug-told WrongState w count = error-told _
-    plug-told (NoHost part) w count = error-told _
-
-    unplug-told : (x : Change) (w : World) (count : ℕ) → Told K (unplugAs x w count status g)
-    unfolding unplugAs Tells
-    unplug-told (Legal first offset host) w count = either (ltb (plugged w) (bytesOf (blockSize w) count)) _ _ (record { told = refl }) (record { told = refl })
-    unplug-told (Outside part) w count = error-told _
-    unplug-told WrongState w count = error-told _
-    unplug-told (NoHost part) w count = error-told _
-
-    one-told : (x : Change) (w : World) (block : ℕ) → Told K (oneAs x w block status g)
-    unfolding oneAs Tells
-    one-told (Legal first offset host) w block = record { told = refl }
-    one-told (Outside part) w block = error-told _
-    one-told WrongState w block = error-told _
-    one-told (NoHost part) w block = error-told _
-
-    next-told : (x : Found) (w : World) → Told K (nextAs x w status g)
-    unfolding nextAs
-    next-told NoneSet w = ack-told _
-    next-told (At block) w = one-told _ w block
-
-    serve-told : (w : World) (q : VirtioMemReq) → Told K (serve w q status g)
-    unfolding serve plug Tells
-    serve-told w q =
-        let type = q .«req_type» in
-        let count = q .«nb_blocks» in
-        either (eqb type 0) _ _ (either (ltb (requested w) (plugged w + bytesOf (blockSize w) count)) _ _ (nack-told _) (plug-told _ w count))
-        (either (eqb type 1) _ _ (unplug-told _ w count)
-        (either (eqb type 2) _ _ (next-told _ w)
-        (either (eqb type 3) _ _ (say _ w (type-known _) (state-known _ _ _ _ _ _)) (record { told = refl }))))
+known : Known KnownVerdict AnyWorld
+known =
+    record {
+      acks = (omega arith, omega arith);
+      nacks = (omega arith, omega arith);
+      states = λ w u addr count. (type-known _, state-known _ _ _ _ _ _);
+      changes = λ w u addr count wanted. any-failed _;
+      discards = (omega arith, omega arith);
+      clears = λ w block u. tt;
+    }
 
 -- ---- a response that is delivered is read back
 read-at : (g : Guest) (status : GuestAddr) (v : Verdict) (w : World) → v .response .«resp_type» ≤ 3 → v .response .state ≤ 2
@@ -173,49 +101,35 @@ read-at g status v w t s ten xs same r reads =
     (λ u. let z : _≡_ {A = ℕ} 0 10 = rw u at ten in absurd (omega arith))
 
 module _ (w : World) where
-  goes-back : (c : Call) (g : Guest) (status : GuestAddr) → GoesTo w c g status
-      → (v : Verdict) (w′ : World) → v .response .«resp_type» ≤ 3 → v .response .state ≤ 2 → Told (ReadBack w c) (served v (status .0) w′ g)
-  unfolding Tells
-  goes-back c g status goes v w′ t s =
-      record { told = record { type-known = t; state-known = s; guest = g; status = status; goes = goes; read = read-at g status v w′ t s } }
+  goes-back : (c : Call) (g : Guest) (status : GuestAddr) → GoesTo w c g status → SaysAt KnownVerdict (ReadBack w c) g (status .0)
+  unfolding OfReply
+  goes-back c g status goes v w′ k =
+      record { of = record { type-known = k .0; state-known = k .1; guest = g; status = status; goes = goes; read = read-at g status v w′ (k .0) (k .1) } }
 
-  request-told : (g : Guest) (descriptors head : ℕ) (p : Parsed) → parsed (g .mem) (g .base) descriptors head ≡ p → Told (ReadBack w (Request g descriptors head)) (request p w g)
-  unfolding request Tells
-  request-told g descriptors head (Bad reason) e = record { told = refl }
+  request-told : (g : Guest) (descriptors head : ℕ) (p : Parsed) → parsed (g .mem) (g .base) descriptors head ≡ p → Of (ReadBack w (Request g descriptors head)) (request p w g)
+  unfolding request OfReply
+  request-told g descriptors head (Bad reason) e = record { of = tt }
   request-told g descriptors head (Got q status) e =
       let c = Request g descriptors head in
-      serve-told (ReadBack w c) g (status .0) (goes-back c g status (OfChain descriptors head q refl e)) w q
+      serve-of KnownVerdict AnyWorld known (ReadBack w c) g (status .0) (goes-back c g status (OfChain descriptors head q refl e)) w tt q
 
-  answer-told : (g : Guest) (ok : Bool) (host : ℕ) (p : Pending) → w .device .pending ≡ p → Told (ReadBack w (HostAnswer g ok host)) (hostAnswer p w g ok host)
-  unfolding hostAnswer Tells
-  answer-told g ok host Nothing e = record { told = refl }
-  answer-told g ok host (Create i last) e =
-      let K = ReadBack w (HostAnswer g ok host) in
-      either K ok _ _ (either K (ltb top (host + coveredBy w i last)) _ _ (record { told = refl }) (record { told = refl })) (record { told = refl })
+  answer-told : (g : Guest) (ok : Bool) (host : ℕ) (p : Pending) → w .device .pending ≡ p → Of (ReadBack w (HostAnswer g ok host)) (hostAnswer p w g ok host)
+  unfolding hostAnswer OfReply
+  answer-told g ok host Nothing e = record { of = tt }
+  answer-told g ok host (Create i last) e = create-of _ w g i last ok host
   answer-told g ok host (Discard first count status) e =
       let c = HostAnswer g ok host in
-      let K = ReadBack w c in
-      let say = goes-back c g status (OfUnplug ok host first count refl e) in
-      either K ok _ _ (ack-told K g (status .0) say _) (error-told K g (status .0) say _)
+      unplug-ends KnownVerdict AnyWorld known (ReadBack w c) g (status .0) (goes-back c g status (OfUnplug ok host first count refl e)) w first count ok host
   answer-told g ok host (DiscardOne block status) e =
       let c = HostAnswer g ok host in
-      let K = ReadBack w c in
-      let say = goes-back c g status (OfUnplugAll ok host block refl e) in
-      either K ok _ _ (next-told K g (status .0) say _ _) (error-told K g (status .0) say _)
-
-  step-told : (c : Call) → Told (ReadBack w c) (step w c)
-  unfolding step
-  step-told (Place at size slots bs rows) = unless-told _ _ w [] _ (place-told _ w at size slots bs rows)
-  step-told (SetRequestedSize mib) = unless-told _ _ w [] _ (size-told _ w mib)
-  step-told (Request g descriptors head) = unless-told _ _ w (g .mem) _ (request-told g descriptors head (parsed (g .mem) (g .base) descriptors head) refl)
-  step-told (HostAnswer g ok host) = unless-told _ _ w (g .mem) _ (answer-told g ok host (w .device .pending) refl)
-  step-told (ReadConfig offset buffer) = read-told _ w offset buffer
-  step-told (WriteConfig offset buffer) = write-told _ w buffer
+      one-ends KnownVerdict AnyWorld known (ReadBack w c) g (status .0) (goes-back c g status (OfUnplugAll ok host block refl e)) w tt block ok host
 
   -- ---- every response, of every call in every world
   pub read-back : (c : Call) (reply : Reply) → step w c .answer ≡ Served reply → ReadBack w c reply (step w c .bytes)
-  unfolding Tells
-  read-back c reply e = rw e at (step-told c .told)
+  unfolding OfReply
+  read-back c reply e =
+      let told = each-call (ReadBack w) w (λ g descriptors head. request-told g descriptors head (parsed (g .mem) (g .base) descriptors head) refl) (λ g ok host. answer-told g ok host (w .device .pending) refl) in
+      rw e at (told c .of)
 
 -- the place is one: that of the chain
 goes-once : (w : World) (g g′ : Guest) (descriptors head : ℕ) (q : VirtioMemReq) (status status′ : GuestAddr) → parsed (g .mem) (g .base) descriptors head ≡ Got q status

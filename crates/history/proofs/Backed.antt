@@ -24,9 +24,9 @@ use Rattle.change.specs.Why.{partWhy, hostWhy, rangeWhy}
 use Rattle.change.proofs.Why.{Failed, either-failed}
 use Rattle.change.proofs.Laws.{inside-is}
 use Rattle.step.specs.World.{World}
-use Rattle.step.specs.Step.{blockSize, region, usable, start, several, changing, stateType}
+use Rattle.step.specs.Step.{blockSize, region, usable, start, several, changing}
 use Rattle.step.proofs.Served.{Known, of-every-reply}
-use Rattle.history.specs.Good.{rowSize, Good}
+use Rattle.history.specs.Good.{rowSize}
 use Rattle.history.specs.Rules.{FromEveryGood, NotSpoiled, Never9Or10}
 
 low : (n : ℕ) → n < 9 → NotSpoiled n
@@ -100,12 +100,12 @@ changes w u addr count wanted = go (rangeOf (blockSize w) (start w) (usable w) a
         (low 7 (omega arith))
     go (NotInside part) e = part-low part
 
-known : Known (λ type why. NotSpoiled why) Backed
+known : Known (λ v. NotSpoiled (v .why)) Backed
 known =
     record {
       acks = low 0 (omega arith);
       nacks = low 0 (omega arith);
-      states = state-low;
+      states = λ w u addr count. state-low _;
       changes = changes;
       discards = (λ e. omega arith, λ e. omega arith);
       clears = λ w block u. record { whole = u .whole; in-region = u .in-region; below = u .below; fits = u .fits };
@@ -115,4 +115,4 @@ pub never-9-or-10 : FromEveryGood Never9Or10
 never-9-or-10 s g =
     let w = s .world in
     let f = shaped-is (w .device) (g .shaped) in
-    of-every-reply (λ type why. NotSpoiled why) Backed known w (record { whole = omega (arith, f .block-size); in-region = f .usable-in; below = g .mapped .below; fits = g .mapped .fits })
+    of-every-reply (λ v. NotSpoiled (v .why)) Backed known w (record { whole = omega (arith, f .block-size); in-region = f .usable-in; below = g .mapped .below; fits = g .mapped .fits })

@@ -2,7 +2,7 @@
 -- `jambcopper::jambcopper_serve` meets its contract: 12 where there is no record, or no queue; no head that is taken; or the device's request, and the head by its answer.
 use native.Mathlib.Omega.{arith}
 use mathlib.Core.Path.{refl}
-use Rattle.step.proofs.Served.{served-short}
+use Rattle.step.proofs.Served.{always-short}
 use Rattle.queue.proofs.Turns.{told-as, walk-as}
 use Rattle.jambcopper.proofs.QueueWays.{no-record, no-queue, unmoved-told, about-told}
 use borrow.Author.Needs.{needs}
@@ -125,7 +125,7 @@ returns-4 : tie.Need-returns-4
 returns-4 c =
     about-told _ _ _ _ (c .before .before .before .before .before .before .before .before .before .before .before .before .before .before .before .before .before .before .before .before .before .before .before .before .before .before .before .before .before .before .before .before .before .before .before .before .before .before .before .decode .ensures) _ (c .before .before .before .before .before .before .before .before .before .before .before .before .before .before .before .before .before .before .before .before .before .before .before .before .before .before .before .before .before .before .before .before .before .before .before .before .before .d .given .1) _ (c .before .before .before .before .before .before .before .before .before .before .before .before .before .before .before .before .before .before .before .before .before .before .before .before .before .before .before .before .before .before .before .before .before .before .decode-queue .ensures) _ (c .before .before .before .before .before .before .before .before .before .before .before .before .before .before .before .before .before .before .before .before .before .before .before .before .before .before .before .before .before .before .before .before .q .given .1)
     _ _ _ _ _ _ _ (c .before .before .before .before .before .before .before .before .before .before .before .before .before .before .before .before .before .before .before .before .before .jambcopper-request .ensures)
-    refl (served-short _ _ _ _) _ _ _ _
+    refl (always-short _ _) _ _ _ _
     (walk-as _ _ _ _ _ _ (c .before .before .before .before .before .before .before .before .before .before .before .before .before .before .before .before .before .before .before .before .before .before .before .before .before .before .before .before .before .next-taking .ensures) _ (c .before .before .before .before .before .before .before .before .before .before .before .before .before .before .before .before .before .before .before .before .before .before .before .before .before .before .before .head .given .1) _ (c .before .before .before .before .before .before .before .before .before .before .before .before .took-head .ensures))
     _ (c .before .before .before .before .before .before .before .before .before .before .before .before .before .ending-told .ensures) _ _ _ _ _ (c .before .before .before .before .before .before .before .before .before .before .settle .ensures) (c .before .before .before .before .before .before .encode-queue .ensures) (c .before .before .pass-on .ensures)
 

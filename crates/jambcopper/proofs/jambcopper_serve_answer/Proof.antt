@@ -2,7 +2,7 @@
 -- `jambcopper::jambcopper_serve_answer` meets its contract: 12 where there is no record, or no queue; a number of the queue's; or the device's answer, and the head that is out by it.
 use mathlib.Core.Path.{refl}
 use borrow.Author.Tests.{eq-eqb, ne-eqb}
-use Rattle.step.proofs.Served.{answered-short}
+use Rattle.step.proofs.Served.{always-short}
 use Rattle.queue.specs.Queue.{answers}
 use Rattle.queue.proofs.Turns.{refused-as, heard-as}
 use Rattle.jambcopper.proofs.QueueWays.{no-record, no-queue, unmoved-told, aside-told, about-told}
@@ -160,7 +160,7 @@ unfolding answers
 returns-5 c =
     about-told _ _ _ _ (c .before .before .before .before .before .before .before .before .before .before .before .before .before .before .before .before .before .before .before .before .before .before .before .before .before .before .before .before .before .before .before .before .before .before .before .before .before .before .before .before .before .before .decode .ensures) _ (c .before .before .before .before .before .before .before .before .before .before .before .before .before .before .before .before .before .before .before .before .before .before .before .before .before .before .before .before .before .before .before .before .before .before .before .before .before .before .before .before .d .given .1) _ (c .before .before .before .before .before .before .before .before .before .before .before .before .before .before .before .before .before .before .before .before .before .before .before .before .before .before .before .before .before .before .before .before .before .before .before .before .before .decode-queue .ensures) _ (c .before .before .before .before .before .before .before .before .before .before .before .before .before .before .before .before .before .before .before .before .before .before .before .before .before .before .before .before .before .before .before .before .before .before .before .q .given .1)
     _ _ _ _ _ _ _ (c .before .before .before .before .before .before .before .before .before .before .before .before .before .before .before .before .before .before .before .before .before .before .jambcopper-host-answer2 .ensures)
-    refl (answered-short _ _ _ _) _ _ _ _
+    refl (always-short _ _) _ _ _ _
     (heard-as _ _ _ _ _ _ _ _ (c .before .before .before .before .before .before .before .before .before .before .before .before .before .before .before .before .before .before .before .before .before .before .before .before .before .before .before .before .before .before .before .before .queue-refusal .ensures) (eq-eqb _ _ (c .before .before .before .before .before .before .before .before .before .before .before .before .before .before .before .before .before .before .before .before .before .before .before .before .before .before .before .before .before .before .before .if1 .left)) _ (c .before .before .before .before .before .before .before .before .before .before .before .before .before .before .before .before .before .before .before .before .before .before .before .before .before .before .before .before .before .taken .given .1))
     _ (c .before .before .before .before .before .before .before .before .before .before .before .before .ending-told .ensures) _ _ _ _ _ (c .before .before .before .before .before .before .before .before .before .before .settle .ensures) (c .before .before .before .before .before .before .encode-queue .ensures) (c .before .before .pass-on .ensures)
 
