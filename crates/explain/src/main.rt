@@ -299,7 +299,7 @@ fn write_why(s: State, why: &[u8]) {
     if s.why == 0 {
         io::write_all(
             STDOUT_FILENO,
-            b"    why: no line since it last had that was refused, a NACK or an ERROR\n",
+            b"    why: no refusal, no NACK and no ERROR keeps it there\n",
         );
         return;
     }
@@ -359,8 +359,12 @@ fn summary(s: State, d: Device, bitmap: &[u8], why: &[u8]) {
     );
 }
 
-fn no_summary() {
+// The summary of a run that has no device.
+fn no_summary(s: State, why: &[u8]) {
     io::write_all(STDOUT_FILENO, b"\nsummary: the run never had a device\n");
+    if 0 < s.why {
+        write_why(s, why);
+    }
 }
 
 fn main() {
@@ -373,8 +377,8 @@ fn main() {
     let state = finish(read, &mut bitmap, &mut table, &mut mem, &line, &mut why);
     let run = state.run;
     match run {
-        Run::Before => no_summary(),
+        Run::Before => no_summary(state, &why),
         Run::On(device) => summary(state, device, &bitmap, &why),
-        Run::Ended => no_summary(),
+        Run::Ended => no_summary(state, &why),
     }
 }
