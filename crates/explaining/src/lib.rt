@@ -96,9 +96,9 @@ fn device_in(run: Run, other: Device) -> Device
     }
 }
 
-// One line of a run: its bytes without their newline go in. The line that it prints comes out at the start of `out`, with
-// its newline, and its sentence at the start of `said`, without one. A length is one more than the buffer's where there
-// is no room for it; 201 bytes are room enough.
+// One line of a run: its bytes without their newline go in. The line that it prints comes out at the start of `out`,
+// with its newline, and its sentence at the start of `said`, without one. A length is one more than the buffer's where
+// there is no room for it; 201 bytes are room enough.
 pub fn explain(
     run: Run,
     bitmap: &mut [u8],
