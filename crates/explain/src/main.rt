@@ -29,8 +29,8 @@ const ROW: u32 = 64;
 const ROWS: u64 = 4096;
 
 // What has been read of a line fills so many bytes of its buffer, which has 201: one more than a line may have. `lines`
-// counts those that were served, `why` is the last that was a refusal, a NACK or an ERROR since the guest last had what
-// was requested, or 0; its sentence has `said` bytes.
+// counts those that were served, `why` is the last that was a refusal, a NACK or an ERROR, since the guest had what was
+// requested or a size change was done, or 0; its sentence has `said` bytes.
 struct State {
     run: Run,
     filled: usize,
@@ -47,6 +47,18 @@ fn holds_back(answer: Answer) -> bool {
         Answer::Sized => false,
         Answer::Unserved(_) => false,
         Answer::Served(reply) => 0 < reply.response.resp_type,
+        Answer::Done => false,
+    }
+}
+
+// Whether a size change, or placing, is done: what was refused before it keeps the guest from nothing.
+fn is_sized(answer: Answer) -> bool {
+    match answer {
+        Answer::Refused(_) => false,
+        Answer::Wants(_) => false,
+        Answer::Sized => true,
+        Answer::Unserved(_) => false,
+        Answer::Served(_) => false,
         Answer::Done => false,
     }
 }
@@ -109,7 +121,7 @@ fn end_line(
         first_bytes(&out, shown.length),
         first_bytes(&said, length),
     );
-    if has_all(next) {
+    if is_sized(answer) | has_all(next) {
         return State {
             run: next,
             filled: 0,
