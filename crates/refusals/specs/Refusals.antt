@@ -1,7 +1,7 @@
 -- SPDX-License-Identifier: Apache-2.0 AND BSD-3-Clause
 -- Which sentence a refusal brings (R12.13), with the numbers that matter: sizes and offsets in MiB, addresses in bytes.
 use Prim.Native.Nat.{ℕ, _/_, _%_, _*_}
-use mathlib.Core.Bool.{Bool, cond}
+use mathlib.Core.Bool.{cond}
 use mathlib.Core.List.{List, [], _∷_, _++_}
 use lib.Dec.{leb, eqb}
 use Rattle.units.specs.Numbers.{MiB, alignmentOf}

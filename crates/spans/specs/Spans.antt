@@ -1,7 +1,7 @@
 -- SPDX-License-Identifier: Apache-2.0 AND BSD-3-Clause
 -- The numbers that sentences tell: sizes and offsets in MiB, the range that a line is about, and what a creation asks for.
 use Prim.Native.Nat.{ℕ, _+_, _-_, _*_, _/_}
-use mathlib.Core.Bool.{Bool, cond}
+use mathlib.Core.Bool.{cond}
 use Rattle.units.specs.Numbers.{MiB, saturated, bytesOf, blocksIn, mapRegion}
 use Rattle.record.specs.declared.Device.{Device}
 use Rattle.record.specs.declared.Pending.{Pending}
