@@ -271,18 +271,18 @@ fn finish(
 // How many rows a line of the map stands for, where it is more than one.
 fn put_count(out: &mut [u8], at: usize, rows: u32) -> usize {
     if 1 < rows {
-        return put_form_at(out, at, b", # rows: ", &[rows as u64]);
+        return put_form_at(out, at, b", # rows alike\n", &[rows as u64]);
     }
-    put_form_at(out, at, b": ", &[])
+    put_form_at(out, at, b"\n", &[])
 }
 
-// Writes a line of the map: so many equal rows, of which this is the first.
+// Writes a line of the map: so many equal rows, of which this is the first, and the number of its first block.
 fn write_rows(bitmap: &[u8], first: u32, rows: u32) {
     let mut text = [0u8; 256];
-    let mut to = put_form(&mut text, b"    block #", &[first as u64]);
-    to = put_count(&mut text, to, rows);
+    let mut to = put_form(&mut text, b"    ", &[]);
     to = put_row(&mut text, to, bitmap, first, ROW);
-    to = put_form_at(&mut text, to, b"\n", &[]);
+    to = put_form_at(&mut text, to, b"  block #", &[first as u64]);
+    to = put_count(&mut text, to, rows);
     io::write_all(STDOUT_FILENO, first_bytes(&text, to));
 }
 
