@@ -28,7 +28,7 @@ use fence::Fence;
 use inputs::Guest;
 use queue::{Held, Memory, Told, ANSWER_WHY};
 use random::Random;
-use tally::{Outcomes, Tally, TOLD, WHY};
+use tally::{Calls, Outcomes, Tally, ENDED, SERVED, TOLD};
 
 fn main() {
     let args: Vec<String> = env::args().skip(1).collect();
@@ -130,19 +130,8 @@ impl Library {
 
 /// The outcomes of each call: a number, or that of an answer; that of a response is by its reason.
 const MAKE: Outcomes = &[(16, "made"), (12, "12")];
+const EMPTY: Outcomes = &[(23, "empty")];
 const SERVE: Outcomes = &[
-    (23, "empty"),
-    (WHY, "served"),
-    (WHY + 1, "why-1"),
-    (WHY + 2, "why-2"),
-    (WHY + 3, "why-3"),
-    (WHY + 4, "why-4"),
-    (WHY + 5, "why-5"),
-    (WHY + 6, "why-6"),
-    (WHY + 7, "why-7"),
-    (WHY + 8, "why-8"),
-    (WHY + 9, "why-9"),
-    (WHY + 10, "why-10"),
     (20, "unserved"),
     (18, "discard"),
     (12, "12"),
@@ -153,10 +142,6 @@ const SERVE: Outcomes = &[
     (15, "15"),
 ];
 const ANSWER: Outcomes = &[
-    (WHY, "served"),
-    (WHY + 9, "why-9"),
-    (WHY + 10, "why-10"),
-    (WHY + 11, "why-11"),
     (18, "discard"),
     (19, "sized"),
     (12, "12"),
@@ -166,7 +151,11 @@ const ANSWER: Outcomes = &[
     (9, "9"),
     (10, "10"),
 ];
-const CALLS: &[(&str, Outcomes)] = &[("make", MAKE), ("serve", SERVE), ("answer", ANSWER)];
+const CALLS: Calls = &[
+    ("make", &[MAKE]),
+    ("serve", &[EMPTY, SERVED, SERVE]),
+    ("answer", &[ENDED, ANSWER]),
+];
 
 fn outcome(told: &Told) -> usize {
     match *told {

@@ -12,7 +12,7 @@ use crate::queue::{self, Held, Memory, Told};
 use crate::random::Random;
 use crate::regions::{cut, whole, without, Access, Ground, Watched};
 use crate::sys::{PENDING_CREATE, PENDING_NOTHING, QUEUE_WORDS};
-use crate::tally::{self, Outcomes, Tally, TOLD, WHY};
+use crate::tally::{self, Calls, Outcomes, Tally, ENDED, SERVED, TOLD};
 
 /// Outcomes beside the refusals and the answers: a chain that is no request, by its reason; a response that was not delivered; an
 /// answer to another question.
@@ -20,19 +20,8 @@ const REASON: usize = 32;
 const LENGTH_0: usize = 60;
 const WRONG: usize = 61;
 
+const EMPTY: Outcomes = &[(TOLD + 7, "empty")];
 const SERVE: Outcomes = &[
-    (TOLD + 7, "empty"),
-    (WHY, "served"),
-    (WHY + 1, "why-1"),
-    (WHY + 2, "why-2"),
-    (WHY + 3, "why-3"),
-    (WHY + 4, "why-4"),
-    (WHY + 5, "why-5"),
-    (WHY + 6, "why-6"),
-    (WHY + 7, "why-7"),
-    (WHY + 8, "why-8"),
-    (WHY + 9, "why-9"),
-    (WHY + 10, "why-10"),
     (LENGTH_0, "undelivered"),
     (TOLD + 2, "discard"),
     (REASON, "unknown"),
@@ -50,10 +39,6 @@ const SERVE: Outcomes = &[
     (15, "15"),
 ];
 const ANSWER: Outcomes = &[
-    (WHY, "served"),
-    (WHY + 9, "why-9"),
-    (WHY + 10, "why-10"),
-    (WHY + 11, "why-11"),
     (LENGTH_0, "undelivered"),
     (TOLD + 2, "discard"),
     (TOLD + 3, "sized"),
@@ -77,12 +62,12 @@ const MEMORY: Outcomes = &[
     (HOLES, "holes"),
     (CHANGED, "changed"),
 ];
-const CALLS: &[(&str, Outcomes)] = &[
-    ("serve", SERVE),
-    ("answer", ANSWER),
-    ("memory", MEMORY),
-    ("by holes, serve", SERVE_HOLES),
-    ("answer", ANSWER_HOLES),
+const CALLS: Calls = &[
+    ("serve", &[EMPTY, SERVED, SERVE]),
+    ("answer", &[ENDED, ANSWER]),
+    ("memory", &[MEMORY]),
+    ("by holes, serve", &[SERVE_HOLES]),
+    ("answer", &[ANSWER_HOLES]),
 ];
 
 /// What only a hole brings about, where the direct call tells something else.

@@ -3,8 +3,11 @@
 
 use std::fmt;
 
-/// The outcomes of a call: a number below [`OUTCOMES`], and its name.
+/// Outcomes of a call: a number below [`OUTCOMES`], and its name.
 pub type Outcomes = &'static [(usize, &'static str)];
+
+/// The calls, each with its outcomes in one or more lists.
+pub type Calls = &'static [(&'static str, &'static [Outcomes])];
 pub const OUTCOMES: usize = 80;
 
 /// The outcome of a refusal is its number; that of an answer is this and its kind.
@@ -12,6 +15,27 @@ pub const TOLD: usize = 16;
 
 /// That of a response is this and its reason, or one more than all where the model has none.
 pub const WHY: usize = 64;
+
+/// The responses to a request, and those that a host's answer ends.
+pub const SERVED: Outcomes = &[
+    (WHY, "served"),
+    (WHY + 1, "why-1"),
+    (WHY + 2, "why-2"),
+    (WHY + 3, "why-3"),
+    (WHY + 4, "why-4"),
+    (WHY + 5, "why-5"),
+    (WHY + 6, "why-6"),
+    (WHY + 7, "why-7"),
+    (WHY + 8, "why-8"),
+    (WHY + 9, "why-9"),
+    (WHY + 10, "why-10"),
+];
+pub const ENDED: Outcomes = &[
+    (WHY, "served"),
+    (WHY + 9, "why-9"),
+    (WHY + 10, "why-10"),
+    (WHY + 11, "why-11"),
+];
 
 pub fn why(reason: u64) -> usize {
     WHY + reason.min(12) as usize
@@ -21,14 +45,14 @@ pub fn why(reason: u64) -> usize {
 pub struct Tally {
     what: &'static str,
     seed: u64,
-    table: &'static [(&'static str, Outcomes)],
+    table: Calls,
     counts: Vec<[u64; OUTCOMES]>,
     pub calls: u64,
     pub differ: u64,
 }
 
 impl Tally {
-    pub fn new(what: &'static str, seed: u64, table: &'static [(&'static str, Outcomes)]) -> Tally {
+    pub fn new(what: &'static str, seed: u64, table: Calls) -> Tally {
         Tally {
             what,
             seed,
@@ -47,7 +71,7 @@ impl Tally {
     fn outcomes(&self) -> impl Iterator<Item = (&'static str, &'static str, u64)> + '_ {
         let calls = self.table.iter().zip(&self.counts);
         calls.flat_map(|((call, outcomes), counts)| {
-            let outcomes = outcomes.iter();
+            let outcomes = outcomes.iter().copied().flatten();
             outcomes.map(|(at, outcome)| (*call, *outcome, counts[*at]))
         })
     }
