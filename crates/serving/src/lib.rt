@@ -56,7 +56,7 @@ const NACK: u16 = 1;
 
 const ERROR: u16 = 3;
 
-// Why a response is an ERROR (R10.17) where no test of the range tells.
+// Why a response is an ERROR (R10.17), where it is decided here and not by the tests of `change`.
 const PAST_USABLE: u64 = 5;
 
 const FAILED_DISCARD: u64 = 11;
