@@ -1,5 +1,7 @@
 // SPDX-License-Identifier: Apache-2.0 AND BSD-3-Clause
 // Answers to house lines of a trace. Each line is defined by its text, in specs/Texts.antt.
+#![tactic(auto)]
+
 ghost use Rattle.text.specs.Putting.{Put};
 ghost use Rattle.answer_text.specs.Texts.{create_text, discard_text, sized_text, response_text, refusal_text};
 

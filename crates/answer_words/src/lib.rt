@@ -1,5 +1,7 @@
 // SPDX-License-Identifier: Apache-2.0 AND BSD-3-Clause
 // The answers as words, for callers that have no enums.
+#![tactic(auto)]
+
 ghost use Rattle.std.specs.Prelude.{◌≡◌, ◌≤◌, length};
 ghost use Rattle.little_endian.specs.Bytes.{put};
 ghost use Rattle.step.specs.Answers.{answer_length, answer_words, question_words, number_of};

@@ -2,6 +2,8 @@
 // The plugged blocks as a packed bitmap, lent as bytes: block 8 * j + k is bit k of byte j.
 // A range is tested and put by whole bytes, with single bits at its ends. A loop over blocks stands at bit k of byte j
 // and counts down what is left. No block number is made that could wrap.
+#![tactic(auto)]
+
 ghost use Rattle.std.specs.Prelude.{◌≡◌, ◌+◌, ◌-◌, ◌*◌, ◌/◌, ◌%◌, ◌^◌, ◌≤◌, ◌<◌, length};
 ghost use Rattle.bitmap.specs.Blocks.{low_bits, blocks, block_at, range, every, all_are, ones, fill, Filled};
 ghost use Rattle.bitmap.specs.Blocks.{next_in_state, next_set, next_clear};

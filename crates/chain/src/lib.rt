@@ -1,5 +1,7 @@
 // SPDX-License-Identifier: Apache-2.0 AND BSD-3-Clause
 // From the descriptors of a chain to a request, and the response back.
+#![tactic(auto)]
+
 ghost use Rattle.std.specs.Prelude.{◌≡◌};
 ghost use Rattle.chain.specs.Chain.{with_first, with_second, parsed, reason_of, reaches, delivered};
 
@@ -32,6 +34,7 @@ impl Parsed {
 }
 
 // The tests of the second descriptor (R9.5).
+#[tactic(auto, unfolding(crate::specs::Chain::with_second))]
 fn with_second(req: VirtioMemReq, found: Link) -> Parsed
     ensures { result ≡ with_second req found }
 {
@@ -55,6 +58,7 @@ fn with_second(req: VirtioMemReq, found: Link) -> Parsed
 }
 
 // The tests of the first descriptor (R9.4); the request is read here and nowhere else (R9.9).
+#[tactic(auto, using(descriptors::proofs::Laws::place_found), unfolding(crate::specs::Chain::with_first))]
 fn with_first(mem: &[u8], base: GuestAddr, table: GuestAddr, found: Link) -> Parsed
     ensures { result ≡ with_first mem.now base.0 table.0 found }
 {

@@ -1,5 +1,7 @@
 // SPDX-License-Identifier: Apache-2.0 AND BSD-3-Clause
 // A chain reader, which holds the guest memory that it walks: its functions call those of `chain` on plain values.
+#![tactic(auto)]
+
 ghost use Rattle.std.specs.Prelude.{◌≡◌};
 ghost use Rattle.descriptors.specs.Descriptors.{link_at};
 ghost use Rattle.chain.specs.Chain.{parsed};
@@ -38,7 +40,8 @@ pub struct ChainReader<'a> {
 impl<'a> ChainReader<'a> {
     // A reader at the head of a chain.
     pub fn new(mem: &'a [u8], base: GuestAddr, descriptors: GuestAddr, head: u16) -> ChainReader<'a>
-        ensures { (result.mem ≡ mem.entry) × (result.base ≡ base) × (result.descriptors ≡ descriptors) × (result.index ≡ head) }
+        ensures { (result.mem ≡ mem.entry) × (result.base ≡ base) × (result.descriptors ≡ descriptors)
+            × (result.index ≡ head) }
     {
         ChainReader {
             mem,
@@ -66,7 +69,8 @@ impl<'a> ChainReader<'a> {
 
     // The reader at the next descriptor.
     pub fn advanced(self) -> ChainReader<'a>
-        ensures { (result.mem ≡ self.entry.mem) × (result.base ≡ self.entry.base) × (result.descriptors ≡ self.entry.descriptors)
+        ensures { (result.mem ≡ self.entry.mem) × (result.base ≡ self.entry.base)
+            × (result.descriptors ≡ self.entry.descriptors)
             × (result.index ≡ reader_index (link_at self.entry.mem.now self.entry.base.0
             self.entry.descriptors.0 self.entry.index)) }
     {

@@ -3,13 +3,10 @@
 use Prim.Native.Nat.{ℕ, ◌≤◌, ◌<◌}
 use mathlib.Core.Path.{◌≡◌, refl}
 use mathlib.Core.Bool.{Bool, true, false, not}
-use mathlib.Core.List.{[], ◌∷◌}
 use lib.Dec.{leb}
 use borrow.Author.Tests.{leb-true, leb-false}
 use Rattle.units.proofs.Tests.{passed, refused}
-use types.Run.{OneOf, miss}
-use denote.Enum.Declared.{tag_of}
-use Rattle.change.specs.contracts.HostRange.{the_type as host-type}
+use Rattle.units.specs.declared.HostAddr.{HostAddr}
 use Rattle.change.specs.declared.HostRange.{HostRange}
 use Rattle.change.specs.declared.HostRange.TheVariants.{At, CrossesBorder, Unmapped, SumPasses}
 use Rattle.change.specs.declared.Change.TheVariants.{NoHost}
@@ -22,10 +19,10 @@ sum-within n limit r e t = leb-true n limit (passed _ _ e t)
 pub sum_past : (n limit : ℕ) (r : Bool) → r ≡ leb n limit → not r ≡ true → limit < n
 sum_past n limit r e t = leb-false n limit (refused _ _ e t)
 
--- where `let .. else` found another case, only its number is known
-pub not_at : (h : HostRange) → OneOf (1 ∷ 2 ∷ 3 ∷ []) (tag_of host-type h) → (b offset : ℕ) → NoHost h ≡ legal_at b offset h
+-- where `let .. else` found another case
+pub not_at : (h : HostRange) → ((host : HostAddr) → h ≡ At host → ⊥) → (b offset : ℕ) → NoHost h ≡ legal_at b offset h
 unfolding legal_at
-not_at (At host) k b offset = absurd (miss (1 ∷ 2 ∷ 3 ∷ []) 0 tt k)
+not_at (At host) k b offset = absurd (k host refl)
 not_at CrossesBorder k b offset = refl
 not_at Unmapped k b offset = refl
 not_at SumPasses k b offset = refl

@@ -1,6 +1,8 @@
 // SPDX-License-Identifier: Apache-2.0 AND BSD-3-Clause
 // What a request may do to a range of blocks: whether it lies inside, which state it is in, and where the host has it.
 // Overflow is checked before addresses are added.
+#![tactic(auto)]
+
 ghost use Rattle.std.specs.Prelude.{◌≡◌, ◌-◌, ◌<◌, min};
 ghost use Rattle.units.specs.Numbers.{blocks_in};
 ghost use Rattle.bitmap.specs.Blocks.{blocks, range};
@@ -18,7 +20,7 @@ use units::{
 };
 
 // The parts of test (b) (R10.4), in their order: which of them a range failed first.
-#[derive(Drop)]
+#[derive(Clone, Copy)]
 pub enum Part {
     Alignment,
     ZeroBlocks,
@@ -29,14 +31,14 @@ pub enum Part {
 }
 
 // Where a range lies, or why it is not inside.
-#[derive(Drop)]
+#[derive(Clone, Copy)]
 pub enum Range {
     Inside(RegionOffset),
     Outside(Part),
 }
 
 // Where the host has a range, or which part of test (d) (R10.6) it failed first.
-#[derive(Drop)]
+#[derive(Clone, Copy)]
 pub enum HostRange {
     At(HostAddr),
     CrossesBorder,
@@ -46,7 +48,7 @@ pub enum HostRange {
 
 // A legal change with its first block, its offset and its host address, or the first of the tests (b), (c), (d) that it
 // failed.
-#[derive(Drop)]
+#[derive(Clone, Copy)]
 pub enum Change {
     Legal(u64, RegionOffset, HostAddr),
     Outside(Part),
@@ -134,10 +136,12 @@ pub fn range_of(
 ) -> Range
     ensures { result ≡ range_of block_size start.0 usable addr.0 nb_blocks }
 {
-    if !is_multiple(addr.0, block_size as u64) {
+    let aligned = is_multiple(addr.0, block_size as u64);
+    let no_blocks = nb_blocks == 0;
+    if !aligned {
         return Range::Outside(Part::Alignment);
     }
-    if nb_blocks == 0 {
+    if no_blocks {
         return Range::Outside(Part::ZeroBlocks);
     }
     let size = MemTool::bytes_of(nb_blocks, block_size);

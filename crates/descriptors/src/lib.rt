@@ -1,5 +1,7 @@
 // SPDX-License-Identifier: Apache-2.0 AND BSD-3-Clause
 // Where bytes lie in guest memory, which is one lent slice with a base address, and the descriptors in it.
+#![tactic(auto)]
+
 ghost use Rattle.std.specs.Prelude.{◌≡◌, ◌+◌, ◌^◌, ◌≤◌, leb, length};
 ghost use Rattle.descriptors.specs.Standard.{descriptor_at, has_next, is_write_only, is_indirect};
 ghost use Rattle.descriptors.specs.Descriptors.{place_of, link_at, link_after};
@@ -21,7 +23,7 @@ const WRITE: u16 = 2;
 const INDIRECT: u16 = 4;
 
 // Where bytes lie in the lent slice.
-#[derive(Drop)]
+#[derive(Clone, Copy)]
 pub enum Place {
     At(usize),
     Outside,
@@ -54,7 +56,7 @@ pub fn place_of(mem: &[u8], base: GuestAddr, addr: GuestAddr, size: u64) -> Plac
 }
 
 // A descriptor of the table.
-#[derive(Drop)]
+#[derive(Clone, Copy)]
 pub struct Descriptor {
     pub addr: GuestAddr,
     pub len: u32,
@@ -83,7 +85,7 @@ impl Descriptor {
 }
 
 // What a chain finds at an index.
-#[derive(Drop)]
+#[derive(Clone, Copy)]
 pub enum Link {
     Is(Descriptor),
     Missing,
@@ -110,7 +112,8 @@ fn descriptor_at(mem: &[u8], at: usize) -> Descriptor
 pub fn link_at(mem: &[u8], base: GuestAddr, table: GuestAddr, index: u16) -> Link
     ensures { result ≡ link_at mem.now base.0 table.0 index }
 {
-    if QUEUE_SIZE <= index {
+    let past_table = QUEUE_SIZE <= index;
+    if past_table {
         return Link::Missing;
     }
     let offset = 16 * index as u64;

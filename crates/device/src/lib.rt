@@ -9,6 +9,8 @@
 //    with the length of the `Reply` or 0. The response is in guest memory by then.
 // 5. `set_requested_size` says how much memory the guest is to have; `read_config`, `write_config` are the guest's own.
 // Nothing has to hold of what is lent: each call tests it first, and gives `Refused` with the law's number.
+#![tactic(auto)]
+
 ghost use Rattle.std.specs.Prelude.{[]};
 ghost use Rattle.step.specs.Promise.{lent, read_on, write_on, Steps};
 

@@ -1,5 +1,7 @@
 // SPDX-License-Identifier: Apache-2.0 AND BSD-3-Clause
 // The guest's side: the request's bytes, the response's and the config's, and a planner that proposes the next plug.
+#![tactic(auto)]
+
 ghost use Rattle.std.specs.Prelude.{◌≡◌, ◌-◌, ◌<◌, ◌≤◌, min, ◌*◌, ◌^◌, ltb, length};
 ghost use Rattle.units.specs.Numbers.{blocks_in, GiB};
 ghost use Rattle.bitmap.specs.Blocks.{blocks, next_set};
@@ -13,21 +15,21 @@ use units::{GuestAddr, MemTool, saturating_sub, smaller};
 use wire::{VirtioMemConfig, VirtioMemReq, VirtioMemResp};
 
 // A response as read, or 16.
-#[derive(Drop)]
+#[derive(Clone, Copy)]
 pub enum GotResponse {
     Response(VirtioMemResp),
     Refused(u64),
 }
 
 // A config as read, or 16.
-#[derive(Drop)]
+#[derive(Clone, Copy)]
 pub enum GotConfig {
     Config(VirtioMemConfig),
     Refused(u64),
 }
 
 // A plug to ask for: its address and its blocks. Otherwise 12, 11 or 17.
-#[derive(Drop)]
+#[derive(Clone, Copy)]
 pub enum Proposal {
     Plug(GuestAddr, u16),
     Refused(u64),

@@ -1,6 +1,8 @@
 // SPDX-License-Identifier: Apache-2.0 AND BSD-3-Clause
 // What the guest's side reads and proposes as words, for callers that have no enums. A slice without room for all
 // words is refused with 16, and a refused call writes nothing.
+#![tactic(auto)]
+
 ghost use Rattle.bitmap.specs.Blocks.{blocks};
 ghost use Rattle.driver_words.specs.Told.{ResponseTold, ConfigTold, PlanTold};
 

@@ -1,6 +1,6 @@
 -- SPDX-License-Identifier: Apache-2.0 AND BSD-3-Clause
 -- Every response and every config that the device gives is read back by the driver: by one walk over `step`, of what a response leaves.
-use Prim.Native.Nat.{ℕ, ◌+◌, ◌-◌, ◌≤◌, ◌<◌, ◌^◌}
+use Prim.Native.Nat.{ℕ, ◌+◌, ◌≤◌, ◌<◌, ◌^◌}
 use mathlib.Core.Path.{◌≡◌, refl, sym, ap, ◌∙◌}
 use mathlib.Core.Bool.{Bool, true, false, cond}
 use mathlib.Core.List.{List}
@@ -35,7 +35,7 @@ use Rattle.step.specs.declared.Reply.{Reply}
 use Rattle.step.specs.declared.Verdict.{Verdict}
 use Rattle.step.specs.Answers.{served_with, OfReply}
 use Rattle.step.specs.World.{World, Guest, Call, Request, HostAnswer, ReadConfig, Outcome}
-use Rattle.step.specs.Step.{region, plugged, requested, ack, error, served, state_type, request, host_answer, read_config, step}
+use Rattle.step.specs.Step.{region, ack, error, served, state_type, request, host_answer, read_config, step}
 use Rattle.step.proofs.Served.{Of, Known, SaysAt, each-call, serve-of, unplug-ends, one-ends, create-of}
 use Rattle.driver.specs.declared.GotConfig.{GotConfig}
 use Rattle.driver.specs.declared.GotConfig.TheVariants.{Config}

@@ -1,2 +1,3 @@
 // SPDX-License-Identifier: Apache-2.0 AND BSD-3-Clause
 // Theorems only: what the driver's half proposes, the device acknowledges.
+#![tactic(auto)]

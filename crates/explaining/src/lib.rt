@@ -1,5 +1,7 @@
 // SPDX-License-Identifier: Apache-2.0 AND BSD-3-Clause
 // A line of a trace, explained: what is shown of it, its answer, and one sentence.
+#![tactic(auto)]
+
 ghost use Rattle.std.specs.Prelude.{◌≡◌, take};
 ghost use Rattle.text.specs.Putting.{Put};
 ghost use Rattle.step.specs.Promise.{lent};
@@ -19,7 +21,7 @@ use wire::VirtioMemConfig;
 const LONGEST: u64 = 200;
 
 // What a line has come to, with the length of its answer, and the length of its sentence.
-#[derive(Drop)]
+#[derive(Clone, Copy)]
 pub struct Explained {
     pub shown: Shown,
     pub said: usize,

@@ -1,5 +1,7 @@
 // SPDX-License-Identifier: Apache-2.0 AND BSD-3-Clause
 // Lines by their forms: a form is a text in which # stands for a number.
+#![tactic(auto)]
+
 ghost use Rattle.std.specs.Prelude.{◌≡◌, ◌+◌, min, get_or, drop};
 ghost use Rattle.text.specs.Putting.{Put};
 ghost use Rattle.forms.specs.Forms.{filled};

@@ -1,5 +1,7 @@
 // SPDX-License-Identifier: Apache-2.0 AND BSD-3-Clause
 // The entries that change a lent device where it stands: each calls the one by value and stores the record it gave.
+#![tactic(auto)]
+
 ghost use Rattle.std.specs.Prelude.{[]};
 ghost use Rattle.step.specs.Promise.{lent, place_on, resize_on, request_on, answer_on, Steps};
 ghost use Rattle.in_place.specs.Stored.{answering};

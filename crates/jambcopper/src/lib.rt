@@ -1,6 +1,8 @@
 // SPDX-License-Identifier: Apache-2.0 AND BSD-3-Clause
-// The static library: for C and Rust each call of the device and of its queue, with the record and the queue as words,
+// What the static library exports: each call of the device and of its queue, with the record and the queue as words,
 // the guest's side, and save records. Words that are no record, or no queue, are refused with 12.
+#![tactic(auto)]
+
 ghost use Rattle.std.specs.Prelude.{◌≡◌, []};
 ghost use Rattle.bitmap.specs.Blocks.{blocks};
 ghost use Rattle.making.specs.Made.{made};
@@ -40,8 +42,7 @@ fn node_of(node_given: bool, node: u16) -> Node
 }
 
 // Makes a device from sizes in MiB. Words that have no room for a record are refused with 12.
-#[unsafe(no_mangle)]
-pub extern "C" fn jambcopper_make(
+pub fn jambcopper_make(
     words: &mut [u64],
     capacity_mib: u64,
     requested_mib: u64,
@@ -53,7 +54,8 @@ pub extern "C" fn jambcopper_make(
     ensures { MadeIn words.old (made capacity_mib requested_mib several (node_of node_given node) boot) result
         words.new }
 {
-    if words.len() < RECORD_WORDS {
+    let too_short = words.len() < RECORD_WORDS;
+    if too_short {
         return 12;
     }
     let which = node_of(node_given, node);
@@ -67,8 +69,7 @@ pub extern "C" fn jambcopper_make(
 }
 
 // Places the device.
-#[unsafe(no_mangle)]
-pub extern "C" fn jambcopper_place(
+pub fn jambcopper_place(
     words: &mut [u64],
     bitmap: &mut [u8],
     table: &mut [u64],
@@ -92,8 +93,7 @@ pub extern "C" fn jambcopper_place(
 }
 
 // Changes the requested size.
-#[unsafe(no_mangle)]
-pub extern "C" fn jambcopper_set_requested_size(
+pub fn jambcopper_set_requested_size(
     words: &mut [u64],
     bitmap: &[u8],
     table: &[u64],
@@ -115,8 +115,7 @@ pub extern "C" fn jambcopper_set_requested_size(
 }
 
 // One chain of the guest.
-#[unsafe(no_mangle)]
-pub extern "C" fn jambcopper_request(
+pub fn jambcopper_request(
     words: &mut [u64],
     bitmap: &mut [u8],
     table: &[u64],
@@ -151,8 +150,7 @@ pub extern "C" fn jambcopper_request(
 }
 
 // The host's answer to what it was asked.
-#[unsafe(no_mangle)]
-pub extern "C" fn jambcopper_host_answer(
+pub fn jambcopper_host_answer(
     words: &mut [u64],
     bitmap: &mut [u8],
     table: &mut [u64],
@@ -179,13 +177,7 @@ pub extern "C" fn jambcopper_host_answer(
 }
 
 // Makes a queue from the addresses of its three parts. Words that have no room for a queue are refused with 12.
-#[unsafe(no_mangle)]
-pub extern "C" fn jambcopper_queue_make(
-    queue: &mut [u64],
-    descriptors: u64,
-    available: u64,
-    used: u64,
-) -> u64
+pub fn jambcopper_queue_make(queue: &mut [u64], descriptors: u64, available: u64, used: u64) -> u64
     ensures { QueueMadeIn queue.old (new_queue descriptors available used) result queue.new }
 {
     if queue.len() < QUEUE_WORDS {
@@ -205,8 +197,7 @@ pub extern "C" fn jambcopper_queue_make(
 }
 
 // The next head of the queue.
-#[unsafe(no_mangle)]
-pub extern "C" fn jambcopper_serve(
+pub fn jambcopper_serve(
     words: &mut [u64],
     queue: &mut [u64],
     bitmap: &mut [u8],
@@ -252,8 +243,7 @@ pub extern "C" fn jambcopper_serve(
 }
 
 // The host's answer to what it was asked; it may end the request of the head that is out.
-#[unsafe(no_mangle)]
-pub extern "C" fn jambcopper_serve_answer(
+pub fn jambcopper_serve_answer(
     words: &mut [u64],
     queue: &mut [u64],
     bitmap: &mut [u8],
@@ -294,8 +284,7 @@ pub extern "C" fn jambcopper_serve_answer(
 }
 
 // Reads the config.
-#[unsafe(no_mangle)]
-pub extern "C" fn jambcopper_read_config(words: &[u64], offset: u64, data: &mut [u8]) -> u64
+pub fn jambcopper_read_config(words: &[u64], offset: u64, data: &mut [u8]) -> u64
     ensures { Exported (read_on offset)
         (handed words.now [] (lent [] [] «data».old))
         (handed words.now [] (lent [] [] «data».new)) result }
@@ -309,8 +298,7 @@ pub extern "C" fn jambcopper_read_config(words: &[u64], offset: u64, data: &mut 
 }
 
 // Writes the config, which does nothing.
-#[unsafe(no_mangle)]
-pub extern "C" fn jambcopper_write_config(words: &[u64], offset: u64, data: &[u8]) -> u64
+pub fn jambcopper_write_config(words: &[u64], offset: u64, data: &[u8]) -> u64
     ensures { Exported (write_on offset)
         (handed words.now [] (lent [] [] «data».now))
         (handed words.now [] (lent [] [] «data».now)) result }
@@ -324,8 +312,7 @@ pub extern "C" fn jambcopper_write_config(words: &[u64], offset: u64, data: &[u8
 }
 
 // The guest's side: writes a request.
-#[unsafe(no_mangle)]
-pub extern "C" fn jambcopper_driver_write_request(
+pub fn jambcopper_driver_write_request(
     bytes: &mut [u8],
     req_type: u16,
     addr: u64,
@@ -345,32 +332,28 @@ pub extern "C" fn jambcopper_driver_write_request(
 }
 
 // The guest's side: reads a response.
-#[unsafe(no_mangle)]
-pub extern "C" fn jambcopper_driver_read_response(bytes: &[u8], response: &mut [u64]) -> u64
+pub fn jambcopper_driver_read_response(bytes: &[u8], response: &mut [u64]) -> u64
     ensures { ResponseTold bytes.now response.old response.new result }
 {
     tell_response(bytes, response)
 }
 
 // The guest's side: reads a config.
-#[unsafe(no_mangle)]
-pub extern "C" fn jambcopper_driver_read_config(bytes: &[u8], config: &mut [u64]) -> u64
+pub fn jambcopper_driver_read_config(bytes: &[u8], config: &mut [u64]) -> u64
     ensures { ConfigTold bytes.now config.old config.new result }
 {
     tell_config(bytes, config)
 }
 
 // The guest's side: proposes the next plug.
-#[unsafe(no_mangle)]
-pub extern "C" fn jambcopper_driver_plan(config: &[u8], bitmap: &[u8], plug: &mut [u64]) -> u64
+pub fn jambcopper_driver_plan(config: &[u8], bitmap: &[u8], plug: &mut [u64]) -> u64
     ensures { PlanTold config.now (blocks bitmap.now) plug.old plug.new result }
 {
     tell_plan(config, bitmap, plug)
 }
 
 // How long the device's text is.
-#[unsafe(no_mangle)]
-pub extern "C" fn jambcopper_save_length(words: &[u64], bitmap: &[u8], length: &mut [u64]) -> u64
+pub fn jambcopper_save_length(words: &[u64], bitmap: &[u8], length: &mut [u64]) -> u64
     ensures { WroteTold (length_from words.now bitmap.now length.old)
         length.old length.new result }
 {
@@ -378,13 +361,7 @@ pub extern "C" fn jambcopper_save_length(words: &[u64], bitmap: &[u8], length: &
 }
 
 // Saves the device as a text.
-#[unsafe(no_mangle)]
-pub extern "C" fn jambcopper_save(
-    words: &[u64],
-    bitmap: &[u8],
-    text: &mut [u8],
-    length: &mut [u64],
-) -> u64
+pub fn jambcopper_save(words: &[u64], bitmap: &[u8], text: &mut [u8], length: &mut [u64]) -> u64
     ensures { SaveTold words.now bitmap.now
         text.old text.new length.old length.new result }
 {
@@ -392,8 +369,7 @@ pub extern "C" fn jambcopper_save(
 }
 
 // Restores the state of a text onto the device.
-#[unsafe(no_mangle)]
-pub extern "C" fn jambcopper_restore(words: &mut [u64], bitmap: &mut [u8], text: &[u8]) -> u64
+pub fn jambcopper_restore(words: &mut [u64], bitmap: &mut [u8], text: &[u8]) -> u64
     ensures { RestoreTold text.now words.old words.new
         bitmap.old bitmap.new result }
 {
@@ -401,8 +377,7 @@ pub extern "C" fn jambcopper_restore(words: &mut [u64], bitmap: &mut [u8], text:
 }
 
 // Moves a save record of the old form into a text.
-#[unsafe(no_mangle)]
-pub extern "C" fn jambcopper_old_to_new(
+pub fn jambcopper_old_to_new(
     fields: &[u64],
     old: &[u8],
     scratch: &mut [u8],
@@ -416,8 +391,7 @@ pub extern "C" fn jambcopper_old_to_new(
 }
 
 // Moves a text into a save record of the old form.
-#[unsafe(no_mangle)]
-pub extern "C" fn jambcopper_new_to_old(
+pub fn jambcopper_new_to_old(
     text: &[u8],
     scratch: &mut [u8],
     old: &mut [u8],

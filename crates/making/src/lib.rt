@@ -1,5 +1,7 @@
 // SPDX-License-Identifier: Apache-2.0 AND BSD-3-Clause
 // Making a device from its sizes.
+#![tactic(auto)]
+
 ghost use Rattle.std.specs.Prelude.{◌≡◌, not, ◌*◌, ◌≤◌};
 ghost use Rattle.units.specs.Numbers.{capacity_of, MiB, GiB};
 ghost use Rattle.record.specs.Shape.{size_ok};
@@ -81,7 +83,8 @@ impl Mem {
     pub fn new(capacity_mib: u64, requested_mib: u64, several: bool, node: Node, boot: u64) -> Made
         ensures { MadeAs (made capacity_mib requested_mib several node boot) result }
     {
-        if MAX_CAPACITY_MIB < capacity_mib {
+        let too_large = MAX_CAPACITY_MIB < capacity_mib;
+        if too_large {
             return Made::Refused(2);
         }
         if capacity_mib == 0 {

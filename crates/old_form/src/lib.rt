@@ -1,6 +1,8 @@
 // SPDX-License-Identifier: Apache-2.0 AND BSD-3-Clause
 // Save records of the old form, one byte a block, 0 or 1, and both moves between the forms. A move goes through a
 // packed bitmap that is lent for it, so that there is one writer and one reader of texts.
+#![tactic(auto)]
+
 ghost use Rattle.std.specs.Prelude.{◌≡◌, cond, ◌++◌, ◌≤◌, take, drop, length};
 ghost use Rattle.bitmap.specs.Blocks.{blocks};
 ghost use Rattle.save.specs.Reading.{HoldsBlocks};

@@ -1,5 +1,7 @@
 // SPDX-License-Identifier: Apache-2.0 AND BSD-3-Clause
 // Placing and resizing a device.
+#![tactic(auto)]
+
 ghost use Rattle.std.specs.Prelude.{◌≡◌, true, [], ◌+◌, ◌*◌, ◌≤◌};
 ghost use Rattle.units.specs.Numbers.{top, map_region};
 ghost use Rattle.record.specs.Shape.{shaped_of};
@@ -84,6 +86,7 @@ pub fn set_requested_size(d: Device, bitmap: &[u8], table: &[u64], requested_mib
 }
 
 // Why placing is refused by its own tests: 3, 4, or 0.
+#[tactic(auto, unfolding(step::specs::Step::range_refusal))]
 fn range_refusal(d: Device, start: GuestAddr, size: u64, slots: u64) -> u64
     ensures { result ≡ range_refusal d start.0 size slots }
 {

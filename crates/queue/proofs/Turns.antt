@@ -11,7 +11,6 @@ use Rattle.units.proofs.Tests.{by-test}
 use Rattle.bitmap.proofs.Laws.{blocks-length}
 use Rattle.rows.specs.Rows.{rows_in}
 use Rattle.rows.proofs.Words.{count, whole}
-use Rattle.bitmap.specs.Blocks.{blocks}
 use Rattle.record.specs.declared.Device.{Device}
 use Rattle.record.specs.declared.Pending.{Pending}
 use Rattle.record.specs.declared.Pending.TheVariants.{Nothing as Idle, Create, Discard, DiscardOne}

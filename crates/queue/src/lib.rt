@@ -1,5 +1,7 @@
 // SPDX-License-Identifier: Apache-2.0 AND BSD-3-Clause
 // The device on its queue: a call takes one head, and reports it used when its request has ended.
+#![tactic(auto)]
+
 ghost use Rattle.std.specs.Prelude.{◌≡◌, ◌*◌, ◌/◌, length};
 ghost use Rattle.step.specs.Promise.{lent};
 ghost use Rattle.queue.specs.Queue.{discarding, queue_ok, took_head, gave_back, ending_of, Settles, turned};

@@ -1,5 +1,7 @@
 // SPDX-License-Identifier: Apache-2.0 AND BSD-3-Clause
 // The queue as words, and what a call on it tells, for callers that have no enums.
+#![tactic(auto)]
+
 ghost use Rattle.std.specs.Prelude.{◌≡◌, true, ◌≤◌, length};
 ghost use Rattle.little_endian.specs.Bytes.{put};
 ghost use Rattle.queue.specs.Queue.{queue_answer_words, queue_number_of};

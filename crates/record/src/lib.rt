@@ -1,5 +1,7 @@
 // SPDX-License-Identifier: Apache-2.0 AND BSD-3-Clause
 // The device's record by value: what it holds, the host call that it waits for, and whether it has the shape (R3).
+#![tactic(auto)]
+
 ghost use Rattle.std.specs.Prelude.{◌≡◌, true, ◌+◌, ◌<◌, leb};
 ghost use Rattle.units.specs.Numbers.{top};
 ghost use Rattle.record.specs.Shape.{alignment_ok, region_ok, span_of, start_ok, several_ok, pending_ok};
@@ -30,7 +32,7 @@ const GIB_1: u64 = MemTool::GIB;
 const GIB_2: u64 = 2 * MemTool::GIB;
 
 // The host call that the device waits for.
-#[derive(Drop)]
+#[derive(Clone, Copy)]
 pub enum Pending {
     Nothing,
     // One creation for the rows from first to last: in placing where the device is not placed yet, else in a size
@@ -53,7 +55,7 @@ pub enum Pending {
 }
 
 // What the host is asked.
-#[derive(Drop)]
+#[derive(Clone, Copy)]
 pub enum HostCall {
     Create {
         guest: GuestAddr,
@@ -68,7 +70,7 @@ pub enum HostCall {
 }
 
 // What the device keeps from call to call (R3.1).
-#[derive(Drop)]
+#[derive(Clone, Copy)]
 pub struct Device {
     pub config: VirtioMemConfig,
     pub alignment: u64,
@@ -208,7 +210,8 @@ pub fn shaped(d: Device) -> bool
         return false;
     }
     let pending = d.pending;
-    if !several & is_idle(pending) {
+    let alone = !several & is_idle(pending);
+    if alone {
         return sum_within(start, region, u64::MAX);
     }
     // A copy of its own, so that a device that waits for nothing makes none.

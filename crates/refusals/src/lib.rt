@@ -3,6 +3,8 @@
 //
 // Each function puts a text into a buffer at a position. It answers the next position, and one past the buffer's length
 // where there is no room. One function has one sentence; the others choose.
+#![tactic(auto)]
+
 ghost use Rattle.text.specs.Putting.{Put};
 ghost use Rattle.refusals.specs.Refusals.{waits_nothing, waits_create, waits_discard, waits_for, waits_text};
 ghost use Rattle.refusals.specs.Refusals.{no_slots, no_place, in_place, not_asked, too_short, no_shape, no_line};

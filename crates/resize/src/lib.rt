@@ -1,5 +1,7 @@
 // SPDX-License-Identifier: Apache-2.0 AND BSD-3-Clause
 // The usable size, and the one creation of map regions that its growth may ask for.
+#![tactic(auto)]
+
 ghost use Rattle.std.specs.Prelude.{◌≡◌, true, ◌+◌, ◌-◌, ◌*◌, ◌≤◌, min};
 ghost use Rattle.rows.specs.Rows.{rows_of};
 ghost use Rattle.units.specs.Numbers.{map_regions};
@@ -10,7 +12,7 @@ use units::{MemTool, map_regions, smaller};
 
 // What the growth of the usable size asks for: rows from the first number to the second in one creation of the third's
 // bytes.
-#[derive(Drop)]
+#[derive(Clone, Copy)]
 pub enum Growth {
     Asks(u64, u64, u64),
     Settled,
@@ -34,7 +36,8 @@ fn extent(region: u64, requested: u64, alignment: u64) -> u64
 pub fn new_size(region: u64, requested: u64, alignment: u64, block_size: u64) -> u64
     ensures { result ≡ new_size block_size region requested alignment }
 {
-    if requested == 0 {
+    let nothing = requested == 0;
+    if nothing {
         return 0;
     }
     MemTool::blocks_in(extent(region, requested, alignment), block_size) * block_size
@@ -59,6 +62,7 @@ fn end_row(region: u64, size: u64) -> u64
 }
 
 // The bytes of the creation that covers rows i to last of several regions (R6.6).
+#[tactic(auto, unfolding(units::specs::Numbers::map_regions))]
 fn creation_size(region: u64, i: u64, last: u64) -> u64
     requires { (i ≤ last) × (last ≤ map_regions region true - 1) }
     ensures { result ≡ creation_size region true i last }

@@ -4,6 +4,8 @@
 //
 // Each function puts a text into a buffer at a position. It answers the next position, and one past the buffer's length
 // where there is no room. One function has one sentence; the others choose.
+#![tactic(auto)]
+
 ghost use Rattle.std.specs.Prelude.{◌≡◌};
 ghost use Rattle.bitmap.specs.Blocks.{blocks};
 ghost use Rattle.text.specs.Putting.{Put};

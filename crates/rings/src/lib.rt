@@ -1,6 +1,8 @@
 // SPDX-License-Identifier: Apache-2.0 AND BSD-3-Clause
 // The available and the used ring of a split queue of 128, over lent guest memory: the next head, and a head put back
 // with its length. Indices are 16 bits and wrap; a ring's entry is an index modulo 128.
+#![tactic(auto)]
+
 ghost use Rattle.std.specs.Prelude.{◌≡◌, length};
 ghost use Rattle.descriptors.specs.Descriptors.{inside};
 ghost use Rattle.rings.specs.Rings.{ahead_of, index_after, rings_inside, next_head, reported};
@@ -19,14 +21,14 @@ const AVAILABLE_SIZE: u64 = 262;
 const USED_SIZE: u64 = 1030;
 
 // A head that was taken, whose request has not ended.
-#[derive(Drop)]
+#[derive(Clone, Copy)]
 pub enum Taken {
     Nothing,
     Head(u16),
 }
 
 // Where the guest has its queue, and where the device stands in it.
-#[derive(Drop)]
+#[derive(Clone, Copy)]
 pub struct Queue {
     pub descriptors: GuestAddr,
     pub available: GuestAddr,
@@ -37,7 +39,7 @@ pub struct Queue {
 }
 
 // What the available ring has next.
-#[derive(Drop)]
+#[derive(Clone, Copy)]
 pub enum Next {
     Head(u16),
     Empty,
@@ -86,7 +88,8 @@ pub fn next_head(mem: &[u8], base: GuestAddr, q: Queue) -> Next
     }
     let available = (q.available.0 - base.0) as usize;
     let ahead = ahead_of(read_u16(mem, available + 2), q.next_available);
-    if QUEUE_SIZE < ahead {
+    let over_full = QUEUE_SIZE < ahead;
+    if over_full {
         return Next::Refused(15);
     }
     if ahead == 0 {

@@ -1,6 +1,8 @@
 // SPDX-License-Identifier: Apache-2.0 AND BSD-3-Clause
 // The lent map table, one row for each map region (R8.3). Only `rows_in`, `row_at`, `put_row` and who counts words by
 // `ROW_WORDS` speak of words.
+#![tactic(auto)]
+
 ghost use Rattle.std.specs.Prelude.{◌≡◌, ◌+◌, min, length, set};
 ghost use Rattle.rows.specs.Rows.{rows_in, rows_of, written, filled_table, laid_table};
 ghost use Rattle.rows.specs.Rows.{row_at, mapping_of, first_unmapped};
@@ -8,7 +10,7 @@ ghost use Rattle.rows.specs.Rows.{row_at, mapping_of, first_unmapped};
 use units::{HostAddr, RegionOffset};
 
 // A row's words (R8.3). Mapped is 0 for no and anything else for yes.
-#[derive(Drop)]
+#[derive(Clone, Copy)]
 pub struct MapRow {
     pub slot: u64,
     pub mapped: u64,
@@ -19,14 +21,14 @@ pub struct MapRow {
 pub const ROW_WORDS: u64 = 3;
 
 // Whether a map region is mapped, and where.
-#[derive(Drop)]
+#[derive(Clone, Copy)]
 pub enum Mapping {
     At(HostAddr),
     Unmapped,
 }
 
 // What the search for a map region without a mapping found.
-#[derive(Drop)]
+#[derive(Clone, Copy)]
 pub enum FirstUnmapped {
     Row(u64),
     NoneLeft,
@@ -98,7 +100,8 @@ pub fn mapping_of(table: &[u64], row: u64) -> Mapping
     ensures { result ≡ mapping_of (rows_of table.now) row }
 {
     let found = row_at(table, row);
-    if found.mapped == 0 {
+    let unmapped = found.mapped == 0;
+    if unmapped {
         return Mapping::Unmapped;
     }
     let host = found.host;
@@ -115,7 +118,8 @@ pub fn first_unmapped(table: &[u64], first: u64, last: u64) -> FirstUnmapped
         if end <= row {
             break end;
         }
-        if row_at(table, row).mapped == 0 {
+        let unmapped = row_at(table, row).mapped == 0;
+        if unmapped {
             break row;
         }
         row += 1;

@@ -6,7 +6,7 @@ use Rattle.forms.specs.Scanning.{found, scan_of}
 use Rattle.runs.specs.declared.RunLine.{RunLine}
 use Rattle.runs.specs.declared.RunLine.TheVariants as line
 use Rattle.runs.specs.declared.Counted.{Counted}
-use Rattle.runs.specs.declared.Counted.TheVariants.{Blocks, Bad}
+use Rattle.runs.specs.declared.Counted.TheVariants.{Blocks}
 use Rattle.runs.specs.Runs.{Run, RunsApart, total, laid_on}
 use Rattle.runs.specs.Text.{run_line, runs_text}
 

@@ -1,6 +1,8 @@
 // SPDX-License-Identifier: Apache-2.0 AND BSD-3-Clause
 // The runs of plugged blocks as text, one line for each longest run: written from a packed bitmap, counted, and laid
 // on a bitmap.
+#![tactic(auto)]
+
 ghost use Rattle.std.specs.Prelude.{◌≡◌, ◌*◌, ◌<◌, min, take, drop, length};
 ghost use Rattle.units.specs.Numbers.{saturated};
 ghost use Rattle.text.specs.Putting.{Put};

@@ -1,6 +1,8 @@
 // SPDX-License-Identifier: Apache-2.0 AND BSD-3-Clause
 // Save records as text (R15): the fields, one a line, then the runs of plugged blocks. Written from a packed bitmap,
 // and read back whole or not at all.
+#![tactic(auto)]
+
 ghost use Rattle.std.specs.Prelude.{◌≡◌, ◌+◌, ◌/◌, ltb, drop, length};
 ghost use Rattle.text.specs.Putting.{Put};
 ghost use Rattle.save.specs.Text.{shape_ok, head_text};
@@ -22,7 +24,7 @@ const FORM: u64 = 2;
 const HEAD: usize = 256;
 
 // What a save record says beside the blocks. The block size is not in the text of form 2.
-#[derive(Drop)]
+#[derive(Clone, Copy)]
 pub struct Fields {
     pub block: u64,
     pub start: u64,
@@ -33,7 +35,7 @@ pub struct Fields {
 }
 
 // The length of a state's text; or the number that the state is refused as.
-#[derive(Drop)]
+#[derive(Clone, Copy)]
 pub enum Wrote {
     Text(u64),
     Refused(u64),
@@ -136,7 +138,7 @@ pub fn write(f: Fields, bitmap: &[u8], out: &mut [u8]) -> Wrote
 }
 
 // A state whose text was read, and where its runs start; or the number that the text is refused as.
-#[derive(Drop)]
+#[derive(Clone, Copy)]
 pub enum Checked {
     State { fields: Fields, runs: usize },
     Refused(u64),
@@ -164,7 +166,7 @@ fn runs_of(f: Fields, s: &[u8], at: usize) -> Checked
 }
 
 // The fields of a text, and where it goes on; or the number that it is refused as.
-#[derive(Drop)]
+#[derive(Clone, Copy)]
 enum Head {
     At { fields: Fields, next: usize },
     Refused(u64),
@@ -224,7 +226,7 @@ pub fn check(s: &[u8]) -> Checked
 }
 
 // The fields of a text that was read; or the number that it is refused as.
-#[derive(Drop)]
+#[derive(Clone, Copy)]
 pub enum Got {
     Fields(Fields),
     Refused(u64),

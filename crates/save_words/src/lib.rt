@@ -2,6 +2,8 @@
 // Saving, restoring and both moves for callers that have no structs: the record and the fields as words. A slice
 // without room for the words that a call gives or takes is refused with 18, before anything else, and a refused call
 // writes no word.
+#![tactic(auto)]
+
 ghost use Rattle.std.specs.Prelude.{◌≡◌, ◌≤◌, length};
 ghost use Rattle.save_words.specs.Told.{fields_length, fields_from, length_from};
 ghost use Rattle.save_words.specs.Told.{WroteTold, SaveTold, RestoreTold, ToNewTold, ToOldTold};

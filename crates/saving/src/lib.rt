@@ -1,6 +1,8 @@
 // SPDX-License-Identifier: Apache-2.0 AND BSD-3-Clause
 // A device's state as a save record: saved from a record and its bitmap, and restored onto a placed device that has
 // nothing plugged.
+#![tactic(auto)]
+
 ghost use Rattle.std.specs.Prelude.{◌≡◌};
 ghost use Rattle.bitmap.specs.Blocks.{blocks};
 ghost use Rattle.saving.specs.Saving.{entry_refusal, fields_in, saved_length, Saves};

@@ -3,6 +3,8 @@
 //
 // Each function that puts a text puts it into a buffer at a position. It answers the next position, and one past the
 // buffer's length where there is no room.
+#![tactic(auto)]
+
 ghost use Rattle.std.specs.Prelude.{◌≡◌};
 ghost use Rattle.bitmap.specs.Blocks.{blocks};
 ghost use Rattle.text.specs.Putting.{Put};

@@ -1,13 +1,13 @@
 -- SPDX-License-Identifier: Apache-2.0 AND BSD-3-Clause
 -- The endings of a creation's answer: failed, past 2^64 - 1, and made; and what is heard of a creation is the host's answer, with guest memory as it was.
 use Prim.Native.Nat.{ℕ, ◌+◌}
-use mathlib.Core.Path.{◌≡◌, refl, ap, ◌∙◌}
-use mathlib.Core.Bool.{Bool, true, false, not}
+use mathlib.Core.Path.{◌≡◌, refl, sym, ap, ◌∙◌}
+use mathlib.Core.Bool.{Bool, true, false}
 use mathlib.Core.List.{List, []}
 use lib.Dec.{leb, ltb}
-use borrow.Author.Tests.{not-true, not-false, leb-true, leb-false, lt-ltb, le-ltb}
+use borrow.Author.Tests.{leb-true, leb-false, lt-ltb, le-ltb}
 use Rattle.units.specs.Numbers.{top}
-use Rattle.units.proofs.Tests.{by-test, passed, refused as fails}
+use Rattle.units.proofs.Tests.{by-test}
 use Rattle.bitmap.specs.Blocks.{blocks}
 use Rattle.rows.specs.declared.MapRow.{MapRow}
 use Rattle.rows.specs.Rows.{written}
@@ -23,22 +23,22 @@ use Rattle.step.specs.Promise.{lent, Gives}
 use Rattle.step.proofs.Giving.{answers}
 
 module _ (d : Device) (tb : List ℕ) (ok : Bool) (host i last : ℕ) (s : Answered) where
-  pub failed : (d' : Device) → d' ≡ pending_to Nothing d → not ok ≡ true → s ≡ record { device = d'; answer = Refused 10 } → Gives (host_answer (Create i last) (world_of d [] tb) no_guest ok host) (lent [] tb []) (lent [] tb []) s
+  pub failed : (d' : Device) → d' ≡ pending_to Nothing d → ok ≡ false → s ≡ record { device = d'; answer = Refused 10 } → Gives (host_answer (Create i last) (world_of d [] tb) no_guest ok host) (lent [] tb []) (lent [] tb []) s
   unfolding host_answer
-  failed d' e t is = rw (not-true ok t) (answers _ _ (rw e at is) refl refl)
+  failed d' e t is = rw t (answers _ _ (rw e at is) refl refl)
 
-  module _ (t : not ok ≡ false) (n : ℕ) (r : Bool) (e : n ≡ covered_by (world_of d [] []) i last) (f : r ≡ leb (host + n) top) where
-    pub past : not r ≡ true → s ≡ record { device = d; answer = Refused 9 } → Gives (host_answer (Create i last) (world_of d [] tb) no_guest ok host) (lent [] tb []) (lent [] tb []) s
+  module _ (t : ok ≡ true) (n : ℕ) (r : Bool) (e : n ≡ covered_by (world_of d [] []) i last) (f : r ≡ leb (host + n) top) where
+    pub past : r ≡ false → s ≡ record { device = d; answer = Refused 9 } → Gives (host_answer (Create i last) (world_of d [] tb) no_guest ok host) (lent [] tb []) (lent [] tb []) s
     unfolding host_answer
     past q is =
-        let over : ltb top (host + n) ≡ true = lt-ltb top (host + n) (leb-false (host + n) top (fails _ _ f q)) in
-        rw (not-false ok t, rw e at over) (answers _ _ is refl refl)
+        let over : ltb top (host + n) ≡ true = lt-ltb top (host + n) (leb-false (host + n) top (sym f ∙ q)) in
+        rw (t, rw e at over) (answers _ _ is refl refl)
 
-    pub done : not r ≡ false → (tb' : List ℕ) → Gives (creates (world_of d [] tb) i last host []) (lent [] tb []) (lent [] tb' []) s → Gives (host_answer (Create i last) (world_of d [] tb) no_guest ok host) (lent [] tb []) (lent [] tb' []) s
+    pub done : r ≡ true → (tb' : List ℕ) → Gives (creates (world_of d [] tb) i last host []) (lent [] tb []) (lent [] tb' []) s → Gives (host_answer (Create i last) (world_of d [] tb) no_guest ok host) (lent [] tb []) (lent [] tb' []) s
     unfolding host_answer
     done q tb' m =
-        let within : ltb top (host + n) ≡ false = le-ltb top (host + n) (leb-true (host + n) top (passed _ _ f q)) in
-        rw (not-false ok t, rw e at within) m
+        let within : ltb top (host + n) ≡ false = le-ltb top (host + n) (leb-true (host + n) top (sym f ∙ q)) in
+        rw (t, rw e at within) m
 
 -- ---- what is heard of a creation is the host's answer: it leaves the bitmap and guest memory as they were
 by_parts : (o o' : Outcome) (s : Answered) (bm tb tb' bytes : List ℕ) → o.world.device ≡ o'.world.device → o.answer ≡ o'.answer → o.world.rows ≡ o'.world.rows → blocks bm ≡ o'.world.blocks → bytes ≡ o'.bytes

@@ -2,12 +2,10 @@
 -- What the calls come to: the refusals before them, a request by its chain, and the host's answer to a discard.
 use Prim.Native.Nat.{ℕ, ◌+◌, ◌-◌, ◌*◌}
 use mathlib.Core.Path.{◌≡◌, refl, ap, ◌∙◌}
-use mathlib.Core.Bool.{Bool, true, false, not}
-use mathlib.Core.List.{List, [], ◌∷◌}
+use mathlib.Core.Bool.{Bool, true, false}
+use mathlib.Core.List.{List}
 use lib.ListN.{length}
-use borrow.Author.Tests.{eq-eqb, ne_eqb, not-true, not-false}
-use types.Run.{OneOf, miss}
-use denote.Enum.Declared.{tag_of}
+use borrow.Author.Tests.{eq-eqb, ne_eqb}
 use Rattle.units.specs.Numbers.{bytes_of}
 use Rattle.bitmap.specs.Blocks.{blocks, Filled}
 use Rattle.bitmap.proofs.Laws.{blocks-length}
@@ -17,7 +15,6 @@ use Rattle.rows.proofs.Words.{count}
 use Rattle.wire.specs.declared.VirtioMemReq.{VirtioMemReq}
 use Rattle.chain.specs.declared.Parsed.{Parsed}
 use Rattle.chain.specs.declared.Parsed.TheVariants.{Request as Got, Bad}
-use Rattle.chain.specs.contracts.Parsed.{the_type as parsed-type}
 use Rattle.chain.specs.Chain.{parsed, reason_of}
 use Rattle.change.specs.Why.{failed_discard}
 use Rattle.record.specs.declared.Device.{Device}
@@ -32,10 +29,14 @@ use Rattle.step.specs.Promise.{lent, Gives}
 use Rattle.step.specs.Step.{unserved, host_answer, serve, request, step, unless, ready_refusal, pending_refusal, ack, error, refused as refused_with, unplug_all}
 use Rattle.step.proofs.Giving.{Responded, serves, relent}
 
+-- where `let .. else` found no request
+abbrev NotRequest : Parsed → Type 0
+NotRequest p = (req : VirtioMemReq) (status : GuestAddr) → p ≡ Got req status → ⊥
+
 -- a chain that is no request
-bad-is : (p : Parsed) → OneOf (1 ∷ []) (tag_of parsed-type p) → (reason : ℕ) → reason ≡ reason_of p → (w : World) (g : Guest) → request p w g ≡ unserved reason w g
+bad-is : (p : Parsed) → NotRequest p → (reason : ℕ) → reason ≡ reason_of p → (w : World) (g : Guest) → request p w g ≡ unserved reason w g
 unfolding request
-bad-is (Got req status) k reason e w g = absurd (miss (1 ∷ []) 0 tt k)
+bad-is (Got req status) k reason e w g = absurd (k req status refl)
 bad-is (Bad n) k reason e w g = rw e
 
 module _ (d : Device) (bitmap table : List ℕ) (number : ℕ) where
@@ -53,7 +54,7 @@ module _ (d : Device) (bitmap table : List ℕ) (number : ℕ) where
         unfolding step unless
         request-ready = rw (same-ready, eq-eqb number 0 h, ← e)
 
-        pub request-bad : OneOf (1 ∷ []) (tag_of parsed-type p) → (reason : ℕ) → reason ≡ reason_of p → step (world_of d bitmap table) (Request g at head) ≡ unserved reason (world_of d bitmap table) g
+        pub request-bad : NotRequest p → (reason : ℕ) → reason ≡ reason_of p → step (world_of d bitmap table) (Request g at head) ≡ unserved reason (world_of d bitmap table) g
         request-bad k reason r = request-ready ∙ bad-is p k reason r (world_of d bitmap table) g
 
         pub request-got : (req : VirtioMemReq) (status : GuestAddr) → p ≡ Got req status → step (world_of d bitmap table) (Request g at head) ≡ serve (world_of d bitmap table) req status.0 g
@@ -98,19 +99,19 @@ pub less-shaped : (d d' d'' : Device) (n : ℕ) → shaped_of d ≡ true → n �
 less-shaped d d' d'' n shape less same same' = rw (same', same, less) (block-less-keeps d shape)
 
 module _ (d : Device) (bitmap table : List ℕ) (shape : shaped_of d ≡ true) (g : Guest) (s : Answered) {bytes : List ℕ} (ok : Bool) (status : GuestAddr) where
-  pub unplug-fails : (first count : ℕ) → not ok ≡ true → Responded g status.0 (error failed_discard) (pending_to Nothing d) s bytes → Gives (host_answer (Discard first count status) (world_of d bitmap table) g ok 0) (lent bitmap table g.mem) (lent bitmap table bytes) s
+  pub unplug-fails : (first count : ℕ) → ok ≡ false → Responded g status.0 (error failed_discard) (pending_to Nothing d) s bytes → Gives (host_answer (Discard first count status) (world_of d bitmap table) g ok 0) (lent bitmap table g.mem) (lent bitmap table bytes) s
   unfolding host_answer
-  unplug-fails first count t p = rw (not-true ok t) (serves g status.0 _ bitmap p refl refl)
+  unplug-fails first count t p = rw t (serves g status.0 _ bitmap p refl refl)
 
-  pub unplug-done : (first count : ℕ) → not ok ≡ false → (bitmap' : List ℕ) → Filled bitmap bitmap' first count false → (d' d'' : Device) → d' ≡ plugged_to (d.config.plugged_size - bytes_of d.config.block_size count) d → d'' ≡ pending_to Nothing d' → Responded g status.0 ack d'' s bytes → Gives (host_answer (Discard first count status) (world_of d bitmap table) g ok 0) (lent bitmap table g.mem) (lent bitmap' table bytes) s
+  pub unplug-done : (first count : ℕ) → ok ≡ true → (bitmap' : List ℕ) → Filled bitmap bitmap' first count false → (d' d'' : Device) → d' ≡ plugged_to (d.config.plugged_size - bytes_of d.config.block_size count) d → d'' ≡ pending_to Nothing d' → Responded g status.0 ack d'' s bytes → Gives (host_answer (Discard first count status) (world_of d bitmap table) g ok 0) (lent bitmap table g.mem) (lent bitmap' table bytes) s
   unfolding host_answer
   unplug-done first count t bitmap' filled d' d'' same same' p =
-      rw (not-false ok t) (serves g status.0 _ bitmap' (rw (same', same) at p) filled.as-blocks refl)
+      rw t (serves g status.0 _ bitmap' (rw (same', same) at p) filled.as-blocks refl)
 
-  pub one-fails : (block : ℕ) → not ok ≡ true → Responded g status.0 (error failed_discard) (pending_to Nothing d) s bytes → Gives (host_answer (DiscardOne block status) (world_of d bitmap table) g ok 0) (lent bitmap table g.mem) (lent bitmap table bytes) s
+  pub one-fails : (block : ℕ) → ok ≡ false → Responded g status.0 (error failed_discard) (pending_to Nothing d) s bytes → Gives (host_answer (DiscardOne block status) (world_of d bitmap table) g ok 0) (lent bitmap table g.mem) (lent bitmap table bytes) s
   unfolding host_answer
-  one-fails block t p = rw (not-true ok t) (serves g status.0 _ bitmap p refl refl)
+  one-fails block t p = rw t (serves g status.0 _ bitmap p refl refl)
 
-  pub one-done : (block : ℕ) → not ok ≡ false → (bitmap' : List ℕ) → Filled bitmap bitmap' block 1 false → (n : ℕ) → n ≡ d.config.plugged_size - d.config.block_size → (d' d'' : Device) → d' ≡ plugged_to n d → d'' ≡ pending_to Nothing d' → Gives (unplug_all (world_of d'' bitmap' table) (block + 1) status.0 g) (lent bitmap' table g.mem) (lent bitmap' table bytes) s → Gives (host_answer (DiscardOne block status) (world_of d bitmap table) g ok 0) (lent bitmap table g.mem) (lent bitmap' table bytes) s
+  pub one-done : (block : ℕ) → ok ≡ true → (bitmap' : List ℕ) → Filled bitmap bitmap' block 1 false → (n : ℕ) → n ≡ d.config.plugged_size - d.config.block_size → (d' d'' : Device) → d' ≡ plugged_to n d → d'' ≡ pending_to Nothing d' → Gives (unplug_all (world_of d'' bitmap' table) (block + 1) status.0 g) (lent bitmap' table g.mem) (lent bitmap' table bytes) s → Gives (host_answer (DiscardOne block status) (world_of d bitmap table) g ok 0) (lent bitmap table g.mem) (lent bitmap' table bytes) s
   unfolding host_answer
-  one-done block t bitmap' filled n less d' d'' same same' m = rw (not-false ok t) (relent refl (rw (same', same, less, filled.as-blocks) at m))
+  one-done block t bitmap' filled n less d' d'' same same' m = rw t (relent refl (rw (same', same, less, filled.as-blocks) at m))

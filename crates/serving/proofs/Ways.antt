@@ -2,14 +2,11 @@
 -- What the ways through a request come to: each lemma takes what the code knows on a way and shows the leaf of `Step.antt` there.
 use Prim.Native.Nat.{ℕ, suc, ◌+◌, ◌≤◌, ◌<◌}
 use mathlib.Core.Path.{◌≡◌, refl, sym, ap, ◌∙◌}
-use mathlib.Core.Bool.{Bool, true, false, cond, not}
-use mathlib.Core.List.{List, [], ◌∷◌}
+use mathlib.Core.Bool.{Bool, true, false, cond}
+use mathlib.Core.List.{List, []}
 use native.Mathlib.Omega.{arith}
 use lib.Dec.{leb, ltb}
 use borrow.Author.Tests.{lt-ltb, le-ltb, lt-leb, le-leb, leb-true, leb-false, ne_eqb}
-use types.Run.{OneOf, miss}
-use denote.Enum.Declared.{tag_of}
-use Rattle.units.proofs.Tests.{passed, refused}
 use Rattle.units.specs.Numbers.{top, bytes_of, blocks_in}
 use Rattle.units.specs.declared.RegionOffset.{RegionOffset}
 use Rattle.units.specs.declared.HostAddr.{HostAddr}
@@ -24,8 +21,6 @@ use Rattle.change.specs.declared.Change.TheVariants.{Legal, Outside, WrongState,
 use Rattle.change.specs.declared.Part.TheVariants.{PastUsable}
 use Rattle.change.specs.declared.HostRange.{HostRange}
 use Rattle.change.specs.declared.HostRange.TheVariants.{At as HostAt, CrossesBorder, Unmapped, SumPasses}
-use Rattle.change.specs.contracts.Change.{the_type as change-type}
-use Rattle.change.specs.contracts.HostRange.{the_type as host-type}
 use Rattle.change.proofs.Laws.{one-plugged}
 use Rattle.change.specs.Change.{host_of, legal_at, change_of}
 use Rattle.change.specs.Why.{part_why, host_why, change_why}
@@ -50,13 +45,16 @@ abbrev pub asked : Device → Pending → RegionOffset → (size : ℕ) → Host
 asked d pending offset size host =
     record { device = pending_to pending d; answer = Wants (DiscardCall offset size host) }
 
--- where `let .. else` found another case than Legal, only its number is known
-abbrev pub others : List ℕ
-others = 1 ∷ 2 ∷ 3 ∷ []
+-- where `let .. else` found another case
+abbrev pub NotLegal : Change → Type 0
+NotLegal ch = (first : ℕ) (offset : RegionOffset) (host : HostAddr) → ch ≡ Legal first offset host → ⊥
 
-plug-error : (ch : Change) → OneOf others (tag_of change-type ch) → (w : World) (count status : ℕ) (g : Guest) → plug_as ch w count status g ≡ served (error (change_why ch)) status w g
+abbrev pub NotAt : HostRange → Type 0
+NotAt found = (host : HostAddr) → found ≡ HostAt host → ⊥
+
+plug-error : (ch : Change) → NotLegal ch → (w : World) (count status : ℕ) (g : Guest) → plug_as ch w count status g ≡ served (error (change_why ch)) status w g
 unfolding plug_as change_why
-plug-error (Legal first offset host) k w count status g = absurd (miss others 0 tt k)
+plug-error (Legal first offset host) k w count status g = absurd (k first offset host refl)
 plug-error (Outside part) k w count status g = refl
 plug-error WrongState k w count status g = refl
 plug-error (NoHost part) k w count status g = refl
@@ -64,22 +62,22 @@ plug-error (NoHost part) k w count status g = refl
 module _ (d : Device) (bitmap table : List ℕ) (shape : shaped_of d ≡ true) (addr count status : ℕ) (g : Guest) (s : Answered) (bytes : List ℕ)
     (size : ℕ) (size_is : size ≡ bytes_of d.config.block_size count) (within : Bool) (within-is : within ≡ leb (d.config.plugged_size + size) d.config.requested_size) where
   -- (a) failed
-  pub plug-nacks : not within ≡ true → Responded g status nack d s bytes → Gives (plug (world_of d bitmap table) addr count status g) (lent bitmap table g.mem) (lent bitmap table bytes) s
+  pub plug-nacks : within ≡ false → Responded g status nack d s bytes → Gives (plug (world_of d bitmap table) addr count status g) (lent bitmap table g.mem) (lent bitmap table bytes) s
   unfolding plug
   plug-nacks t p =
-      let h = leb-false (d.config.plugged_size + size) d.config.requested_size (refused _ _ within-is t) in
+      let h = leb-false (d.config.plugged_size + size) d.config.requested_size (sym within-is ∙ t) in
       let e : ltb d.config.requested_size (d.config.plugged_size + bytes_of d.config.block_size count) ≡ true = rw (← size_is) (lt-ltb d.config.requested_size (d.config.plugged_size + size) h) in
       rw e (serves g status (world_of d bitmap table) bitmap p refl refl)
 
-  module _ (t : not within ≡ false) (ch : Change) (ch-is : ch ≡ change_of d.config.block_size d.config.addr.0 d.config.usable_region_size d.several addr count true (blocks bitmap) (rows_of table)) where
+  module _ (t : within ≡ true) (ch : Change) (ch-is : ch ≡ change_of d.config.block_size d.config.addr.0 d.config.usable_region_size d.several addr count true (blocks bitmap) (rows_of table)) where
     asks : plug (world_of d bitmap table) addr count status g ≡ plug_as ch (world_of d bitmap table) count status g
     unfolding plug
     asks =
-        let h = leb-true (d.config.plugged_size + size) d.config.requested_size (passed _ _ within-is t) in
+        let h = leb-true (d.config.plugged_size + size) d.config.requested_size (sym within-is ∙ t) in
         let e : ltb d.config.requested_size (d.config.plugged_size + bytes_of d.config.block_size count) ≡ false = rw (← size_is) (le-ltb d.config.requested_size (d.config.plugged_size + size) h) in
         rw (e, ← ch-is)
 
-    pub plug-errs : OneOf others (tag_of change-type ch) → (why : ℕ) → why ≡ change_why ch → Responded g status (error why) d s bytes → Gives (plug (world_of d bitmap table) addr count status g) (lent bitmap table g.mem) (lent bitmap table bytes) s
+    pub plug-errs : NotLegal ch → (why : ℕ) → why ≡ change_why ch → Responded g status (error why) d s bytes → Gives (plug (world_of d bitmap table) addr count status g) (lent bitmap table g.mem) (lent bitmap table bytes) s
     plug-errs k why why-is p = rw (asks, plug-error ch k (world_of d bitmap table) count status g) (serves g status (world_of d bitmap table) bitmap (rw why-is at p) refl refl)
 
     pub plug-acks : (first : ℕ) (offset : RegionOffset) (host : HostAddr) → ch ≡ Legal first offset host → (bitmap' : List ℕ) → Filled bitmap bitmap' first count true → (d' : Device) → d' ≡ plugged_to (d.config.plugged_size + size) d → Responded g status ack d' s bytes → Gives (plug (world_of d bitmap table) addr count status g) (lent bitmap table g.mem) (lent bitmap' table bytes) s
@@ -87,16 +85,16 @@ module _ (d : Device) (bitmap table : List ℕ) (shape : shaped_of d ≡ true) (
     plug-acks first offset host legal bitmap' filled d' same p =
         rw (asks, legal) (serves g status _ bitmap' (rw (same, size_is) at p) filled.as-blocks refl)
 
-unplug-error : (ch : Change) → OneOf others (tag_of change-type ch) → (w : World) (count status : ℕ) (g : Guest) → unplug_as ch w count status g ≡ served (error (change_why ch)) status w g
+unplug-error : (ch : Change) → NotLegal ch → (w : World) (count status : ℕ) (g : Guest) → unplug_as ch w count status g ≡ served (error (change_why ch)) status w g
 unfolding unplug_as change_why
-unplug-error (Legal first offset host) k w count status g = absurd (miss others 0 tt k)
+unplug-error (Legal first offset host) k w count status g = absurd (k first offset host refl)
 unplug-error (Outside part) k w count status g = refl
 unplug-error WrongState k w count status g = refl
 unplug-error (NoHost part) k w count status g = refl
 
-one-error : (found : HostRange) → OneOf others (tag_of host-type found) → (w : World) (b offset block status : ℕ) (g : Guest) → one_as (legal_at b offset found) w block status g ≡ stops (host_why found) w status g
+one-error : (found : HostRange) → NotAt found → (w : World) (b offset block status : ℕ) (g : Guest) → one_as (legal_at b offset found) w block status g ≡ stops (host_why found) w status g
 unfolding one_as legal_at host_why
-one-error (HostAt host) k w b offset block status g = absurd (miss others 0 tt k)
+one-error (HostAt host) k w b offset block status g = absurd (k host refl)
 one-error CrossesBorder k w b offset block status g = refl
 one-error Unmapped k w b offset block status g = refl
 one-error SumPasses k w b offset block status g = refl
@@ -106,7 +104,7 @@ module _ (d : Device) (bitmap table : List ℕ) (shape : shaped_of d ≡ true) (
     same-change : changing (world_of d bitmap table) addr count false ≡ ch
     same-change = sym ch-is
 
-    pub unplug-errs : {bytes : List ℕ} → OneOf others (tag_of change-type ch) → (why : ℕ) → why ≡ change_why ch → Responded g status (error why) d s bytes → Gives (unplug (world_of d bitmap table) addr count status g) (lent bitmap table g.mem) (lent bitmap table bytes) s
+    pub unplug-errs : {bytes : List ℕ} → NotLegal ch → (why : ℕ) → why ≡ change_why ch → Responded g status (error why) d s bytes → Gives (unplug (world_of d bitmap table) addr count status g) (lent bitmap table g.mem) (lent bitmap table bytes) s
     unplug-errs k why why-is p = rw (same-change, unplug-error ch k (world_of d bitmap table) count status g) (serves g status (world_of d bitmap table) bitmap (rw why-is at p) refl refl)
 
     module _ (first : ℕ) (offset : RegionOffset) (host : HostAddr) (legal : ch ≡ Legal first offset host) (size : ℕ) (size_is : size ≡ bytes_of d.config.block_size count) where
@@ -145,7 +143,7 @@ module _ (d : Device) (bitmap table : List ℕ) (shape : shaped_of d ≡ true) (
       by-host : changing (world_of d bitmap table) (d.config.addr.0 + bytes_of d.config.block_size block) 1 false ≡ legal_at d.config.block_size (bytes_of d.config.block_size block) found
       by-host = rw (one-change, lt-leb d.config.usable_region_size (bytes_of d.config.block_size block) usable, ← found-is)
 
-      pub one-errs : {bytes : List ℕ} → OneOf others (tag_of host-type found) → (why : ℕ) → why ≡ host_why found → Responded g status (error why) (pending_to Nothing d) s bytes → Gives (unplug_one (world_of d bitmap table) block status g) (lent bitmap table g.mem) (lent bitmap table bytes) s
+      pub one-errs : {bytes : List ℕ} → NotAt found → (why : ℕ) → why ≡ host_why found → Responded g status (error why) (pending_to Nothing d) s bytes → Gives (unplug_one (world_of d bitmap table) block status g) (lent bitmap table g.mem) (lent bitmap table bytes) s
       one-errs k why why-is p =
           rw (by-host, one-error found k (world_of d bitmap table) d.config.block_size (bytes_of d.config.block_size block) block status g) (serves g status _ bitmap (rw why-is at p) refl refl)
 

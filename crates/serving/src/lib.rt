@@ -1,5 +1,7 @@
 // SPDX-License-Identifier: Apache-2.0 AND BSD-3-Clause
 // Requests of the guest (plug, unplug, unplug-all and state), and the host's answer to a discard or a creation.
+#![tactic(auto)]
+
 ghost use Rattle.std.specs.Prelude.{◌≡◌, true, [], ◌≤◌, ◌<◌};
 ghost use Rattle.record.specs.declared.HostCall.TheVariants.{Discard as DiscardCall};
 ghost use Rattle.record.specs.declared.Pending.TheVariants.{Create, Discard, DiscardOne};
@@ -7,8 +9,9 @@ ghost use Rattle.record.specs.Shape.{shaped_of};
 ghost use Rattle.record.specs.Changes.{pending_to, plugged_to};
 ghost use Rattle.step.specs.declared.Answer.TheVariants.{Wants};
 ghost use Rattle.step.specs.World.{no_guest, world_of};
-ghost use Rattle.step.specs.Step.{served, plug as plug_of, unplug as unplug_of, unplug_one, unplug_all, serve as serve_of};
-ghost use Rattle.step.specs.Step.{stops, state_type, state_verdict, creates, covered_by, host_answer, verdict as verdict_of};
+ghost use Rattle.step.specs.Step.{served, plug as plug_of, unplug as unplug_of, unplug_one, unplug_all};
+ghost use Rattle.step.specs.Step.{serve as serve_of, stops, state_type, state_verdict, creates, covered_by};
+ghost use Rattle.step.specs.Step.{host_answer, verdict as verdict_of};
 ghost use Rattle.step.specs.Promise.{lent, Gives, Steps, Does, request_on, answer_on};
 ghost use Rattle.units.specs.Numbers.{blocks_in};
 ghost use Rattle.bitmap.specs.Blocks.{blocks, block_at};

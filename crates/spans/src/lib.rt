@@ -1,6 +1,8 @@
 // SPDX-License-Identifier: Apache-2.0 AND BSD-3-Clause
 // The numbers that sentences tell: the range that a line is about, and what a creation asks for. No number wraps: what
 // passes 2^64 - 1 is told as that, which no record with the shape brings up.
+#![tactic(auto)]
+
 ghost use Rattle.std.specs.Prelude.{◌≡◌, cond, ◌+◌, ◌-◌, ◌*◌, eqb};
 ghost use Rattle.units.specs.Numbers.{saturated, map_region, map_regions};
 ghost use Rattle.spans.specs.Spans.{span_at, span_from, no_span, pending_span, op_span, brought};
@@ -11,7 +13,7 @@ use trace_text::Op;
 use units::{MemTool, RegionOffset, map_regions, product_within, saturating_add, saturating_sub};
 
 // A range of blocks: its address, its first block, how many blocks, and in MiB its offset and its size.
-#[derive(Drop)]
+#[derive(Clone, Copy)]
 pub struct Span {
     pub addr: u64,
     pub first: u64,

@@ -143,7 +143,7 @@ made-features capacity requested several node boot d e =
     never n q = let z : ◌≡◌ {A = ℕ} 0 1 = cc in absurd (omega arith)
 
 features-stay : (node : Node) (w w' : World) → Constant w w' → Features node w.device → Features node w'.device
-features-stay node w w' k f = record { with-node = rw k.same-features f.with-node; node-is = k.same-node ∙ f.node-is; accessible = rw k.same-features f.accessible }
+features-stay n w w' k f = record { with-node = rw k.same-features f.with-node; node-is = k.same-node ∙ f.node-is; accessible = rw k.same-features f.accessible }
 
 pub features-from-making : FeaturesFromMaking
 unfolding next made_as

@@ -36,7 +36,7 @@ use Rattle.change.proofs.Laws.{InRange, inside_is, inside-when, host-is, legal-i
 use Rattle.step.specs.declared.Answer.TheVariants.{Refused}
 use Rattle.step.specs.Answers.{response}
 use Rattle.step.specs.World.{World, Guest, Request, HostAnswer, Outcome}
-use Rattle.step.specs.Step.{step, request, unless, pending_refusal, tables_fit, serve, block_size, region, usable, plugged, requested, start, several, region_blocks, device_of, changing, plug_as, plug, plugs, unplug_as, asks_discard, unplugs, asks_one, one_as, next_as, unplug_all, stops, cleared, state_type, state_verdict, served, unserved, error, host_answer}
+use Rattle.step.specs.Step.{step, request, unless, pending_refusal, tables_fit, serve, block_size, region, usable, plugged, requested, start, several, region_blocks, device_of, changing, plug_as, plug, plugs, unplug_as, asks_discard, asks_one, one_as, next_as, unplug_all, stops, cleared, state_type, state_verdict, served, unserved, error, host_answer}
 use Rattle.step.proofs.Entry.{ready-when, waits-when}
 use Rattle.step.proofs.InTable.{cleared-shaped, cleared-fits}
 use Rattle.step.proofs.Laws.{one_inside, one-before, one-behind}

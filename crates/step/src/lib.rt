@@ -1,6 +1,8 @@
 // SPDX-License-Identifier: Apache-2.0 AND BSD-3-Clause
 // What every call of the device ends in: the answers, the refusals that several calls share, the usable size worked
 // out, and the response to the guest.
+#![tactic(auto)]
+
 ghost use Rattle.std.specs.Prelude.{◌≡◌, cond, ◌+◌, ◌*◌, ◌/◌, []};
 ghost use Rattle.units.specs.Numbers.{blocks_in};
 ghost use Rattle.rows.specs.Rows.{rows_in};
@@ -15,14 +17,14 @@ use units::{GuestAddr, MemTool, map_regions};
 use wire::VirtioMemResp;
 
 // What a request comes to: its response and, where that is ERROR, the reason (R10.17), else 0.
-#[derive(Drop)]
+#[derive(Clone, Copy)]
 pub struct Verdict {
     pub response: VirtioMemResp,
     pub why: u64,
 }
 
 // The end of a request: its response, also where it could not be delivered, the used length, and why it is an ERROR.
-#[derive(Drop)]
+#[derive(Clone, Copy)]
 pub struct Reply {
     pub response: VirtioMemResp,
     pub used: u32,
@@ -30,7 +32,7 @@ pub struct Reply {
 }
 
 // The answer of a call.
-#[derive(Drop)]
+#[derive(Clone, Copy)]
 pub enum Answer {
     // Refused with a number (R1); 10, creation failed, too.
     Refused(u64),
@@ -47,7 +49,7 @@ pub enum Answer {
 }
 
 // A call's answer, with the record as it is then.
-#[derive(Drop)]
+#[derive(Clone, Copy)]
 pub struct Answered {
     pub device: Device,
     pub answer: Answer,

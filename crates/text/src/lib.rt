@@ -1,5 +1,7 @@
 // SPDX-License-Identifier: Apache-2.0 AND BSD-3-Clause
 // Numbers as text: read at a position of a lent slice, and put into a lent buffer.
+#![tactic(auto)]
+
 ghost use Rattle.std.specs.Prelude.{◌≡◌, ◌∷◌, [], drop};
 ghost use Rattle.text.specs.Decimal.{decimal};
 ghost use Rattle.text.specs.Reading.{digit_of, more, bounded, answer_in, number_at};
@@ -69,7 +71,8 @@ pub fn read_number(s: &[u8], at: usize) -> Number
         return Number::Bad;
     }
     let next = at + 1;
-    if 0 < d {
+    let leads = 0 < d;
+    if leads {
         return digits(s, next, d);
     }
     if digit(s, next) <= 9 {

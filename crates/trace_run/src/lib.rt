@@ -1,6 +1,8 @@
 // SPDX-License-Identifier: Apache-2.0 AND BSD-3-Clause
 // A run of a trace, a line at a time: the first makes the device and places it, and each later one is an op on it.
 // Ops go through real chains in a guest memory, and each line prints the answer.
+#![tactic(auto)]
+
 ghost use Rattle.std.specs.Prelude.{◌≡◌, true, ◌+◌, ◌≤◌, length, take};
 ghost use Rattle.text.specs.Putting.{Put};
 ghost use Rattle.step.specs.Promise.{lent, Steps};
@@ -24,7 +26,7 @@ use trace_text::{FirstLine, Line, Op, read_line};
 use units::{GuestAddr, map_regions};
 
 // Where a run stands: before its first line, on a device, or ended.
-#[derive(Drop)]
+#[derive(Clone, Copy)]
 pub enum Run {
     Before,
     On(Device),
@@ -33,7 +35,7 @@ pub enum Run {
 
 // Where the run stands after a line, the line's answer, and how many bytes of output it has put at the start of a
 // buffer. A bad line, and a device that is not made, are refused; a line after the end has `Done` for an answer.
-#[derive(Drop)]
+#[derive(Clone, Copy)]
 pub struct Shown {
     pub run: Run,
     pub answer: Answer,

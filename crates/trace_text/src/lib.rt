@@ -1,5 +1,7 @@
 // SPDX-License-Identifier: Apache-2.0 AND BSD-3-Clause
 // Trace lines: house lines to values. Each line is defined by its text, in specs/Lines.antt.
+#![tactic(auto)]
+
 ghost use Rattle.std.specs.Prelude.{◌≡◌};
 ghost use Rattle.trace_text.specs.Lines.{Reads};
 ghost use Rattle.trace_text.specs.Reading.{first_line_of, on_range, made_of, kind_of, earlier};
@@ -7,7 +9,7 @@ ghost use Rattle.trace_text.specs.Reading.{first_line_of, on_range, made_of, kin
 use units::{GuestAddr, HostAddr, Node};
 
 // The first line, which makes the device and places it.
-#[derive(Drop)]
+#[derive(Clone, Copy)]
 pub struct FirstLine {
     pub capacity_mib: u64,
     pub requested_mib: u64,
@@ -19,7 +21,7 @@ pub struct FirstLine {
 }
 
 // A line after the first.
-#[derive(Drop)]
+#[derive(Clone, Copy)]
 pub enum Op {
     Host { ok: bool, addr: HostAddr },
     Plug { addr: GuestAddr, blocks: u16 },
@@ -30,7 +32,7 @@ pub enum Op {
 }
 
 // Bad is a line that is refused as 13.
-#[derive(Drop)]
+#[derive(Clone, Copy)]
 pub enum Line {
     First(FirstLine),
     Later(Op),

@@ -1,24 +1,26 @@
 // SPDX-License-Identifier: Apache-2.0 AND BSD-3-Clause
 // The numbers of the device: three kinds of address, the node, the sizes, the alignment, rounding, and tests for
 // overflow.
+#![tactic(auto)]
+
 ghost use Rattle.std.specs.Prelude.{◌≡◌, ◌+◌, ◌-◌, ◌*◌, ◌/◌, ◌%◌, min, leb, eqb};
 ghost use Rattle.units.specs.Numbers.{saturated, bytes_of, blocks_in, map_region, map_regions};
 ghost use Rattle.units.specs.Numbers.{between, alignment_of, next_multiple};
 
 // An address as the guest sees it.
-#[derive(Drop)]
+#[derive(Clone, Copy)]
 pub struct GuestAddr(pub u64);
 
 // How far a byte lies past the start of the region.
-#[derive(Drop)]
+#[derive(Clone, Copy)]
 pub struct RegionOffset(pub u64);
 
 // An address in the host's memory.
-#[derive(Drop)]
+#[derive(Clone, Copy)]
 pub struct HostAddr(pub u64);
 
 // The node that a device belongs to, if one is given.
-#[derive(Drop)]
+#[derive(Clone, Copy)]
 pub enum Node {
     None,
     Number(u16),
@@ -191,7 +193,8 @@ fn clamped(n: u32) -> u32
 pub fn alignment_of(boot: u64) -> u64
     ensures { result ≡ alignment_of boot }
 {
-    if boot < BOOT_MEM_SIZE_FOR_LARGE_BLOCK {
+    let small = boot < BOOT_MEM_SIZE_FOR_LARGE_BLOCK;
+    if small {
         return MemTool::MIN_ALIGNMENT;
     }
     1 << clamped(u64::trailing_zeros(boot))

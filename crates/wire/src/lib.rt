@@ -1,5 +1,7 @@
 // SPDX-License-Identifier: Apache-2.0 AND BSD-3-Clause
 // The bytes of the device: the request of 24, the response of 10 and the config of 56.
+#![tactic(auto)]
+
 ghost use Rattle.std.specs.Prelude.{◌≡◌, ◌+◌, ◌%◌, ◌≤◌, ◌<◌, length, drop};
 ghost use Rattle.little_endian.specs.Bytes.{little_endian, put};
 ghost use Rattle.wire.specs.Layout.{request_at, response_bytes, config_fields, config_bytes, new_config};
@@ -8,7 +10,7 @@ use little_endian::{copy, from, places, read_u16, read_u64, write_u16, write_u64
 use units::GuestAddr;
 
 // What the guest asks.
-#[derive(Drop)]
+#[derive(Clone, Copy)]
 pub struct VirtioMemReq {
     pub req_type: u16,
     pub addr: GuestAddr,
@@ -16,14 +18,14 @@ pub struct VirtioMemReq {
 }
 
 // What the guest is answered.
-#[derive(Drop)]
+#[derive(Clone, Copy)]
 pub struct VirtioMemResp {
     pub resp_type: u16,
     pub state: u16,
 }
 
 // What the guest reads of the device.
-#[derive(Drop)]
+#[derive(Clone, Copy)]
 pub struct VirtioMemConfig {
     pub block_size: u64,
     pub node_id: u16,
@@ -52,7 +54,7 @@ impl VirtioMemConfig {
 }
 
 // Where a field of the config starts, and how many bytes it has.
-#[derive(Drop)]
+#[derive(Clone, Copy)]
 pub struct Field(pub usize, pub usize);
 
 // Block size, node, zeros, start, region, usable, plugged, requested.
@@ -136,7 +138,8 @@ fn write_field(bytes: &mut [u8], field: Field, v: u64)
 pub fn read_config(config: VirtioMemConfig, offset: u64, data: &mut [u8])
     ensures { «data».new ≡ put «data».old 0 (drop offset (config_bytes config)) }
 {
-    if 56 <= offset {
+    let past = 56 <= offset;
+    if past {
         return;
     }
     let values: [u64; 8] = [

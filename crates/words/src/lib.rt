@@ -1,5 +1,7 @@
 // SPDX-License-Identifier: Apache-2.0 AND BSD-3-Clause
 // The record as words, for callers that have no enums: what is no encoding of a record is told apart from one.
+#![tactic(auto)]
+
 ghost use Rattle.std.specs.Prelude.{◌≡◌, ◌≤◌, length};
 ghost use Rattle.little_endian.specs.Bytes.{put};
 ghost use Rattle.words.specs.declared.Decoded.TheVariants.{Is};
@@ -56,7 +58,8 @@ fn call_of(kind: u64, first: u64, second: u64, status: u64) -> Call
             status: GuestAddr(status),
         }),
         3 => {
-            if second != 0 {
+            let no_use = second != 0;
+            if no_use {
                 return Call::Unknown;
             }
             Call::Known(Pending::DiscardOne {

@@ -1,0 +1,17 @@
+-- SPDX-License-Identifier: Apache-2.0 AND BSD-3-Clause
+-- `write_request` meets its contract.
+use mathlib.Core.Path.{refl}
+use native.Mathlib.Omega.{arith}
+use Rattle.driver.proofs.Laws.{request-put}
+use Rattle.driver.proofs.write_request.Goals as goal
+
+pub returns-then-bytes-lt24 : goal.returns-then-bytes-lt24
+returns-then-bytes-lt24 c = record { whole = λ h. absurd (omega arith); short = λ h. (refl, refl) }
+
+pub returns : goal.returns
+returns c =
+    let a = c.args in
+    record {
+      whole = λ h. (refl, request-put a.bytes.now a.req (omega arith) (omega arith) c.write_u64.ensures c.write_u64-2.ensures c.write_u64-3.ensures);
+      short = λ h. absurd (omega arith);
+    }

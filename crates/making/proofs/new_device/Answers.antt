@@ -1,0 +1,6 @@
+-- SPDX-License-Identifier: Apache-2.0 AND BSD-3-Clause
+-- `making::new_device` meets its contract.
+use Rattle.making.proofs.new_device.Goals as goal
+
+pub returns : goal.returns
+returns c = simp (c.features.ensures, c.is_given.ensures, c.new-config.ensures, c.node_number.ensures)

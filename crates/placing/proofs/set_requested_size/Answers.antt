@@ -1,0 +1,60 @@
+-- SPDX-License-Identifier: Apache-2.0 AND BSD-3-Clause
+-- `placing::set_requested_size` meets its contract: the refusals 12, 7, 5, 11 and then 1, and the new requested size before anything is worked out.
+use Prim.Native.Nat.{◌*◌}
+use mathlib.Core.Path.{◌≡◌, refl, sym, ◌∙◌}
+use mathlib.Core.Bool.{true}
+use native.Mathlib.Omega.{arith}
+use Rattle.bitmap.proofs.Laws.{blocks-length}
+use Rattle.rows.proofs.Words.{count, whole}
+use Rattle.record.specs.Shape.{shaped_of}
+use Rattle.record.proofs.Laws.{shaped-is, requested-keeps}
+use Rattle.record.specs.Changes.{requested_to}
+use Rattle.step.specs.World.{world_of}
+use Rattle.step.specs.Step.{step, device_of, set_requested_size}
+use Rattle.step.proofs.Entry.{ready-is}
+use Rattle.making.proofs.Asked.{Asked, asked_is}
+use Rattle.placing.proofs.Laws.{resizes_gives}
+use Rattle.step.proofs.Giving.{refused-gives, stops, goes_on}
+use Rattle.placing.proofs.set_requested_size.Goals as goal
+use Rattle.placing.proofs.set_requested_size.Goals.{Else-number-ne0, Else-requested_refused}
+
+-- past 12, 7, 5 and 11
+shape : (c : Else-number-ne0) → shaped_of c.args.d ≡ true
+shape c = (ready-is _ _ _ (sym c.ready_refusal-number.ensures ∙ c.if-number-ne0.false)).shaped
+
+-- past 1
+size : (c : Else-requested_refused) → (let a = c.args in Asked a.d.config.block_size (a.requested_mib * 1048576) a.d.config.region_size)
+size c = asked_is _ _ _ _ c.requested_refused.ensures c.if-requested_refused.false
+
+pub returns-then-number-ne0 : goal.returns-then-number-ne0
+unfolding step
+returns-then-number-ne0 c = simp (blocks-length, count, ← c.ready_refusal-number.ensures) (stops _ _ _ _ _ c.if-number-ne0.true c.refuse.ensures)
+
+pub returns-then-requested_refused : goal.returns-then-requested_refused
+unfolding step set_requested_size
+returns-then-requested_refused c =
+    simp (blocks-length, count, ← c.ready_refusal-number.ensures)
+    (goes_on _ _ _ _ _ _ _ c.if-number-ne0.false
+    (refused-gives _ _ 1 _ _
+    (simp (← c.requested_refused.ensures, c.if-requested_refused.true))
+    c.refuse-then-requested_refused.ensures))
+
+pub overflow_mul-requested : goal.overflow_mul-requested
+overflow_mul-requested c = omega (arith, (size (goal.at.overflow_mul-requested c).Else-requested_refused).within)
+
+pub resize-requires : goal.resize-requires
+resize-requires c =
+    let d = c.args.d in
+    let before = shape (goal.at.resize-requires c).Else-number-ne0 in
+    let after = requested-keeps _ before _ (rw (shaped-is d before).block_size at (size (goal.at.resize-requires c).Else-requested_refused).whole) (size (goal.at.resize-requires c).Else-requested_refused).within in
+    cc
+
+pub returns : goal.returns
+unfolding step set_requested_size
+returns c =
+    let a = c.args in
+    let bytes = a.requested_mib * 1048576 in
+    simp (blocks-length, count, ← c.ready_refusal-number.ensures)
+    (goes_on _ _ _ _ _ _ _ c.if-number-ne0.false
+    (simp (← c.requested_refused.ensures, c.if-requested_refused.false)
+    (resizes_gives _ (device_of (requested_to bytes a.d) (world_of a.d a.bitmap.now a.table.now)) _ _ _ c.resize.ensures refl (sym (whole _)) refl)))

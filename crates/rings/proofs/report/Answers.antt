@@ -1,0 +1,35 @@
+-- SPDX-License-Identifier: Apache-2.0 AND BSD-3-Clause
+-- `rings::report` meets its contract: the element and the index are put where the ring is placed, and nothing where it is not.
+use native.Mathlib.Omega.{arith}
+use lib.ListN.{length}
+use Rattle.descriptors.proofs.Laws.{Found, place_found, place-outside}
+use Rattle.rings.specs.Rings.{reported}
+use Rattle.rings.proofs.Laws.{reported-by}
+use Rattle.rings.proofs.report.Goals as goal
+use Rattle.rings.proofs.report.Goals.{In-At}
+
+pub returns-in_default : goal.returns-in_default
+unfolding reported
+returns-in_default c = simp (place-outside _ _ _ _ _ c.place_of.ensures c.in_default.is)
+
+placed : (c : In-At) → let a = c.args in
+    Found (length a.mem.now) a.base.0 a.used.0 1030 c.in-At.at
+placed c = place_found _ _ _ _ _ _ c.place_of.ensures c.in-At.is
+
+pub overflow_add-element : goal.overflow_add-element
+overflow_add-element c = let f = placed (goal.at.overflow_add-element c).In-At in omega arith
+
+pub overflow_add-element-2 : goal.overflow_add-element-2
+overflow_add-element-2 c = let f = placed (goal.at.overflow_add-element-2 c).In-At in omega arith
+
+pub overflow_add-element-3 : goal.overflow_add-element-3
+overflow_add-element-3 c = let f = placed (goal.at.overflow_add-element-3 c).In-At in omega arith
+
+pub overflow_add-at : goal.overflow_add-at
+overflow_add-at c = let f = placed (goal.at.overflow_add-at c).In-At in omega arith
+
+pub returns : goal.returns
+returns c =
+    let f = placed (goal.at.returns c).In-At in
+    reported-by _ _ _ _ _ _ _ _ f.lies f.place c.write_u32.ensures c.write_u32-2.ensures c.write_u16.ensures
+    c.index_after.ensures

@@ -1,0 +1,28 @@
+-- SPDX-License-Identifier: Apache-2.0 AND BSD-3-Clause
+-- `serving::unplug_answered` meets its contract; by the record's shape the unplug is at most the plugged size.
+use Prim.Native.Nat.{◌*◌}
+use mathlib.Core.Path.{◌≡◌}
+use native.Mathlib.Omega.{arith}
+use Rattle.record.proofs.Laws.{shaped-is, discard-is}
+use Rattle.serving.proofs.Entries.{unplug-fails, unplug-done}
+use Rattle.serving.proofs.unplug_answered.Goals as goal
+
+pub returns-then-not-ok : goal.returns-then-not-ok
+returns-then-not-ok c = unplug-fails _ _ _ c.requires.0 _ _ _ _ _ _ c.if-not-ok.true c.stopped.ensures
+
+pub overflow_mul-left : goal.overflow_mul-left
+overflow_mul-left c =
+    let a = c.args in
+    let shape = shaped-is _ c.requires.0 in
+    let same : a.count * a.d.config.block_size ≡ a.count * 4194304 = rw shape.block_size in
+    omega (arith, shape, same, discard-is _ c.requires.0 _ _ _ c.requires.1)
+
+pub overflow_sub-left : goal.overflow_sub-left
+overflow_sub-left c =
+    let a = c.args in
+    let shape = shaped-is _ c.requires.0 in
+    let same : a.count * a.d.config.block_size ≡ a.count * 4194304 = rw shape.block_size in
+    omega (arith, shape, same, discard-is _ c.requires.0 _ _ _ c.requires.1)
+
+pub returns : goal.returns
+returns c = unplug-done _ _ _ c.requires.0 _ _ _ _ _ _ c.if-not-ok.false _ c.set_range.ensures _ _ c.plugged_to.ensures c.pending_to-unplugged.ensures c.ended.ensures

@@ -1,0 +1,12 @@
+-- SPDX-License-Identifier: Apache-2.0 AND BSD-3-Clause
+-- `words::pending_words` meets its contract, case by case.
+use Rattle.words.proofs.pending_words.Goals as goal
+
+pub returns-in-Create : goal.returns-in-Create
+returns-in-Create c = rw c.in-Create.is
+
+pub returns-in-Discard : goal.returns-in-Discard
+returns-in-Discard c = rw c.in-Discard.is
+
+pub returns-in-DiscardOne : goal.returns-in-DiscardOne
+returns-in-DiscardOne c = rw c.in-DiscardOne.is
