@@ -1,0 +1,6 @@
+-- SPDX-License-Identifier: Apache-2.0 AND BSD-3-Clause
+-- `jambcopper_c::jambcopper_save` promises what the function that it calls does.
+use Rattle.jambcopper_c.proofs.jambcopper_save.Goals as goal
+
+pub returns : goal.returns
+returns c = c.jambcopper_save.ensures
