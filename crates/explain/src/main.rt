@@ -4,12 +4,15 @@
 //
 // Lines are read as the program `trace` reads them. What a line is answered, and which sentence it gets, is promised by
 // `explaining::explain`; here it is read, written and counted.
+#![tactic(auto)]
+
 use explaining::{explain, put_shown};
 use forms::{put_form, put_form_at};
-use libc::{STDIN_FILENO, STDOUT_FILENO};
 use record::Device;
 use refusals::put_waits;
 use sentences::{put_gap, put_row, same_row};
+use std::io;
+use std::io::{BufWriter, Read, Write};
 use step::Answer;
 use trace_run::{Run, first_bytes};
 use units::{MemTool, saturating_add, smaller};
@@ -20,10 +23,13 @@ const ROW: u32 = 64;
 // The rows of the largest region.
 const ROWS: u64 = 4096;
 
+// What one read can bring, and how many bytes are held before they are written.
+const ROOM: usize = 65536;
+
 // What has been read of a line fills so many bytes of its buffer, which has 201: one more than a line may have. `lines`
 // counts those that were served, `why` is the last that was a refusal, a NACK or an ERROR, since the guest had what was
 // requested or a size change was done, or 0; its sentence has `said` bytes.
-#[derive(Drop)]
+#[derive(Clone, Copy)]
 struct State {
     run: Run,
     filled: usize,
@@ -66,37 +72,72 @@ fn has_all(run: Run) -> bool {
 }
 
 // Writes a line with its number, its answer if it has one, and its sentence.
-fn write_line(number: u64, line: &[u8], answer: &[u8], said: &[u8]) {
+fn write_line<W: Write>(
+    number: u64,
+    line: &[u8],
+    answer: &[u8],
+    said: &[u8],
+    out: &mut W,
+) -> io::Result<()> {
     let mut text = [0u8; 1024];
     let mut to = put_form(&mut text, b"#: ", &[number]);
     to = put_shown(&mut text, to, line);
     to = put_form_at(&mut text, to, b"\n", &[]);
-    io::write_all(STDOUT_FILENO, first_bytes(&text, to));
+    out.write_all(first_bytes(&text, to))?;
     if 0 < answer.len() {
-        io::write_all(STDOUT_FILENO, b"    ");
-        io::write_all(STDOUT_FILENO, answer);
+        out.write_all(b"    ")?;
+        out.write_all(answer)?;
     }
     to = put_form(&mut text, b"    ", &[]);
     to = put_shown(&mut text, to, said);
     to = put_form_at(&mut text, to, b"\n", &[]);
-    io::write_all(STDOUT_FILENO, first_bytes(&text, to));
+    out.write_all(first_bytes(&text, to))
+}
+
+// What keeps the guest from what was requested, when line `lines` was answered and told by the first bytes of `said`.
+fn after(s: State, next: Run, answer: Answer, lines: u64, said: &[u8], why: &mut [u8]) -> State {
+    if is_sized(answer) | has_all(next) {
+        return State {
+            run: next,
+            filled: 0,
+            lines,
+            why: 0,
+            said: 0,
+        };
+    }
+    if holds_back(answer) {
+        let kept = put_shown(why, 0, said);
+        return State {
+            run: next,
+            filled: 0,
+            lines,
+            why: lines,
+            said: kept,
+        };
+    }
+    State {
+        run: next,
+        filled: 0,
+        lines,
+        ..s
+    }
 }
 
 // A line has ended: it is explained, and what keeps the guest from what was requested is kept.
-fn end_line(
+fn end_line<W: Write>(
     s: State,
     bitmap: &mut [u8],
     table: &mut [u64],
     mem: &mut [u8],
     line: &[u8],
     why: &mut [u8],
-) -> State {
+    to: &mut W,
+) -> io::Result<State> {
     let mut out = [0u8; 256];
     let mut said = [0u8; 256];
-    let run = s.run;
     let lines = saturating_add(s.lines, 1);
     let told = explain(
-        run,
+        s.run,
         bitmap,
         table,
         mem,
@@ -105,45 +146,19 @@ fn end_line(
         &mut said,
     );
     let shown = told.shown;
-    let next = shown.run;
-    let answer = shown.answer;
-    let length = told.said;
+    let sentence = first_bytes(&said, told.said);
     write_line(
         lines,
         first_bytes(line, s.filled),
         first_bytes(&out, shown.length),
-        first_bytes(&said, length),
-    );
-    if is_sized(answer) | has_all(next) {
-        return State {
-            run: next,
-            filled: 0,
-            lines: lines,
-            why: 0,
-            said: 0,
-        };
-    }
-    if holds_back(answer) {
-        let kept = put_shown(why, 0, first_bytes(&said, length));
-        return State {
-            run: next,
-            filled: 0,
-            lines: lines,
-            why: lines,
-            said: kept,
-        };
-    }
-    State {
-        run: next,
-        filled: 0,
-        lines: lines,
-        why: s.why,
-        said: s.said,
-    }
+        sentence,
+        to,
+    )?;
+    Ok(after(s, shown.run, shown.answer, lines, sentence, why))
 }
 
 // One byte of input. What passes the buffer is dropped: a full buffer is no line, whatever follows.
-fn take(
+fn take<W: Write>(
     s: State,
     b: u8,
     bitmap: &mut [u8],
@@ -151,27 +166,23 @@ fn take(
     mem: &mut [u8],
     line: &mut [u8],
     why: &mut [u8],
-) -> State {
+    to: &mut W,
+) -> io::Result<State> {
     if b == b'\n' {
-        return end_line(s, bitmap, table, mem, &line[..], why);
+        return end_line(s, bitmap, table, mem, line, why, to);
     }
-    let filled = s.filled;
-    if filled < line.len() {
-        line[filled] = b;
-        let run = s.run;
-        return State {
-            run: run,
-            filled: filled + 1,
-            lines: s.lines,
-            why: s.why,
-            said: s.said,
-        };
+    if s.filled < line.len() {
+        line[s.filled] = b;
+        return Ok(State {
+            filled: s.filled + 1,
+            ..s
+        });
     }
-    s
+    Ok(s)
 }
 
 // The bytes that one read brought.
-fn take_all(
+fn take_all<W: Write>(
     s: State,
     input: &[u8],
     bitmap: &mut [u8],
@@ -179,55 +190,28 @@ fn take_all(
     mem: &mut [u8],
     line: &mut [u8],
     why: &mut [u8],
-) -> State {
+    to: &mut W,
+) -> io::Result<State> {
     let mut now = s;
-    let mut i = 0;
-    while i < input.len() {
-        now = take(now, input[i], bitmap, table, mem, line, why);
-        i += 1;
+    for b in input {
+        now = take(now, *b, bitmap, table, mem, line, why, to)?;
     }
-    now
+    Ok(now)
 }
 
-// Reads once, and answers where the run stands then; no bytes are the end.
-#[derive(Drop)]
-struct After {
-    state: State,
-    more: bool,
-}
-
-fn turn(
-    s: State,
+// Reads until no bytes come, and answers where the run stands then. What a read has brought is answered before the next
+// one. A proved loop has to end, and nothing says that the input does: so this one has a number of turns that no run
+// uses up.
+fn replay<R: Read, W: Write>(
+    from: &mut R,
     bitmap: &mut [u8],
     table: &mut [u64],
     mem: &mut [u8],
     line: &mut [u8],
     why: &mut [u8],
-) -> After {
-    let mut input = io::buffer();
-    let got = libc::read(STDIN_FILENO, &mut input);
-    let n = io::count(got, &input);
-    if n == 0 {
-        return After {
-            state: s,
-            more: false,
-        };
-    }
-    After {
-        state: take_all(s, &input[..n], bitmap, table, mem, line, why),
-        more: true,
-    }
-}
-
-// A proved loop has to end, and nothing says that the input does. So the loop counts its turns down, from a number that
-// no run uses up.
-fn replay(
-    bitmap: &mut [u8],
-    table: &mut [u64],
-    mem: &mut [u8],
-    line: &mut [u8],
-    why: &mut [u8],
-) -> State {
+    to: &mut W,
+) -> io::Result<State> {
+    let mut input = [0u8; ROOM];
     let mut state = State {
         run: Run::Before,
         filled: 0,
@@ -235,31 +219,31 @@ fn replay(
         why: 0,
         said: 0,
     };
-    let mut turns = u64::MAX;
-    while turns > 0 {
-        let t = turn(state, bitmap, table, mem, line, why);
-        state = t.state;
-        if !t.more {
-            return state;
+    for _ in 0..u64::MAX {
+        let n = from.read(&mut input)?;
+        if n == 0 {
+            break;
         }
-        turns -= 1;
+        state = take_all(state, &input[..n], bitmap, table, mem, line, why, to)?;
+        to.flush()?;
     }
-    state
+    Ok(state)
 }
 
 // A last line may lack its newline.
-fn finish(
+fn finish<W: Write>(
     s: State,
     bitmap: &mut [u8],
     table: &mut [u64],
     mem: &mut [u8],
     line: &[u8],
     why: &mut [u8],
-) -> State {
+    to: &mut W,
+) -> io::Result<State> {
     if s.filled == 0 {
-        return s;
+        return Ok(s);
     }
-    end_line(s, bitmap, table, mem, line, why)
+    end_line(s, bitmap, table, mem, line, why, to)
 }
 
 // How many rows a line of the map stands for, where it is more than one.
@@ -271,17 +255,17 @@ fn put_count(out: &mut [u8], at: usize, rows: u32) -> usize {
 }
 
 // Writes a line of the map: so many equal rows, of which this is the first, and the number of its first block.
-fn write_rows(bitmap: &[u8], first: u32, rows: u32) {
+fn write_rows<W: Write>(bitmap: &[u8], first: u32, rows: u32, out: &mut W) -> io::Result<()> {
     let mut text = [0u8; 256];
     let mut to = put_form(&mut text, b"    ", &[]);
     to = put_row(&mut text, to, bitmap, first, ROW);
     to = put_form_at(&mut text, to, b"  block #", &[first as u64]);
     to = put_count(&mut text, to, rows);
-    io::write_all(STDOUT_FILENO, first_bytes(&text, to));
+    out.write_all(first_bytes(&text, to))
 }
 
 // Writes the map, a line for each run of equal rows.
-fn write_map(bitmap: &[u8], blocks: u64) {
+fn write_map<W: Write>(bitmap: &[u8], blocks: u64, out: &mut W) -> io::Result<()> {
     let rows = smaller(blocks / 64, ROWS) as u32;
     let mut first = 0;
     let mut i = 1;
@@ -289,30 +273,27 @@ fn write_map(bitmap: &[u8], blocks: u64) {
         if same_row(bitmap, first * ROW, i * ROW, ROW) {
             i += 1;
         } else {
-            write_rows(bitmap, first * ROW, i - first);
+            write_rows(bitmap, first * ROW, i - first, out)?;
             first = i;
             i += 1;
         }
     }
     if first < rows {
-        write_rows(bitmap, first * ROW, rows - first);
+        write_rows(bitmap, first * ROW, rows - first, out)?;
     }
+    Ok(())
 }
 
 // Writes what has kept the guest from what was requested.
-fn write_why(s: State, why: &[u8]) {
+fn write_why<W: Write>(s: State, why: &[u8], out: &mut W) -> io::Result<()> {
     let mut text = [0u8; 512];
     if s.why == 0 {
-        io::write_all(
-            STDOUT_FILENO,
-            b"    why: no refusal, no NACK and no ERROR keeps it there\n",
-        );
-        return;
+        return out.write_all(b"    why: no refusal, no NACK and no ERROR keeps it there\n");
     }
     let mut to = put_form(&mut text, b"    why: line #: ", &[s.why]);
     to = put_shown(&mut text, to, first_bytes(why, s.said));
     to = put_form_at(&mut text, to, b"\n", &[]);
-    io::write_all(STDOUT_FILENO, first_bytes(&text, to));
+    out.write_all(first_bytes(&text, to))
 }
 
 // Whether the device is in a place.
@@ -324,7 +305,7 @@ fn put_place(out: &mut [u8], at: usize, placed: bool) -> usize {
 }
 
 // Writes the sizes, what is pending, and how far the guest is from what was requested.
-fn write_sizes(d: Device) {
+fn write_sizes<W: Write>(d: Device, out: &mut W) -> io::Result<()> {
     let mut text = [0u8; 1024];
     let mut to = put_form(
         &mut text,
@@ -345,46 +326,72 @@ fn write_sizes(d: Device) {
         d.config.plugged_size,
     );
     to = put_form_at(&mut text, to, b"\n", &[]);
-    io::write_all(STDOUT_FILENO, first_bytes(&text, to));
+    out.write_all(first_bytes(&text, to))
 }
 
 // The summary of a run that has a device.
-fn summary(s: State, d: Device, bitmap: &[u8], why: &[u8]) {
-    let run = s.run;
-    write_sizes(d);
-    if !has_all(run) {
-        write_why(s, why);
+fn summary<W: Write>(
+    s: State,
+    d: Device,
+    bitmap: &[u8],
+    why: &[u8],
+    out: &mut W,
+) -> io::Result<()> {
+    write_sizes(d, out)?;
+    if !has_all(s.run) {
+        write_why(s, why, out)?;
     }
-    io::write_all(
-        STDOUT_FILENO,
-        b"    blocks, 64 to a row, # plugged, . unplugged:\n",
-    );
+    out.write_all(b"    blocks, 64 to a row, # plugged, . unplugged:\n")?;
     write_map(
         bitmap,
         MemTool::blocks_in(d.config.region_size, d.config.block_size),
-    );
+        out,
+    )
 }
 
 // The summary of a run that has no device.
-fn no_summary(s: State, why: &[u8]) {
-    io::write_all(STDOUT_FILENO, b"\nsummary: the run never had a device\n");
+fn no_summary<W: Write>(s: State, why: &[u8], out: &mut W) -> io::Result<()> {
+    out.write_all(b"\nsummary: the run never had a device\n")?;
     if 0 < s.why {
-        write_why(s, why);
+        write_why(s, why, out)?;
+    }
+    Ok(())
+}
+
+fn sum_up<W: Write>(s: State, bitmap: &[u8], why: &[u8], out: &mut W) -> io::Result<()> {
+    match s.run {
+        Run::Before => no_summary(s, why, out),
+        Run::On(device) => summary(s, device, bitmap, why, out),
+        Run::Ended => no_summary(s, why, out),
     }
 }
 
-fn main() {
+fn main(rt: HostRuntime) -> io::Result<()> {
     let mut bitmap = [0; 32768];
     let mut table = [0u64; 1536];
     let mut mem = [0u8; 128];
     let mut line = [0u8; 201];
     let mut why = [0u8; 256];
-    let read = replay(&mut bitmap, &mut table, &mut mem, &mut line, &mut why);
-    let state = finish(read, &mut bitmap, &mut table, &mut mem, &line, &mut why);
-    let run = state.run;
-    match run {
-        Run::Before => no_summary(state, &why),
-        Run::On(device) => summary(state, device, &bitmap, &why),
-        Run::Ended => no_summary(state, &why),
-    }
+    let mut from = rt.reader();
+    let mut to = BufWriter::with_capacity(rt.alloc(), ROOM, io::writer(&rt))?;
+    let read = replay(
+        &mut from,
+        &mut bitmap,
+        &mut table,
+        &mut mem,
+        &mut line,
+        &mut why,
+        &mut to,
+    )?;
+    let state = finish(
+        read,
+        &mut bitmap,
+        &mut table,
+        &mut mem,
+        &line,
+        &mut why,
+        &mut to,
+    )?;
+    sum_up(state, &bitmap, &why, &mut to)?;
+    to.flush()
 }

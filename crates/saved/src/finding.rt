@@ -65,7 +65,7 @@ pub const MISSING: u8 = b'i';
 pub const BYTES: u8 = b'B';
 
 // What is wrong: in which line of a text, and why, with up to two numbers.
-#[derive(Drop)]
+#[derive(Clone, Copy)]
 pub struct Found {
     pub line: u64,
     pub why: u8,
@@ -78,7 +78,7 @@ type Numbers = [u64; 7];
 
 // What was read before a line: its number, the numbers of the first six, where a run may begin, and how many blocks
 // the runs have.
-#[derive(Drop)]
+#[derive(Clone, Copy)]
 struct Seen {
     line: u64,
     v: Numbers,

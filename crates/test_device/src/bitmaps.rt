@@ -4,6 +4,7 @@
 use super::lines::{Numbers, small};
 use super::show::{end, number, word};
 use bitmap::Found;
+use std::io;
 
 // A number of the table as a block or a count.
 fn wide(n: u64) -> usize {
@@ -22,50 +23,46 @@ fn hex_digit(n: u8) -> u8 {
     b'a' + (digit - 10)
 }
 
-fn hex(b: u8) {
+fn hex(rt: &impl Print, b: u8) -> io::Result<()> {
     let digits = [hex_digit(b / 16), hex_digit(b)];
-    word(&digits);
+    word(rt, &digits)
 }
 
-fn show_three(bytes: [u8; 3]) {
-    word(b" ");
-    hex(bytes[0]);
-    hex(bytes[1]);
-    hex(bytes[2]);
+fn show_three(rt: &impl Print, bytes: [u8; 3]) -> io::Result<()> {
+    word(rt, b" ")?;
+    hex(rt, bytes[0])?;
+    hex(rt, bytes[1])?;
+    hex(rt, bytes[2])
 }
 
-fn show_five(bytes: [u8; 5]) {
-    word(b" ");
-    hex(bytes[0]);
-    hex(bytes[1]);
-    hex(bytes[2]);
-    hex(bytes[3]);
-    hex(bytes[4]);
+fn show_five(rt: &impl Print, bytes: [u8; 5]) -> io::Result<()> {
+    word(rt, b" ")?;
+    hex(rt, bytes[0])?;
+    hex(rt, bytes[1])?;
+    hex(rt, bytes[2])?;
+    hex(rt, bytes[3])?;
+    hex(rt, bytes[4])
 }
 
-fn show_found(found: Found) {
+fn show_found(rt: &impl Print, found: Found) -> io::Result<()> {
     match found {
-        Found::At(block) => number(b" ", block as u64),
-        Found::Nothing => word(b" nothing"),
+        Found::At(block) => number(rt, b" ", block as u64),
+        Found::Nothing => word(rt, b" nothing"),
     }
 }
 
 // The state of a range: 1 all plugged, 0 all unplugged, - neither, = both, which is no block.
-fn show_state(bitmap: &[u8], first: usize, count: usize) {
+fn show_state(rt: &impl Print, bitmap: &[u8], first: usize, count: usize) -> io::Result<()> {
     let plugged = bitmap::all_in_state(bitmap, first, count, true);
     let unplugged = bitmap::all_in_state(bitmap, first, count, false);
     if plugged & unplugged {
-        word(b"=");
+        word(rt, b"=")
+    } else if plugged {
+        word(rt, b"1")
+    } else if unplugged {
+        word(rt, b"0")
     } else {
-        if plugged {
-            word(b"1");
-        } else {
-            if unplugged {
-                word(b"0");
-            } else {
-                word(b"-");
-            }
-        }
+        word(rt, b"-")
     }
 }
 
@@ -74,99 +71,140 @@ fn five(value: u8) -> [u8; 5] {
     [value, value, value, value, value]
 }
 
-fn test_five(value: u8, bytes: usize, first: usize, count: usize) {
+fn test_five(
+    rt: &impl Print,
+    value: u8,
+    bytes: usize,
+    first: usize,
+    count: usize,
+) -> io::Result<()> {
     let map = five(value);
     if bytes < 6 {
-        show_state(&map[..bytes], first, count);
+        return show_state(rt, &map[..bytes], first, count);
     }
+    Ok(())
 }
 
-fn put_five(value: u8, bytes: usize, first: usize, count: usize, plugged: bool) {
+fn put_five(
+    rt: &impl Print,
+    value: u8,
+    bytes: usize,
+    first: usize,
+    count: usize,
+    plugged: bool,
+) -> io::Result<()> {
     let mut map = five(value);
     if bytes < 6 {
         bitmap::set_range(&mut map[..bytes], first, count, plugged);
     }
-    show_five(map);
+    show_five(rt, map)
 }
 
 // The states of the counts 0 to 24, or the bytes after each is put.
-fn sweep(test: bool, value: u8, bytes: usize, first: usize, plugged: bool) {
-    let mut count: usize = 0;
-    while count < 25 {
+fn sweep(
+    rt: &impl Print,
+    test: bool,
+    value: u8,
+    bytes: usize,
+    first: usize,
+    plugged: bool,
+) -> io::Result<()> {
+    for count in 0..25 {
         if test {
-            test_five(value, bytes, first, count);
+            test_five(rt, value, bytes, first, count)?;
         } else {
-            put_five(value, bytes, first, count, plugged);
+            put_five(rt, value, bytes, first, count, plugged)?;
         }
-        count += 1;
     }
+    Ok(())
 }
 
-fn put_three(first: usize, count: usize, plugged: bool, bytes: [u8; 3]) {
+fn put_three(
+    rt: &impl Print,
+    first: usize,
+    count: usize,
+    plugged: bool,
+    bytes: [u8; 3],
+) -> io::Result<()> {
     let mut map = bytes;
     bitmap::set_range(&mut map, first, count, plugged);
-    show_three(map);
+    show_three(rt, map)
 }
 
 // What each reading function says of one range.
-fn read(first: usize, count: usize, bytes: [u8; 3]) {
+fn read(rt: &impl Print, first: usize, count: usize, bytes: [u8; 3]) -> io::Result<()> {
     if bitmap::is_set(&bytes, first) {
-        word(b" plugged ");
+        word(rt, b" plugged ")?;
     } else {
-        word(b" unplugged ");
+        word(rt, b" unplugged ")?;
     }
-    show_state(&bytes, first, count);
-    number(b" ", bitmap::count_set(&bytes, first, count) as u64);
+    show_state(rt, &bytes, first, count)?;
+    number(rt, b" ", bitmap::count_set(&bytes, first, count) as u64)
 }
 
 // Puts a range of the lent bytes, and tells how many blocks are plugged then, the lowest, and the lowest from another
 // on.
-fn put_lent(bitmap: &mut [u8], first: usize, count: usize, plugged: bool, from: usize) {
+fn put_lent(
+    rt: &impl Print,
+    bitmap: &mut [u8],
+    first: usize,
+    count: usize,
+    plugged: bool,
+    from: usize,
+) -> io::Result<()> {
     bitmap::set_range(bitmap, first, count, plugged);
     number(
+        rt,
         b" ",
         bitmap::count_set(bitmap, 0, 18446744073709551615) as u64,
-    );
-    show_found(bitmap::next_set(bitmap, 0, 18446744073709551615));
-    show_found(bitmap::next_set(bitmap, from, 18446744073709551615));
+    )?;
+    show_found(rt, bitmap::next_set(bitmap, 0, 18446744073709551615))?;
+    show_found(rt, bitmap::next_set(bitmap, from, 18446744073709551615))
 }
 
 // The commands that change nothing that is lent.
-fn ask(kind: u8, v: Numbers, bitmap: &[u8]) {
+fn ask(rt: &impl Print, kind: u8, v: Numbers, bitmap: &[u8]) -> io::Result<()> {
     match kind {
         b's' => put_three(
+            rt,
             wide(v.0),
             wide(v.1),
             v.2 == 1,
             [byte(v.3), byte(v.4), byte(v.5)],
         ),
-        b'r' => read(wide(v.0), wide(v.1), [byte(v.2), byte(v.3), byte(v.4)]),
+        b'r' => read(rt, wide(v.0), wide(v.1), [byte(v.2), byte(v.3), byte(v.4)]),
         b'n' => {
             let bytes = [byte(v.2), byte(v.3), byte(v.4)];
-            show_found(bitmap::next_set(&bytes, wide(v.0), wide(v.1)));
+            show_found(rt, bitmap::next_set(&bytes, wide(v.0), wide(v.1)))
         }
         b't' => {
-            word(b" ");
-            sweep(true, byte(v.0), small(v.1), wide(v.2), false);
+            word(rt, b" ")?;
+            sweep(rt, true, byte(v.0), small(v.1), wide(v.2), false)
         }
-        b'f' => sweep(false, byte(v.0), small(v.1), wide(v.2), v.3 == 1),
+        b'f' => sweep(rt, false, byte(v.0), small(v.1), wide(v.2), v.3 == 1),
         b'a' => {
-            word(b" ");
-            show_state(bitmap, wide(v.0), wide(v.1));
+            word(rt, b" ")?;
+            show_state(rt, bitmap, wide(v.0), wide(v.1))
         }
-        _ => word(b" no command"),
+        _ => word(rt, b" no command"),
     }
 }
 
-pub fn command(kind: u8, v: Numbers, name: &[u8], bitmap: &mut [u8]) -> bool {
-    word(name);
-    word(b":");
+pub fn command(
+    rt: &impl Print,
+    kind: u8,
+    v: Numbers,
+    name: &[u8],
+    bitmap: &mut [u8],
+) -> io::Result<bool> {
+    word(rt, name)?;
+    word(rt, b":")?;
     if kind == b'p' {
-        put_lent(bitmap, wide(v.0), wide(v.1), v.2 == 1, wide(v.3));
-        end();
-        return true;
+        put_lent(rt, bitmap, wide(v.0), wide(v.1), v.2 == 1, wide(v.3))?;
+        end(rt)?;
+        return Ok(true);
     }
-    ask(kind, v, &bitmap[..]);
-    end();
-    true
+    ask(rt, kind, v, &bitmap[..])?;
+    end(rt)?;
+    Ok(true)
 }

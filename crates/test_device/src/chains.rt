@@ -6,6 +6,7 @@ use chain::Parsed;
 use chain_reader::{parse_chain, second_link};
 use descriptors::{Link, Place};
 use little_endian::{write_u16, write_u32, write_u64};
+use std::io;
 use units::GuestAddr;
 use wire::VirtioMemResp;
 
@@ -29,8 +30,15 @@ fn lay_request(mem: &mut [u8], at: u16) {
 }
 
 // Parses, and writes the request or the reason.
-fn parse(name: &[u8], mem: &[u8], base: u64, table: u64, head: u64) {
-    word(name);
+fn parse(
+    rt: &impl Print,
+    name: &[u8],
+    mem: &[u8],
+    base: u64,
+    table: u64,
+    head: u64,
+) -> io::Result<()> {
+    word(rt, name)?;
     let parsed = chain::parse(
         mem,
         GuestAddr(base),
@@ -38,10 +46,10 @@ fn parse(name: &[u8], mem: &[u8], base: u64, table: u64, head: u64) {
         (head % 65536) as u16,
     );
     let Parsed::Request(req, status) = parsed else {
-        print(b": reason=#\n", &[parsed.reason()]);
-        return;
+        return print(rt, b": reason=#\n", &[parsed.reason()]);
     };
     print(
+        rt,
         b": type=# addr=# blocks=# status=#\n",
         &[
             req.req_type as u64,
@@ -49,52 +57,58 @@ fn parse(name: &[u8], mem: &[u8], base: u64, table: u64, head: u64) {
             req.nb_blocks as u64,
             status.0,
         ],
-    );
+    )
 }
 
 // Where `size` bytes lie in the memory.
-fn place(name: &[u8], mem: &[u8], base: u64, addr: u64, size: u64) {
-    word(name);
+fn place(
+    rt: &impl Print,
+    name: &[u8],
+    mem: &[u8],
+    base: u64,
+    addr: u64,
+    size: u64,
+) -> io::Result<()> {
+    word(rt, name)?;
     let Place::At(at) = descriptors::place_of(mem, GuestAddr(base), GuestAddr(addr), size) else {
-        word(b": outside\n");
-        return;
+        return word(rt, b": outside\n");
     };
-    print(b": at=#\n", &[at as u64]);
+    print(rt, b": at=#\n", &[at as u64])
 }
 
-fn show(bytes: &[u8]) {
-    for i in 0..bytes.len() {
-        number(b" ", wide(bytes[i]));
+fn show(rt: &impl Print, bytes: &[u8]) -> io::Result<()> {
+    for b in bytes {
+        number(rt, b" ", wide(*b))?;
     }
-    end();
+    end(rt)
 }
 
 // Delivers a response into 12 bytes of 7, and writes them all.
-fn deliver(name: &[u8], base: u64, status: u64) {
+fn deliver(rt: &impl Print, name: &[u8], base: u64, status: u64) -> io::Result<()> {
     let mut mem = [7u8; 12];
     let resp = VirtioMemResp {
         resp_type: 259,
         state: 513,
     };
-    word(name);
+    word(rt, name)?;
     if chain::deliver(&mut mem, GuestAddr(base), GuestAddr(status), resp) {
-        word(b": done");
+        word(rt, b": done")?;
     } else {
-        word(b": not inside");
+        word(rt, b": not inside")?;
     }
-    show(&mem);
+    show(rt, &mem)
 }
 
 // The request or the reason, and the second descriptor, by a reader that holds the memory, which is at 4096 with its
 // table.
-fn show_read(mem: &[u8], head: u16) {
-    number(b"head ", head as u64);
+fn show_read(rt: &impl Print, mem: &[u8], head: u16) -> io::Result<()> {
+    number(rt, b"head ", head as u64)?;
     let parsed = parse_chain(mem, GuestAddr(4096), GuestAddr(4096), head);
     let Parsed::Request(req, status) = parsed else {
-        number(b" reason ", parsed.reason());
-        return;
+        return number(rt, b" reason ", parsed.reason());
     };
     print(
+        rt,
         b" type # addr # blocks # status #",
         &[
             req.req_type as u64,
@@ -102,28 +116,33 @@ fn show_read(mem: &[u8], head: u16) {
             req.nb_blocks as u64,
             status.0,
         ],
-    );
+    )
 }
 
-fn read(mem: &[u8], head: u16) {
-    show_read(mem, head);
+fn read(rt: &impl Print, mem: &[u8], head: u16) -> io::Result<()> {
+    show_read(rt, mem, head)?;
     let Link::Is(second) = second_link(mem, GuestAddr(4096), GuestAddr(4096), head) else {
-        word(b", no second\n");
-        return;
+        return word(rt, b", no second\n");
     };
-    print(b", second at #\n", &[second.addr.0]);
+    print(rt, b", second at #\n", &[second.addr.0])
 }
 
-pub fn command(kind: u8, v: Numbers, name: &[u8], mem: &mut [u8]) -> bool {
+pub fn command(
+    rt: &impl Print,
+    kind: u8,
+    v: Numbers,
+    name: &[u8],
+    mem: &mut [u8],
+) -> io::Result<bool> {
     match kind {
         b'L' => lay(mem, (v.0 % 65536) as u16, v.1, v.2, v.3, v.4),
         b'R' => lay_request(mem, (v.0 % 65536) as u16),
         b'W' => write_u64(mem, small(v.0), v.1),
-        b'c' => parse(name, front(&mem[..], small(v.0)), v.1, v.2, v.3),
-        b'p' => place(name, front(&mem[..], small(v.0)), v.1, v.2, v.3),
-        b'd' => deliver(name, v.0, v.1),
-        b'r' => read(front(&mem[..], small(v.0)), (v.1 % 65536) as u16),
-        _ => return false,
+        b'c' => parse(rt, name, front(&mem[..], small(v.0)), v.1, v.2, v.3)?,
+        b'p' => place(rt, name, front(&mem[..], small(v.0)), v.1, v.2, v.3)?,
+        b'd' => deliver(rt, name, v.0, v.1)?,
+        b'r' => read(rt, front(&mem[..], small(v.0)), (v.1 % 65536) as u16)?,
+        _ => return Ok(false),
     }
-    true
+    Ok(true)
 }

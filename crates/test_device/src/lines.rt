@@ -51,7 +51,7 @@ pub fn byte_at(s: &[u8], i: usize) -> u8 {
 }
 
 // The numbers of a line, in their order.
-#[derive(Drop)]
+#[derive(Clone, Copy)]
 pub struct Numbers(
     pub u64,
     pub u64,
@@ -64,7 +64,7 @@ pub struct Numbers(
 );
 
 // The numbers of a line that have been read: the last is still open where the byte before was a digit of it.
-#[derive(Drop)]
+#[derive(Clone, Copy)]
 struct Reading {
     v: [u64; 8],
     at: usize,
@@ -127,10 +127,8 @@ pub fn numbers_of(line: &[u8]) -> Numbers {
         at: 0,
         open: false,
     };
-    let mut i = 0;
-    while i < line.len() {
-        r = read(r, line[i]);
-        i += 1;
+    for b in line {
+        r = read(r, *b);
     }
     let v = r.v;
     listed(v)

@@ -9,8 +9,12 @@
 // bitmaps.txt asks the bitmap; chains.txt the chain; changes.txt the range test, the plug and unplug decision and the
 // state; placings.txt making, placing and size changes; servings.txt requests, discards and the config; values.txt the
 // numbers, the record's shape and the usable size.
+#![tactic(auto)]
+
 use lines::Numbers;
 use scene::Scene;
+use std::rt::Files;
+use std::{fs, io};
 
 mod bitmaps; // bitmaps.txt
 mod chains; // chains.txt
@@ -24,6 +28,7 @@ mod values; // values.txt
 
 // A command that calls a part of the device with what is lent to it; `known` says whether it is one.
 fn call_lent(
+    rt: &impl Print,
     scene: Scene,
     file: u64,
     kind: u8,
@@ -32,26 +37,27 @@ fn call_lent(
     bitmap: &mut [u8],
     table: &mut [u64],
     slots: &[u32],
-) -> Scene {
+) -> io::Result<Scene> {
     if file == 1 {
-        let known = changes::command(kind, v, name, &bitmap[..], &table[..]);
-        return scene::after(scene, known);
+        let known = changes::command(rt, kind, v, name, bitmap, table)?;
+        return Ok(scene::after(scene, known));
     }
     if file == 4 {
-        let d = scene.device;
-        let known = values::command(d, kind, v, name, &table[..]);
-        return scene::after(scene, known);
+        let known = values::command(rt, scene.device, kind, v, name, table)?;
+        return Ok(scene::after(scene, known));
     }
     if file == 5 {
-        return scene::after(scene, bitmaps::command(kind, v, name, bitmap));
+        let known = bitmaps::command(rt, kind, v, name, bitmap)?;
+        return Ok(scene::after(scene, known));
     }
     if file == 2 {
-        return placings::command(scene, kind, v, bitmap, table, slots);
+        return placings::command(rt, scene, kind, v, bitmap, table, slots);
     }
-    servings::command(scene, kind, v, bitmap, table)
+    servings::command(rt, scene, kind, v, bitmap, table)
 }
 
 fn call(
+    rt: &impl Print,
     scene: Scene,
     file: u64,
     kind: u8,
@@ -62,10 +68,11 @@ fn call(
     table: &mut [u64],
     words: usize,
     slots: &[u32],
-) -> Scene {
+) -> io::Result<Scene> {
     if bytes <= bitmap.len() {
         if words <= table.len() {
             return call_lent(
+                rt,
                 scene,
                 file,
                 kind,
@@ -77,11 +84,12 @@ fn call(
             );
         }
     }
-    scene
+    Ok(scene)
 }
 
 // One command, by the file that it stands in.
 fn command(
+    rt: &impl Print,
     scene: Scene,
     file: u64,
     kind: u8,
@@ -91,14 +99,16 @@ fn command(
     table: &mut [u64],
     slots: &mut [u32],
     mem: &mut [u8],
-) -> Scene {
+) -> io::Result<Scene> {
     if file == 0 {
-        return scene::after(scene, chains::command(kind, v, name, mem));
+        let known = chains::command(rt, kind, v, name, mem)?;
+        return Ok(scene::after(scene, known));
     }
     if kind < b'a' {
-        return scene::command(scene, kind, v, bitmap, table, slots);
+        return Ok(scene::command(scene, kind, v, bitmap, table, slots));
     }
     call(
+        rt,
         scene,
         file,
         kind,
@@ -108,11 +118,12 @@ fn command(
         scene.bytes,
         table,
         scene.words,
-        &slots[..],
+        slots,
     )
 }
 
 fn run_line(
+    rt: &impl Print,
     scene: Scene,
     file: u64,
     line: &[u8],
@@ -120,67 +131,74 @@ fn run_line(
     table: &mut [u64],
     slots: &mut [u32],
     mem: &mut [u8],
-) -> Scene {
+) -> io::Result<Scene> {
     let colon = lines::find(line, 0, b':');
     let name = lines::front(line, colon);
     let text = lines::command_of(line, colon);
     let kind = lines::byte_at(text, 0);
     let v = lines::numbers_of(text);
-    let after = command(scene, file, kind, v, name, bitmap, table, slots, mem);
+    let after = command(rt, scene, file, kind, v, name, bitmap, table, slots, mem)?;
     if !after.known {
-        show::word(name);
-        show::end();
+        show::word(rt, name)?;
+        show::end(rt)?;
     }
-    after
+    Ok(after)
 }
 
 fn run_lines(
+    rt: &impl Print,
     text: &[u8],
     file: u64,
     bitmap: &mut [u8],
     table: &mut [u64],
     slots: &mut [u32],
     mem: &mut [u8],
-) {
+) -> io::Result<()> {
     let mut scene = scene::first();
     let mut at = 0;
     while at < text.len() {
         let end = lines::find(text, at, b'\n');
         if end < at {
-            return;
+            return Ok(());
         }
         if text.len() <= end {
-            return;
+            return Ok(());
         }
         let next = end + 1;
         let line = lines::rest_of(lines::front(text, end), at);
-        scene = run_line(scene, file, line, bitmap, table, slots, mem);
+        scene = run_line(rt, scene, file, line, bitmap, table, slots, mem)?;
         at = next;
     }
+    Ok(())
 }
 
 // A file of data/, on tables of its own.
-fn run_text(text: &[u8], file: u64) {
+fn run_text(rt: &impl Print, text: &[u8], file: u64) -> io::Result<()> {
     let mut bitmap = [0u8; 32768];
     let mut table = [0u64; 1536];
     let mut slots = [4294967295u32; 512];
     let mut mem = [0u8; 2082];
-    run_lines(text, file, &mut bitmap, &mut table, &mut slots, &mut mem);
+    run_lines(
+        rt,
+        text,
+        file,
+        &mut bitmap,
+        &mut table,
+        &mut slots,
+        &mut mem,
+    )
 }
 
-fn run_file(path: &[u8], file: u64) {
-    let mut text = [0u8; 32768];
-    let fd = os::open_read(path);
-    let n = io::read_full(fd, &mut text);
-    libc::close(fd);
-    run_text(&text[..n], file);
+fn run_file(rt: &(impl Files + Print + Alloc), name: &str, file: u64) -> io::Result<()> {
+    let text = fs::read(rt, name)?;
+    run_text(rt, text.as_slice(), file)
 }
 
-fn main() {
-    run_file(b"bitmaps.txt", 5);
-    run_file(b"chains.txt", 0);
-    run_file(b"changes.txt", 1);
-    run_file(b"placings.txt", 2);
-    run_file(b"servings.txt", 3);
-    run_file(b"values.txt", 4);
+fn main(rt: HostRuntime) -> io::Result<()> {
+    run_file(&rt, "bitmaps.txt", 5)?;
+    run_file(&rt, "chains.txt", 0)?;
+    run_file(&rt, "changes.txt", 1)?;
+    run_file(&rt, "placings.txt", 2)?;
+    run_file(&rt, "servings.txt", 3)?;
+    run_file(&rt, "values.txt", 4)
 }

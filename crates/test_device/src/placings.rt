@@ -7,70 +7,77 @@ use making::{Made, Mem};
 use placing::{place, set_requested_size};
 use record::{Device, HostCall};
 use serving::host_answer;
+use std::io;
 use step::{Answer, Answered};
 use units::{GuestAddr, HostAddr, Node};
 
-fn flag(holds: bool) {
+fn flag(rt: &impl Print, holds: bool) -> io::Result<()> {
     if holds {
-        word(b" yes");
+        word(rt, b" yes")
     } else {
-        word(b" no");
+        word(rt, b" no")
     }
 }
 
-fn show_call(call: HostCall) {
+fn show_call(rt: &impl Print, call: HostCall) -> io::Result<()> {
     match call {
         HostCall::Create { guest, size, slot } => {
-            print(b"create # # #", &[guest.0, size, slot]);
+            print(rt, b"create # # #", &[guest.0, size, slot])
         }
         HostCall::Discard {
             offset: _,
             size: _,
             host: _,
-        } => word(b"discard"),
+        } => word(rt, b"discard"),
     }
 }
 
-fn show_answer(answer: Answer) {
+fn show_answer(rt: &impl Print, answer: Answer) -> io::Result<()> {
     match answer {
-        Answer::Refused(n) => number(b"refused ", n),
-        Answer::Wants(call) => show_call(call),
-        Answer::Sized => word(b"sized"),
-        Answer::Unserved(_) => word(b"unserved"),
-        Answer::Served(_) => word(b"served"),
-        Answer::Done => word(b"done"),
+        Answer::Refused(n) => number(rt, b"refused ", n),
+        Answer::Wants(call) => show_call(rt, call),
+        Answer::Sized => word(rt, b"sized"),
+        Answer::Unserved(_) => word(rt, b"unserved"),
+        Answer::Served(_) => word(rt, b"served"),
+        Answer::Done => word(rt, b"done"),
     }
 }
 
 // The answer, then the requested and the usable size, the start, and whether the device is placed.
-fn show(s: Answered) -> Device {
+fn show(rt: &impl Print, s: Answered) -> io::Result<Device> {
     let answer = s.answer;
-    show_answer(answer);
+    show_answer(rt, answer)?;
     let c = s.device.config;
     print(
+        rt,
         b" # # #",
         &[c.requested_size, c.usable_region_size, c.addr.0],
-    );
-    flag(s.device.placed);
-    end();
-    s.device
+    )?;
+    flag(rt, s.device.placed)?;
+    end(rt)?;
+    Ok(s.device)
 }
 
-fn show_made(made: Made) {
-    word(b"new");
+fn show_made(rt: &impl Print, made: Made) -> io::Result<()> {
+    word(rt, b"new")?;
     match made {
         Made::Device(d) => {
             let c = d.config;
-            print(b" # # #", &[c.region_size, c.requested_size, d.alignment]);
-            flag(d.several);
-            print(b" # #", &[d.avail_features, c.node_id as u64]);
+            print(
+                rt,
+                b" # # #",
+                &[c.region_size, c.requested_size, d.alignment],
+            )?;
+            flag(rt, d.several)?;
+            print(rt, b" # #", &[d.avail_features, c.node_id as u64])?;
         }
-        Made::Refused(n) => number(b" refused ", n),
+        Made::Refused(n) => number(rt, b" refused ", n)?,
     }
-    end();
+    end(rt)
 }
 
 fn placed(
+    rt: &impl Print,
     scene: Scene,
     bitmap: &mut [u8],
     table: &mut [u64],
@@ -78,82 +85,111 @@ fn placed(
     size: u64,
     slots: &[u32],
     given: usize,
-) -> Scene {
+) -> io::Result<Scene> {
     if given <= slots.len() {
         let d = scene.device;
-        let now = show(place(d, bitmap, table, GuestAddr(start), size, &slots[..given]));
-        return with_device(scene, now);
+        let now = show(
+            rt,
+            place(d, bitmap, table, GuestAddr(start), size, &slots[..given]),
+        )?;
+        return Ok(with_device(scene, now));
     }
-    after(scene, false)
+    Ok(after(scene, false))
 }
 
-fn answered(scene: Scene, bitmap: &mut [u8], table: &mut [u64], ok: bool, host: u64) -> Scene {
+fn answered(
+    rt: &impl Print,
+    scene: Scene,
+    bitmap: &mut [u8],
+    table: &mut [u64],
+    ok: bool,
+    host: u64,
+) -> io::Result<Scene> {
     let d = scene.device;
     let mut mem = scene.mem;
-    let now = show(host_answer(
-        d,
-        bitmap,
-        table,
-        &mut mem,
-        GuestAddr(4096),
-        ok,
-        HostAddr(host),
-    ));
-    with_device(scene, now)
+    let now = show(
+        rt,
+        host_answer(
+            d,
+            bitmap,
+            table,
+            &mut mem,
+            GuestAddr(4096),
+            ok,
+            HostAddr(host),
+        ),
+    )?;
+    Ok(with_device(scene, now))
 }
 
-fn sized(scene: Scene, bitmap: &[u8], table: &[u64], mib: u64) -> Scene {
+fn sized(
+    rt: &impl Print,
+    scene: Scene,
+    bitmap: &[u8],
+    table: &[u64],
+    mib: u64,
+) -> io::Result<Scene> {
     let d = scene.device;
-    let now = show(set_requested_size(d, bitmap, table, mib));
-    with_device(scene, now)
+    let now = show(rt, set_requested_size(d, bitmap, table, mib))?;
+    Ok(with_device(scene, now))
 }
 
-fn show_row(table: &[u64], row: u64) {
+fn show_row(rt: &impl Print, table: &[u64], row: u64) -> io::Result<()> {
     let at = (row % 65536) as usize * 3;
     if at + 2 < table.len() {
-        print(b"row # # #\n", &[table[at], table[at + 1], table[at + 2]]);
+        return print(
+            rt,
+            b"row # # #\n",
+            &[table[at], table[at + 1], table[at + 2]],
+        );
     }
+    Ok(())
 }
 
-fn show_byte(bitmap: &[u8], at: usize) {
+fn show_byte(rt: &impl Print, bitmap: &[u8], at: usize) -> io::Result<()> {
     if at < bitmap.len() {
-        number(b"byte ", wide(bitmap[at]));
-        end();
+        number(rt, b"byte ", wide(bitmap[at]))?;
+        end(rt)?;
     }
+    Ok(())
 }
 
-fn new(v: Numbers) {
+fn new(rt: &impl Print, v: Numbers) -> io::Result<()> {
     if v.3 == 1 {
         let node = Node::Number((v.4 % 65536) as u16);
-        show_made(Mem::new(v.0, v.1, v.2 == 1, node, v.5));
+        show_made(rt, Mem::new(v.0, v.1, v.2 == 1, node, v.5))
     } else {
-        show_made(Mem::new(v.0, v.1, v.2 == 1, Node::None, v.5));
+        show_made(rt, Mem::new(v.0, v.1, v.2 == 1, Node::None, v.5))
     }
 }
 
 // The commands that show what is there, and what is made.
-fn shown(kind: u8, v: Numbers, bitmap: &[u8], table: &[u64]) -> bool {
+fn shown(rt: &impl Print, kind: u8, v: Numbers, bitmap: &[u8], table: &[u64]) -> io::Result<bool> {
     match kind {
-        b'n' => new(v),
-        b'r' => show_row(table, v.0),
-        b'b' => show_byte(bitmap, small(v.0)),
-        _ => return false,
+        b'n' => new(rt, v)?,
+        b'r' => show_row(rt, table, v.0)?,
+        b'b' => show_byte(rt, bitmap, small(v.0))?,
+        _ => return Ok(false),
     }
-    true
+    Ok(true)
 }
 
 pub fn command(
+    rt: &impl Print,
     scene: Scene,
     kind: u8,
     v: Numbers,
     bitmap: &mut [u8],
     table: &mut [u64],
     slots: &[u32],
-) -> Scene {
+) -> io::Result<Scene> {
     match kind {
-        b'p' => placed(scene, bitmap, table, v.0, v.1, slots, small(v.2)),
-        b'c' => answered(scene, bitmap, table, v.0 == 1, v.1),
-        b's' => sized(scene, &bitmap[..], &table[..], v.0),
-        _ => after(scene, shown(kind, v, &bitmap[..], &table[..])),
+        b'p' => placed(rt, scene, bitmap, table, v.0, v.1, slots, small(v.2)),
+        b'c' => answered(rt, scene, bitmap, table, v.0 == 1, v.1),
+        b's' => sized(rt, scene, &bitmap[..], &table[..], v.0),
+        _ => {
+            let known = shown(rt, kind, v, bitmap, table)?;
+            Ok(after(scene, known))
+        }
     }
 }

@@ -8,7 +8,7 @@ use units::{GuestAddr, Node};
 use wire::VirtioMemConfig;
 
 // `known` says whether the last line was a command.
-#[derive(Drop)]
+#[derive(Clone, Copy)]
 pub struct Scene {
     pub device: Device,
     pub bytes: usize,

@@ -5,6 +5,7 @@ use super::lines::Numbers;
 use super::show::{end, number, print, word};
 use record::Device;
 use resize::{Growth, grown_size, growth_of, new_size};
+use std::io;
 use units::{GuestAddr, HostAddr, MemTool, RegionOffset};
 
 fn of_addresses(kind: u8, v: Numbers) -> u64 {
@@ -33,28 +34,33 @@ fn of_numbers(kind: u8, v: Numbers) -> u64 {
     }
 }
 
-fn show_growth(growth: Growth) {
+fn show_growth(rt: &impl Print, growth: Growth) -> io::Result<()> {
     match growth {
-        Growth::Asks(i, last, bytes) => {
-            print(b" # # #", &[i, last, bytes]);
-        }
-        Growth::Settled => word(b" settled"),
+        Growth::Asks(i, last, bytes) => { print(rt, b" # # #", &[i, last, bytes]) }
+        Growth::Settled => word(rt, b" settled"),
     }
 }
 
 // A line without a name goes on with the next.
-pub fn command(d: Device, kind: u8, v: Numbers, name: &[u8], table: &[u64]) -> bool {
-    word(name);
+pub fn command(
+    rt: &impl Print,
+    d: Device,
+    kind: u8,
+    v: Numbers,
+    name: &[u8],
+    table: &[u64],
+) -> io::Result<bool> {
+    word(rt, name)?;
     let pending = d.pending;
     match kind {
-        b'w' => show_growth(growth_of(v.0, v.1 == 1, v.2, v.3, table)),
-        b'd' => number(b" ", record::shaped(d) as u64),
-        b'e' => number(b" ", record::is_idle(pending) as u64),
-        b'f' => number(b" ", record::features(v.0 == 1)),
-        _ => number(b" ", of_numbers(kind, v)),
+        b'w' => show_growth(rt, growth_of(v.0, v.1 == 1, v.2, v.3, table))?,
+        b'd' => number(rt, b" ", record::shaped(d) as u64)?,
+        b'e' => number(rt, b" ", record::is_idle(pending) as u64)?,
+        b'f' => number(rt, b" ", record::features(v.0 == 1))?,
+        _ => number(rt, b" ", of_numbers(kind, v))?,
     }
     if 0 < name.len() {
-        end();
+        end(rt)?;
     }
-    true
+    Ok(true)
 }

@@ -2,12 +2,14 @@
 // The guest's side and its planner, as a table. Each row of data/driver.txt is a call and, behind an arrow, the answer
 // that the rules (R14) give. A row that gets another answer is printed with it, and so is a row that is no call,
 // which gets none. What the rows are, and their columns, the file says in its lines that begin with #.
+#![tactic(auto)]
+
 use bitmap::{count_set, set_range};
 use driver::{GotConfig, GotResponse, Proposal};
 use forms::{put_form, scan};
-use libc::STDOUT_FILENO;
 use little_endian::from;
 use std::num::{wrapping_add_u64, wrapping_add_usize, wrapping_sub_usize};
+use std::{fs, io};
 use trace_run::first_bytes;
 use units::{GuestAddr, MemTool};
 use wire::{VirtioMemConfig, VirtioMemReq};
@@ -16,7 +18,7 @@ use wire::{VirtioMemConfig, VirtioMemReq};
 type Row = [u64; 59];
 
 // How many lines there were, how many rows, and how many of these differ.
-#[derive(Drop)]
+#[derive(Clone, Copy)]
 struct Count {
     lines: u64,
     rows: u64,
@@ -24,19 +26,10 @@ struct Count {
 }
 
 // A config and, where nothing could be plugged, the refusal.
-#[derive(Drop)]
+#[derive(Clone, Copy)]
 struct Turn {
     config: VirtioMemConfig,
     refusal: u64,
-}
-
-fn word(word: &[u8]) {
-    io::write_all(STDOUT_FILENO, word);
-}
-
-fn number(name: &[u8], n: u64) {
-    word(name);
-    io::print_decimal(STDOUT_FILENO, n);
 }
 
 fn byte_at(s: &[u8], i: usize) -> u8 {
@@ -261,43 +254,45 @@ fn answer(out: &mut [u8], command: &[u8]) -> usize {
     }
 }
 
+// A row that has not what came of it.
+fn show_row(rt: &impl Print, line: u64, row: &[u8], given: &[u8]) -> io::Result<()> {
+    print!(rt; "line {line}: ")?;
+    rt.write_all(row)?;
+    rt.write_all(b"\n  but got ")?;
+    rt.write_all(given)?;
+    rt.write_all(b"\n")
+}
+
 // 1, with the row, where its answer is another.
-fn differs(row: &[u8], line: u64) -> u64 {
+fn differs(rt: &impl Print, row: &[u8], line: u64) -> io::Result<u64> {
     let mut out = [0u8; 256];
     let arrow = find(row, b'>');
     let known = from(row, wrapping_add_usize(arrow, 2));
     let count = answer(&mut out, first_bytes(row, wrapping_sub_usize(arrow, 2)));
     let given = first_bytes(&out, count);
-    if (0 < count) & check::same(known, given) {
-        return 0;
+    if (0 < count) & (known == given) {
+        return Ok(0);
     }
-    number(b"line ", line);
-    word(b": ");
-    word(row);
-    word(b"\n  but got ");
-    word(given);
-    word(b"\n");
-    1
+    show_row(rt, line, row, given)?;
+    Ok(1)
 }
 
 // A line that is empty or begins with # is no row.
-fn run_line(count: Count, line: &[u8]) -> Count {
+fn run_line(rt: &impl Print, count: Count, line: &[u8]) -> io::Result<Count> {
     let lines = wrapping_add_u64(count.lines, 1);
     let first = byte_at(line, 0);
     if (first == 0) | (first == b'#') {
-        return Count {
-            lines: lines,
-            ..count
-        };
+        return Ok(Count { lines, ..count });
     }
-    Count {
-        lines: lines,
+    let wrong = differs(rt, line, lines)?;
+    Ok(Count {
+        lines,
         rows: wrapping_add_u64(count.rows, 1),
-        differing: wrapping_add_u64(count.differing, differs(line, lines)),
-    }
+        differing: wrapping_add_u64(count.differing, wrong),
+    })
 }
 
-fn run(text: &[u8]) -> Count {
+fn run(rt: &impl Print, text: &[u8]) -> io::Result<Count> {
     let mut count = Count {
         lines: 0,
         rows: 0,
@@ -307,21 +302,16 @@ fn run(text: &[u8]) -> Count {
     let mut i = 0;
     while i < text.len() {
         if text[i] == b'\n' {
-            count = run_line(count, &text[start..i]);
+            count = run_line(rt, count, &text[start..i])?;
             start = i + 1;
         }
         i += 1;
     }
-    count
+    Ok(count)
 }
 
-fn main() {
-    let mut text = [0u8; 65536];
-    let fd = os::open_read(b"driver.txt");
-    let n = io::read_full(fd, &mut text);
-    libc::close(fd);
-    let count = run(&text[..n]);
-    number(b"", count.rows);
-    number(b" rows, ", count.differing);
-    word(b" differ\n");
+fn main(rt: HostRuntime) -> io::Result<()> {
+    let text = fs::read(&rt, "driver.txt")?;
+    let count = run(&rt, text.as_slice())?;
+    println!(rt; "{} rows, {} differ", count.rows, count.differing)
 }

@@ -10,7 +10,7 @@ fn slot(n: u64) -> u32 {
 }
 
 // A number, where there is one.
-#[derive(Drop)]
+#[derive(Clone, Copy)]
 struct Found {
     is_some: bool,
     n: u64,

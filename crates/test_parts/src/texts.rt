@@ -51,7 +51,7 @@ fn put_first(out: &mut [u8], f: FirstLine) -> usize {
 }
 
 // A later line: the letter of its kind, and its numbers.
-#[derive(Drop)]
+#[derive(Clone, Copy)]
 struct Later(u8, u64, u64);
 
 fn later_of(op: Op) -> Later {

@@ -13,7 +13,7 @@ use step::{Answer, Reply};
 use units::{GuestAddr, HostAddr};
 use words::Decoded;
 
-#[derive(Drop)]
+#[derive(Clone, Copy)]
 pub enum Call {
     Serve,
     Host(bool, u64),

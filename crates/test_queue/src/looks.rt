@@ -16,7 +16,7 @@ pub fn used_element(bytes: &mut [u8], shift: u64, used: u64, entry: u64) -> u64 
 }
 
 // A response: its type and the six bytes behind it, and its state.
-#[derive(Drop)]
+#[derive(Clone, Copy)]
 pub struct Response(pub u64, pub u64);
 
 pub fn response_at(bytes: &mut [u8], shift: u64, addr: u64) -> Response {

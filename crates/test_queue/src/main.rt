@@ -9,12 +9,14 @@
 // what a call left. A call that is refused, or finds no head, is to change nothing of the record, the queue, the
 // blocks, the map table's row and the memory, or its answer is `changed`. What any other call writes into the memory
 // has to be looked at before the next: a byte that no row looked at is printed too.
+#![tactic(auto)]
+
 use calls::Call;
 use little_endian::from;
 use memory::first_unseen;
 use scene::{Numbers, Scene, TOLD};
-use show::{number, word};
 use std::num::{wrapping_add_u64, wrapping_add_usize, wrapping_sub_usize};
+use std::{fs, io};
 use trace_run::first_bytes;
 
 mod calls; // the calls
@@ -27,7 +29,7 @@ mod scene; // what the calls stand on
 mod show; // what is printed
 
 // The scene, where a line starts, its number, how many rows have had an answer and how many differ.
-#[derive(Drop)]
+#[derive(Clone, Copy)]
 struct State {
     scene: Scene,
     start: usize,
@@ -37,7 +39,7 @@ struct State {
 }
 
 // A row's command with its numbers.
-#[derive(Drop)]
+#[derive(Clone, Copy)]
 enum Row {
     Is(Numbers),
     NoCommand,
@@ -117,38 +119,33 @@ fn command_of(row: &[u8], letter: u8, arrow: usize) -> &[u8] {
 }
 
 // 1, with the first eight bytes, where a call wrote what no row has looked at, and the next row is no look.
-fn unseen(line: u64, letter: u8, bytes: &[u8]) -> u64 {
+fn unseen(rt: &impl Print, line: u64, letter: u8, bytes: &[u8]) -> io::Result<u64> {
     let at = first_unseen(bytes);
     if is_look(letter) | (4096 <= at) {
-        return 0;
+        return Ok(0);
     }
-    number(b"before line ", line);
-    number(b" no row looked at the bytes from ", at as u64);
-    word(b"\n");
-    1
-}
-
-// A row that has not what came of it.
-fn show_row(n: u64, row: &[u8], given: &[u8]) {
-    number(b"line ", n);
-    word(b": ");
-    word(row);
-    word(b"\n  but got ");
-    word(given);
-    word(b"\n");
+    println!(rt; "before line {line} no row looked at the bytes from {at}")?;
+    Ok(1)
 }
 
 // 1, with the row, where its answer is not what was told.
-fn differs(s: Scene, text: &[u8], n: u64, row: &[u8], known: &[u8]) -> u64 {
+fn differs(
+    rt: &impl Print,
+    s: Scene,
+    text: &[u8],
+    n: u64,
+    row: &[u8],
+    known: &[u8],
+) -> io::Result<u64> {
     let mut out = [0u8; 256];
     let form = form_of(text, (s[TOLD] % 256) as u8);
     let count = show::put_told(&mut out, form, s);
     let given = first_bytes(&out, count);
-    if check::same(known, given) {
-        return 0;
+    if known == given {
+        return Ok(0);
     }
-    show_row(n, row, given);
-    1
+    show::row(rt, n, row, given)?;
+    Ok(1)
 }
 
 fn counted(state: State, scene: Scene, answers: u64, wrong: u64) -> State {
@@ -161,28 +158,40 @@ fn counted(state: State, scene: Scene, answers: u64, wrong: u64) -> State {
     }
 }
 
-fn run_row(state: State, text: &[u8], row: &[u8], bytes: &mut [u8]) -> State {
+fn run_row(
+    rt: &impl Print,
+    state: State,
+    text: &[u8],
+    row: &[u8],
+    bytes: &mut [u8],
+) -> io::Result<State> {
     let scene = state.scene;
     let letter = byte_at(row, 0);
     let arrow = find(row, b'>');
-    let missed = unseen(state.line, letter, &bytes[..]);
+    let missed = unseen(rt, state.line, letter, bytes)?;
     let Row::Is(v) = read(command_of(row, letter, arrow), form_of(text, letter)) else {
-        show_row(state.line, row, b"no command");
-        return counted(state, scene, 0, 1);
+        show::row(rt, state.line, row, b"no command")?;
+        return Ok(counted(state, scene, 0, 1));
     };
     let next = command(scene, letter, v, bytes);
     if letter < b'a' {
-        return counted(state, next, 0, missed);
+        return Ok(counted(state, next, 0, missed));
     }
     let known = from(row, wrapping_add_usize(arrow, 2));
-    let wrong = differs(next, text, state.line, row, known);
-    counted(state, next, 1, wrapping_add_u64(missed, wrong))
+    let wrong = differs(rt, next, text, state.line, row, known)?;
+    Ok(counted(state, next, 1, wrapping_add_u64(missed, wrong)))
 }
 
 // The line that ends here, if one does.
-fn run_line(state: State, text: &[u8], end: usize, bytes: &mut [u8]) -> State {
+fn run_line(
+    rt: &impl Print,
+    state: State,
+    text: &[u8],
+    end: usize,
+    bytes: &mut [u8],
+) -> io::Result<State> {
     if byte_at(text, end) != b'\n' {
-        return state;
+        return Ok(state);
     }
     let line = from(first_bytes(text, end), state.start);
     let next = State {
@@ -191,12 +200,12 @@ fn run_line(state: State, text: &[u8], end: usize, bytes: &mut [u8]) -> State {
         ..state
     };
     if (byte_at(line, 1) == b' ') | (find(line, b':') < line.len()) {
-        return next;
+        return Ok(next);
     }
-    run_row(next, text, line, bytes)
+    run_row(rt, next, text, line, bytes)
 }
 
-fn run_lines(text: &[u8], bytes: &mut [u8]) -> State {
+fn run_lines(rt: &impl Print, text: &[u8], bytes: &mut [u8]) -> io::Result<State> {
     let scene = scene::fresh();
     let mut state = State {
         scene: scene,
@@ -209,20 +218,16 @@ fn run_lines(text: &[u8], bytes: &mut [u8]) -> State {
     while next < text.len() {
         let end = next;
         next += 1;
-        state = run_line(state, text, end, bytes);
+        state = run_line(rt, state, text, end, bytes)?;
     }
-    state
+    Ok(state)
 }
 
-fn main() {
-    let mut text = [0u8; 65536];
+fn main(rt: HostRuntime) -> io::Result<()> {
     let mut bytes = [0u8; 8192];
-    let fd = os::open_read(b"queue.txt");
-    let n = io::read_full(fd, &mut text);
-    libc::close(fd);
-    let last = run_lines(&text[..n], &mut bytes);
-    let missed = unseen(last.line, b'F', &bytes);
-    number(b"", last.rows);
-    number(b" rows, ", wrapping_add_u64(last.differing, missed));
-    word(b" differ\n");
+    let text = fs::read(&rt, "queue.txt")?;
+    let last = run_lines(&rt, text.as_slice(), &mut bytes)?;
+    let missed = unseen(&rt, last.line, b'F', &bytes)?;
+    let wrong = wrapping_add_u64(last.differing, missed);
+    println!(rt; "{} rows, {wrong} differ", last.rows)
 }

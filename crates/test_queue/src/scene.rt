@@ -140,7 +140,7 @@ pub fn fresh() -> Scene {
 }
 
 // The numbers of a row, in their order, and 0 where there are no more.
-#[derive(Drop)]
+#[derive(Clone, Copy)]
 pub struct Numbers(pub u64, pub u64, pub u64, pub u64, pub u64, pub u64);
 
 // The scene with what a command told.

@@ -3,15 +3,15 @@
 use super::scene::{
     BLOCKS, FIRST, NEXT_AVAILABLE, NEXT_USED, PLUGGED, SECOND, Scene, TAKEN, THIRD, TOLD, UNSERVED,
 };
-use libc::STDOUT_FILENO;
+use std::io;
 
-pub fn word(word: &[u8]) {
-    io::write_all(STDOUT_FILENO, word);
-}
-
-pub fn number(name: &[u8], n: u64) {
-    word(name);
-    io::print_decimal(STDOUT_FILENO, n);
+// A row that has not what came of it.
+pub fn row(rt: &impl Print, n: u64, row: &[u8], given: &[u8]) -> io::Result<()> {
+    print!(rt; "line {n}: ")?;
+    rt.write_all(row)?;
+    rt.write_all(b"\n  but got ")?;
+    rt.write_all(given)?;
+    rt.write_all(b"\n")
 }
 
 // The numbers of what was told and, of a call, how it left the queue and the blocks: an unserved chain has one, all

@@ -13,14 +13,14 @@ use units::GuestAddr;
 use wire::VirtioMemConfig;
 
 // A device, and how many bytes of its bitmap are lent.
-#[derive(Drop)]
+#[derive(Clone, Copy)]
 pub struct Scene {
     pub device: Device,
     pub bytes: usize,
 }
 
 // A scene, and how long the answer is.
-#[derive(Drop)]
+#[derive(Clone, Copy)]
 pub struct Told {
     pub scene: Scene,
     pub length: usize,

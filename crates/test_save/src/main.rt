@@ -2,12 +2,14 @@
 // Save records, as a table. Each row of data/save.txt is a call and, behind an arrow, the answer that the rules (R15)
 // give, worked out by hand. A row that gets another answer is printed with it, and so is a row that is no call, which
 // gets none. What the rows are, and their columns, the file says in its lines that begin with #.
+#![tactic(auto)]
+
 use devices::{Scene, Told};
 use forms::{Place, scan_at};
-use libc::STDOUT_FILENO;
 use little_endian::{copy, from};
 use parts::{Row, UNTOUCHED, byte_at, find};
 use std::num::{wrapping_add_u64, wrapping_add_usize, wrapping_sub_usize};
+use std::{fs, io};
 use texts::ONES;
 use trace_run::first_bytes;
 
@@ -17,22 +19,13 @@ mod texts; // texts and old bytes
 
 // The device that rows stand on, where a line starts, its number, how many rows there were, and how many of these
 // differ.
-#[derive(Drop)]
+#[derive(Clone, Copy)]
 struct State {
     scene: Scene,
     start: usize,
     lines: u64,
     rows: u64,
     differing: u64,
-}
-
-fn word(word: &[u8]) {
-    io::write_all(STDOUT_FILENO, word);
-}
-
-fn number(name: &[u8], n: u64) {
-    word(name);
-    io::print_decimal(STDOUT_FILENO, n);
 }
 
 // The form that stands behind a key, or nothing.
@@ -94,21 +87,31 @@ fn make(out: &mut [u8], scene: Scene, form: &[u8], call: &[u8], bitmap: &mut [u8
     Told { scene, length }
 }
 
-// 1, with the row, where its answer is another.
-fn differs(row: &[u8], line: u64, known: &[u8], given: &[u8]) -> u64 {
-    if (0 < given.len()) & check::same(known, given) {
-        return 0;
-    }
-    number(b"line ", line);
-    word(b": ");
-    word(row);
-    word(b"\n  but got ");
-    word(given);
-    word(b"\n");
-    1
+// A row that has not what came of it.
+fn show_row(rt: &impl Print, line: u64, row: &[u8], given: &[u8]) -> io::Result<()> {
+    print!(rt; "line {line}: ")?;
+    rt.write_all(row)?;
+    rt.write_all(b"\n  but got ")?;
+    rt.write_all(given)?;
+    rt.write_all(b"\n")
 }
 
-fn run_row(state: State, text: &[u8], row: &[u8], bitmap: &mut [u8]) -> State {
+// 1, with the row, where its answer is another.
+fn differs(rt: &impl Print, row: &[u8], line: u64, known: &[u8], given: &[u8]) -> io::Result<u64> {
+    if (0 < given.len()) & (known == given) {
+        return Ok(0);
+    }
+    show_row(rt, line, row, given)?;
+    Ok(1)
+}
+
+fn run_row(
+    rt: &impl Print,
+    state: State,
+    text: &[u8],
+    row: &[u8],
+    bitmap: &mut [u8],
+) -> io::Result<State> {
     let mut out = [0u8; 512];
     let scene = state.scene;
     let arrow = find(row, b'>');
@@ -120,22 +123,26 @@ fn run_row(state: State, text: &[u8], row: &[u8], bitmap: &mut [u8]) -> State {
         call,
         bitmap,
     );
-    let now = t.scene;
     let known = from(row, wrapping_add_usize(arrow, 2));
-    let wrong = differs(row, state.lines, known, first_bytes(&out, t.length));
-    State {
-        scene: now,
-        start: state.start,
-        lines: state.lines,
+    let wrong = differs(rt, row, state.lines, known, first_bytes(&out, t.length))?;
+    Ok(State {
+        scene: t.scene,
         rows: wrapping_add_u64(state.rows, 1),
         differing: wrapping_add_u64(state.differing, wrong),
-    }
+        ..state
+    })
 }
 
 // The line that ends here, if one does. One that is empty, begins with # or is a form is no row.
-fn run_line(state: State, text: &[u8], end: usize, bitmap: &mut [u8]) -> State {
+fn run_line(
+    rt: &impl Print,
+    state: State,
+    text: &[u8],
+    end: usize,
+    bitmap: &mut [u8],
+) -> io::Result<State> {
     if byte_at(text, end) != b'\n' {
-        return state;
+        return Ok(state);
     }
     let line = from(first_bytes(text, end), state.start);
     let next = State {
@@ -145,12 +152,12 @@ fn run_line(state: State, text: &[u8], end: usize, bitmap: &mut [u8]) -> State {
     };
     let first = byte_at(line, 0);
     if (first == 0) | (first == b'#') | (byte_at(line, 1) == b' ') {
-        return next;
+        return Ok(next);
     }
-    run_row(next, text, line, bitmap)
+    run_row(rt, next, text, line, bitmap)
 }
 
-fn run(text: &[u8], bitmap: &mut [u8]) -> State {
+fn run(rt: &impl Print, text: &[u8], bitmap: &mut [u8]) -> io::Result<State> {
     let scene = devices::scene_of([0u64; 17]);
     let mut state = State {
         scene: scene,
@@ -163,28 +170,14 @@ fn run(text: &[u8], bitmap: &mut [u8]) -> State {
     while next < text.len() {
         let end = next;
         next += 1;
-        state = run_line(state, text, end, bitmap);
+        state = run_line(rt, state, text, end, bitmap)?;
     }
-    state
+    Ok(state)
 }
 
-fn read_and_run(text: &mut [u8], bitmap: &mut [u8]) -> State {
-    let fd = os::open_read(b"save.txt");
-    let n = io::read_full(fd, text);
-    libc::close(fd);
-    run(first_bytes(&text[..], n), bitmap)
-}
-
-// The lengths of these arrays are known by their types, at no cost.
-fn lend(text: &mut [u8; 131072], bitmap: &mut [u8; 32776]) -> State {
-    read_and_run(text, bitmap)
-}
-
-fn main() {
-    let mut text = [0u8; 131072];
+fn main(rt: HostRuntime) -> io::Result<()> {
     let mut bitmap = [0u8; 32776];
-    let last = lend(&mut text, &mut bitmap);
-    number(b"", last.rows);
-    number(b" rows, ", last.differing);
-    word(b" differ\n");
+    let text = fs::read(&rt, "save.txt")?;
+    let last = run(&rt, text.as_slice(), &mut bitmap)?;
+    println!(rt; "{} rows, {} differ", last.rows, last.differing)
 }

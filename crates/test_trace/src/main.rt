@@ -9,12 +9,16 @@
 // in a guest of QEMU, and the fields of QEMU's answers that may be compared. edges.txt has the edges of a line's form:
 // its answers were read against the rules (R12). why.txt has each reason of an ERROR at its edge and next to it, and
 // two at once: the earlier is told (request 8/12).
-use libc::STDOUT_FILENO;
+#![tactic(auto)]
+
+use std::num::wrapping_add_u64;
+use std::rt::Files;
+use std::{fs, io};
 use trace_run::{Run, first_bytes, serve};
 
 // Where the lines of a block stand: the run, the bytes of a line, the bytes of the answers, and whether `--` has been
 // read.
-#[derive(Drop)]
+#[derive(Clone, Copy)]
 struct State {
     run: Run,
     filled: usize,
@@ -23,7 +27,7 @@ struct State {
 }
 
 // The block's lines have been run: where its answers start, and how many bytes the run answered.
-#[derive(Drop)]
+#[derive(Clone, Copy)]
 struct Ran {
     next: usize,
     answered: usize,
@@ -31,7 +35,7 @@ struct Ran {
 
 // Where the comparison stands: where the known line and the run's line start, at which byte of the run's it is, whether
 // the known line has a byte yet, whether the lines are the same so far, and whether all before them were.
-#[derive(Drop)]
+#[derive(Clone, Copy)]
 struct Cursor {
     known: usize,
     given: usize,
@@ -43,7 +47,7 @@ struct Cursor {
 }
 
 // The block is compared: where the next one starts.
-#[derive(Drop)]
+#[derive(Clone, Copy)]
 struct Compared {
     next: usize,
     same: bool,
@@ -191,61 +195,73 @@ fn after(answers: &[u8], i: usize) -> usize {
     i
 }
 
-fn show_part(what: &[u8], s: &[u8], from: usize, to: usize) {
-    io::write_all(STDOUT_FILENO, what);
-    if from <= to {
-        let line = first_bytes(s, to);
-        if from < line.len() {
-            io::write_all(STDOUT_FILENO, &line[from..]);
-        }
+fn show_part(rt: &impl Print, what: &[u8], s: &[u8], from: usize, to: usize) -> io::Result<()> {
+    rt.write_all(what)?;
+    let line = first_bytes(s, to);
+    if from < line.len() {
+        rt.write_all(&line[from..])?;
     }
+    Ok(())
 }
 
 // A known line ends before `next`. One that differs is shown, and what the run gave for it.
-fn end_known(c: Cursor, text: &[u8], next: usize, answers: &[u8]) -> Cursor {
+fn end_known(
+    rt: &impl Print,
+    c: Cursor,
+    text: &[u8],
+    next: usize,
+    answers: &[u8],
+) -> io::Result<Cursor> {
     if c.fresh {
-        return Cursor { done: true, ..c };
+        return Ok(Cursor { done: true, ..c });
     }
     let end = end_of(answers, c.given, b'\n');
     let given = after(answers, end);
     let same = c.same & (c.at == end);
     if !same {
-        show_part(b"\n  known ", text, c.known, next);
-        show_part(b"  given ", answers, c.given, given);
+        show_part(rt, b"\n  known ", text, c.known, next)?;
+        show_part(rt, b"  given ", answers, c.given, given)?;
     }
-    Cursor {
+    Ok(Cursor {
         known: next,
-        given: given,
+        given,
         at: given,
         fresh: true,
         same: true,
         all: c.all & same,
         done: false,
-    }
+    })
 }
 
 // One byte of the known answers, before `next`. An empty line ends them.
-fn compare_byte(c: Cursor, text: &[u8], next: usize, b: u8, answers: &[u8]) -> Cursor {
+fn compare_byte(
+    rt: &impl Print,
+    c: Cursor,
+    text: &[u8],
+    next: usize,
+    b: u8,
+    answers: &[u8],
+) -> io::Result<Cursor> {
     if b == b'\n' {
-        return end_known(c, text, next, answers);
+        return end_known(rt, c, text, next, answers);
     }
     if b == b'*' {
-        return Cursor {
+        return Ok(Cursor {
             at: end_of(answers, c.at, b' '),
             fresh: false,
             ..c
-        };
+        });
     }
     let is_same = c.same & (byte_at(answers, c.at) == b);
-    Cursor {
+    Ok(Cursor {
         at: after(answers, c.at),
         fresh: false,
         same: is_same,
         ..c
-    }
+    })
 }
 
-fn compare(text: &[u8], from: usize, answers: &[u8]) -> Compared {
+fn compare(rt: &impl Print, text: &[u8], from: usize, answers: &[u8]) -> io::Result<Compared> {
     let mut c = Cursor {
         known: from,
         given: 0,
@@ -259,22 +275,22 @@ fn compare(text: &[u8], from: usize, answers: &[u8]) -> Compared {
     while i < text.len() {
         let b = text[i];
         i += 1;
-        c = compare_byte(c, text, i, b, answers);
+        c = compare_byte(rt, c, text, i, b, answers)?;
         if c.done {
-            return Compared {
+            return Ok(Compared {
                 next: i,
                 same: c.all & (c.at == answers.len()),
-            };
+            });
         }
     }
-    Compared {
+    Ok(Compared {
         next: i,
         same: false,
-    }
+    })
 }
 
 // Runs the block that starts here on a new device, with tables of its own.
-fn run_block(text: &[u8], from: usize) -> Compared {
+fn run_block(rt: &impl Print, text: &[u8], from: usize) -> io::Result<Compared> {
     let mut bitmap = [0; 32768];
     let mut table = [0u64; 1536];
     let mut mem = [0u8; 128];
@@ -289,55 +305,45 @@ fn run_block(text: &[u8], from: usize) -> Compared {
         &mut line,
         &mut answers,
     );
-    compare(text, ran.next, first_bytes(&answers, ran.answered))
-}
-
-fn show(number: u64, words: &[u8]) {
-    io::print_decimal(STDOUT_FILENO, number);
-    io::write_all(STDOUT_FILENO, words);
+    compare(rt, text, ran.next, first_bytes(&answers, ran.answered))
 }
 
 // Shows a trace that differs, by its number from 1 on, and counts it.
-fn count_differing(trace: u64, differing: u64, same: bool) -> u64 {
+fn count_differing(rt: &impl Print, trace: u64, differing: u64, same: bool) -> io::Result<u64> {
     if same {
-        return differing;
+        return Ok(differing);
     }
-    show(trace, b" differs\n");
-    std::num::wrapping_add_u64(differing, 1)
+    println!(rt; "{trace} differs")?;
+    Ok(wrapping_add_u64(differing, 1))
 }
 
-fn run_blocks(text: &[u8]) {
+fn run_blocks(rt: &impl Print, text: &[u8]) -> io::Result<()> {
     let mut at = 0;
     let mut traces = 0u64;
     let mut differing = 0u64;
     while at < text.len() {
-        let block = run_block(text, at);
+        let block = run_block(rt, text, at)?;
         if block.next <= at {
-            return;
+            return Ok(());
         }
         at = block.next;
-        traces = std::num::wrapping_add_u64(traces, 1);
-        differing = count_differing(traces, differing, block.same);
+        traces = wrapping_add_u64(traces, 1);
+        differing = count_differing(rt, traces, differing, block.same)?;
     }
-    show(traces, b" traces, ");
-    show(differing, b" differ\n");
+    println!(rt; "{traces} traces, {differing} differ")
 }
 
-fn run_file(path: &[u8]) {
-    let mut text = [0u8; 262144];
-    let fd = os::open_read(path);
-    let n = io::read_full(fd, &mut text);
-    libc::close(fd);
-    io::write_all(STDOUT_FILENO, path);
-    io::write_all(STDOUT_FILENO, b": ");
-    run_blocks(&text[..n]);
+fn run_file(rt: &(impl Files + Print + Alloc), name: &str) -> io::Result<()> {
+    let text = fs::read(rt, name)?;
+    print!(rt; "{name}: ")?;
+    run_blocks(rt, text.as_slice())
 }
 
-fn main() {
-    run_file(b"traces.txt");
-    run_file(b"parts.txt");
-    run_file(b"amended.txt");
-    run_file(b"recorded.txt");
-    run_file(b"edges.txt");
-    run_file(b"why.txt");
+fn main(rt: HostRuntime) -> io::Result<()> {
+    run_file(&rt, "traces.txt")?;
+    run_file(&rt, "parts.txt")?;
+    run_file(&rt, "amended.txt")?;
+    run_file(&rt, "recorded.txt")?;
+    run_file(&rt, "edges.txt")?;
+    run_file(&rt, "why.txt")
 }
