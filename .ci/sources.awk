@@ -13,7 +13,7 @@ function defined(line) {
     return line
 }
 
-# `ghost use Rattle·CRATE.specs.FILE.{D, D as NAME}`: what names stand for in this file's contracts.
+# `ghost use Rattle.CRATE.specs.FILE.{D, D as NAME};`: what names stand for in this file's contracts.
 function take_names(line,    from, names, count, i, pair) {
     from = line
     sub(/^ghost use Rattle[^a-z]*/, "", from)
@@ -30,6 +30,7 @@ function take_names(line,    from, names, count, i, pair) {
 # The definitions of specs/ that a function's contract cites, in their order.
 function cited(n,    said, words, count, i, had, list) {
     said = contract[n]
+    gsub(/(requires|ensures)[*]? [a-z0-9_]+ [{]/, "{", said) # no clause's own name
     gsub(/«[^»]*»|[.][A-Za-z0-9_]+/, " ", said) # no parameters, and no fields
     count = split(said, words, /[^A-Za-z0-9_]+/)
     for (i = 1; i <= count; i++)
@@ -48,7 +49,7 @@ FNR == 1 {
 
 FILENAME == "crates.txt" && /^[a-z]/ {
     crate[++listed] = $0
-    sub(/:.*/, "", crate[listed])
+    sub(/[ :].*/, "", crate[listed])
 }
 
 FILENAME ~ /[.](antt|rt)$/ {
@@ -91,7 +92,7 @@ FILENAME ~ /[.]rt$/ {
     }
     if (constant != "") in_constant[FILENAME, FNR] = constant
     if (/;$/) constant = ""
-    if (part == "head" && /^ *(requires|ensures) /) part = "contract"
+    if (part == "head" && /^ *(requires|ensures)[*]? /) part = "contract"
     if (part == "body") {
         body[functions] = body[functions] $0 "\n"
         in_body[FILENAME, FNR] = functions

@@ -1,7 +1,7 @@
 // SPDX-License-Identifier: Apache-2.0 AND BSD-3-Clause
-//! Links the static library of the crate `jambcopper`, libjambcopper.a, which bin/library proves and writes to target/staticlib of the
-//! repository. JAMBCOPPER_LIB names another folder that has it: a path from the repository's root, or an absolute one.
-//! It is for x86-64: on another processor, build with `--target x86_64-unknown-linux-gnu`, as bin/x86-cargo does.
+//! Links the static library, libjambcopper.a, which bin/library proves and writes to target/staticlib of the repository.
+//! JAMBCOPPER_LIB names another folder that has it: a path from the repository's root, or an absolute one.
+//! It is for x86-64.
 //!
 //! compare/both has this script too.
 

@@ -55,9 +55,7 @@
 //! # Platform
 //!
 //! The static library is for x86-64, with the C calling convention of Linux, and so is this crate. The crate's own code
-//! takes no other system for granted than `std` does. On another processor a program that links it is built with
-//! `--target x86_64-unknown-linux-gnu` and runs under an emulator, which `bin/x86-cargo` and `bin/run` of the repository
-//! see to.
+//! takes no other system for granted than `std` does.
 //!
 //! # Rust version
 //!
