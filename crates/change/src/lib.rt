@@ -137,10 +137,10 @@ pub fn range_of(
     ensures { result ≡ range_of block_size start.0 usable addr.0 nb_blocks }
 {
     let aligned = is_multiple(addr.0, block_size as u64);
-    let no_blocks = nb_blocks == 0;
     if !aligned {
         return Range::Outside(Part::Alignment);
     }
+    let no_blocks = nb_blocks == 0;
     if no_blocks {
         return Range::Outside(Part::ZeroBlocks);
     }

@@ -92,7 +92,8 @@ fn range_refusal(d: Device, start: GuestAddr, size: u64, slots: u64) -> u64
 {
     let region = d.config.region_size;
     let several = d.several;
-    if !((slots == map_regions(region, several)) & (size == region)) {
+    let right_range = (slots == map_regions(region, several)) & (size == region);
+    if !right_range {
         return 3;
     }
     if start_ok(start, region, several, d.alignment) {

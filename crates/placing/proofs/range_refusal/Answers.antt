@@ -11,7 +11,5 @@ pub returns-else-start_ok : goal.returns-else-start_ok
 unfolding range_refusal
 returns-else-start_ok c =
     let a = c.args in
-    let region = a.d.config.region_size in
-    let right : (eqb a.slots (map_regions region a.d.several) && eqb a.size region) ≡ true = cc in
-    let placed : start_ok a.start.0 region a.d.several a.d.alignment ≡ false = cc in
-    simp (right, placed)
+    let placed : start_ok a.start.0 a.d.config.region_size a.d.several a.d.alignment ≡ false = cc in
+    simp (← c.map_regions.ensures, c.if-not-right_range.false, placed)
