@@ -1,5 +1,5 @@
 -- SPDX-License-Identifier: Apache-2.0 AND BSD-3-Clause
--- The contract of each function that is exported, as its callers learn it from its proof, is the promise that a run is stated over: nothing was copied by hand.
+-- The contract of each function of `jambcopper`, as its callers learn it from its proof, is the promise that a run is stated over: nothing was copied by hand. `bin/exports` holds the exports to the same contracts.
 use mathlib.Core.List.{[]}
 use contract.Lifetimes.{Lfts}
 use denote.Triple.Clauses.{AtExit}

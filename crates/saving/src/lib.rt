@@ -14,7 +14,7 @@ use save::{Checked, Fields, Wrote, check, is_short, text_length, write};
 use units::MemTool;
 
 // The device with the state laid on it; or the number that the call is refused as.
-#[derive(Drop)]
+#[derive(Clone, Copy)]
 pub enum Restored {
     Device(Device),
     Refused(u64),
