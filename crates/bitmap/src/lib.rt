@@ -13,7 +13,7 @@ use little_endian::read_u64;
 use units::smaller;
 
 // The block that a search ended at.
-#[derive(Drop)]
+#[derive(Clone, Copy)]
 pub enum Found {
     At(usize),
     Nothing,

@@ -15,7 +15,7 @@ const REQUEST_SIZE: u32 = 24;
 const RESPONSE_SIZE: u32 = 10;
 
 // What a chain asks: a request with the address for its response, or the reason why it asks nothing.
-#[derive(Drop)]
+#[derive(Clone, Copy)]
 pub enum Parsed {
     Request(VirtioMemReq, GuestAddr),
     Bad(u64),

@@ -29,7 +29,7 @@ fn index_after(mem: &[u8], base: GuestAddr, descriptors: GuestAddr, index: u16) 
 }
 
 // A place in a chain of descriptors.
-#[derive(Drop)]
+#[derive(Clone, Copy)]
 pub struct ChainReader<'a> {
     pub mem: &'a [u8],
     pub base: GuestAddr,

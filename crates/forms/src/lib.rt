@@ -13,7 +13,7 @@ use units::smaller;
 const HOLE: u8 = b'#';
 
 // Where a text goes on.
-#[derive(Drop)]
+#[derive(Clone, Copy)]
 pub enum Place {
     At(usize),
     Nowhere,

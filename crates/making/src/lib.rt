@@ -15,7 +15,7 @@ use wire::VirtioMemConfig;
 const MAX_CAPACITY_MIB: u64 = 1048576;
 
 // A device that was made, or the number of the refusal.
-#[derive(Drop)]
+#[derive(Clone, Copy)]
 pub enum Made {
     Device(Device),
     Refused(u64),
@@ -75,7 +75,7 @@ fn new_device(region: u64, requested: u64, alignment: u64, several: bool, node: 
 }
 
 // The constructor stays with `Mem`, as in mem.rs.
-#[derive(Drop)]
+#[derive(Clone, Copy)]
 pub struct Mem {}
 
 impl Mem {

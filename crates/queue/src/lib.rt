@@ -15,14 +15,14 @@ use step::{Answer, ready_refusal, tables_fit};
 use units::{GuestAddr, HostAddr};
 
 // What a call on the queue tells: that no head is there, or the device's answer.
-#[derive(Drop)]
+#[derive(Clone, Copy)]
 pub enum QueueAnswer {
     Empty,
     Of(Answer),
 }
 
 // A call's answer, with the record and the queue as they are then.
-#[derive(Drop)]
+#[derive(Clone, Copy)]
 pub struct Turn {
     pub device: Device,
     pub queue: Queue,
@@ -30,7 +30,7 @@ pub struct Turn {
 }
 
 // What becomes of a head: it stays where it was, it is out, or it is reported used with a length.
-#[derive(Drop)]
+#[derive(Clone, Copy)]
 pub enum Ending {
     Stays,
     Out,
@@ -38,7 +38,7 @@ pub enum Ending {
 }
 
 // What a call finds before a head is walked: the head, or what it tells where it takes none.
-#[derive(Drop)]
+#[derive(Clone, Copy)]
 pub enum Taking {
     Walk(u16),
     NoHead(QueueAnswer),

@@ -19,7 +19,7 @@ use words::write_words;
 pub const QUEUE_WORDS: usize = 6;
 
 // What words mean: a queue, or no encoding of one.
-#[derive(Drop)]
+#[derive(Clone, Copy)]
 pub enum DecodedQueue {
     Is(Queue),
     NoQueue,

@@ -107,7 +107,7 @@ enum RunLine {
 }
 
 // How many blocks the runs of a text have.
-#[derive(Drop)]
+#[derive(Clone, Copy)]
 pub enum Counted {
     Blocks(u64),
     Bad,

@@ -8,7 +8,7 @@ ghost use Rattle.text.specs.Reading.{digit_of, more, bounded, answer_in, number_
 ghost use Rattle.text.specs.Putting.{Put};
 
 // A number that was read, and where the text goes on.
-#[derive(Drop)]
+#[derive(Clone, Copy)]
 pub enum Number {
     At { value: u64, next: usize },
     Bad,

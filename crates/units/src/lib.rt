@@ -30,7 +30,7 @@ pub enum Node {
 const BOOT_MEM_SIZE_FOR_LARGE_BLOCK: u64 = 64 * MemTool::GIB;
 
 // The sizes stay with `MemTool`, as in mem.rs.
-#[derive(Drop)]
+#[derive(Clone, Copy)]
 pub struct MemTool {}
 
 impl MemTool {

@@ -16,7 +16,7 @@ use wire::VirtioMemConfig;
 pub const RECORD_WORDS: usize = 15;
 
 // What words mean.
-#[derive(Drop)]
+#[derive(Clone, Copy)]
 pub enum Decoded {
     Is(Device),
     NoRecord,
