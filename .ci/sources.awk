@@ -1,7 +1,8 @@
 # What the crates' files say, laid out by `rt fmt`, for bin/guards and bin/promises, which read crates.txt, then the specs/, the
 # src/ and the must-fail/ of crates/. In their END:
 #   crate[i], to `listed`: the crates in crates.txt's order, those in `library` being no programs
-#   name[n], to `functions`: the functions, NAME or TYPE::NAME; owner[n]: its crate; exported[n]: it is public; body[n]; cited(n)
+#   name[n], to `functions`: the functions, NAME or TYPE::NAME; owner[n]: its crate; exported[n]: it is public; head[n], contract[n]
+#   and body[n]: its lines; cited(n)
 #   edit[e], to `edits`: the wrong programs, CRATE/NAME; place[e, k]: a line, PATH SUBSEP LINE, that e changes
 #   in_body[PATH, LINE], in_constant[PATH, LINE], in_definition[PATH, LINE]: the function, the constant, and the definition of
 #   specs/, to which a line belongs
@@ -93,6 +94,7 @@ FILENAME ~ /[.]rt$/ {
     if (constant != "") in_constant[FILENAME, FNR] = constant
     if (/;$/) constant = ""
     if (part == "head" && /^ *(requires|ensures)[*]? /) part = "contract"
+    if (part == "head") head[functions] = head[functions] $0 "\n"
     if (part == "body") {
         body[functions] = body[functions] $0 "\n"
         in_body[FILENAME, FNR] = functions
