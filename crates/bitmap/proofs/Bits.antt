@@ -11,7 +11,7 @@ use lib.Dec.{eqb}
 use lib.Pow.{shl_exact, pow_pos, pow_mono, ones_lt, high_ones}
 use Rattle.bitmap.specs.Blocks.{low_bits, block_at, fill}
 use Rattle.bitmap.specs.Whole.{whole}
-use Rattle.bitmap.proofs.Laws.{fill_none, fill-over}
+use Rattle.bitmap.proofs.Laws.{fill_none, fill_over}
 
 -- the code's 1 << n, and its mask
 pub one_shl : (n : ℕ) → n ≤ 8 → 1 * 2 ^ n % 2 ^ 64 ≡ 2 ^ n
@@ -21,41 +21,41 @@ pub ones_shl : (k n : ℕ) → k + n ≤ 8 → (1 * 2 ^ n % 2 ^ 64 - 1) * 2 ^ k 
 ones_shl k n h = rw (one_shl n (omega arith)) (shl_exact n k 64 (ones_lt n) (omega arith) ∙ sym (high_ones n k))
 
 -- bit k, by halving k times
-pub low-at : (n k x : ℕ) → k < n → block_at (low_bits n x) k ≡ eqb (x / 2 ^ k % 2) 1
+pub low_at : (n k x : ℕ) → k < n → block_at (low_bits n x) k ≡ eqb (x / 2 ^ k % 2) 1
 unfolding low_bits
-low-at zero k x h = absurd (omega arith)
-low-at (suc n) zero x h = let e : x ≡ x / 1 = omega arith in rw (← e)
-low-at (suc n) (suc k) x h = rw (pow-succ' 2 k, ← div-div-eq-div-mul x 2 (2 ^ k)) (low-at n k (x / 2) (omega arith))
+low_at zero k x h = absurd (omega arith)
+low_at (suc n) zero x h = let e : x ≡ x / 1 = omega arith in rw (← e)
+low_at (suc n) (suc k) x h = rw (pow-succ' 2 k, ← div-div-eq-div-mul x 2 (2 ^ k)) (low_at n k (x / 2) (omega arith))
 
 -- ---- a number by its half and its lowest bit
 halved : (x h b : ℕ) → x ≡ h * 2 + b → b < 2 → (x / 2 ≡ h) × (x % 2 ≡ b)
 halved x h b e l = (omega arith, omega arith)
 
-low-from : (n x h b : ℕ) → (x / 2 ≡ h) × (x % 2 ≡ b) → low_bits (suc n) x ≡ eqb b 1 ∷ low_bits n h
+low_from : (n x h b : ℕ) → (x / 2 ≡ h) × (x % 2 ≡ b) → low_bits (suc n) x ≡ eqb b 1 ∷ low_bits n h
 unfolding low_bits
-low-from n x h b e = rw (e.0, e.1)
+low_from n x h b e = rw (e.0, e.1)
 
 -- x | m and x & m, by the half h and the lowest bit b of m
 low_or : (n x m h b : ℕ) → b < 2 → (m / 2 ≡ h) × (m % 2 ≡ b) → low_bits (suc n) (bit_or x m) ≡ eqb (max (x % 2) b) 1 ∷ low_bits n (bit_or (x / 2) h)
 low_or n x m h b l e =
-    low-from n (bit_or x m) (bit_or (x / 2) h) (max (x % 2) b) (halved (bit_or x m) (bit_or (x / 2) h) (max (x % 2) b) (rw (e.0, e.1) at (or_step x m)) (omega arith))
+    low_from n (bit_or x m) (bit_or (x / 2) h) (max (x % 2) b) (halved (bit_or x m) (bit_or (x / 2) h) (max (x % 2) b) (rw (e.0, e.1) at (or_step x m)) (omega arith))
 
 low_and : (n x m h b : ℕ) → (m / 2 ≡ h) × (m % 2 ≡ b) → low_bits (suc n) (bit_and x m) ≡ eqb (min (x % 2) b) 1 ∷ low_bits n (bit_and (x / 2) h)
 low_and n x m h b e =
-    low-from n (bit_and x m) (bit_and (x / 2) h) (min (x % 2) b) (halved (bit_and x m) (bit_and (x / 2) h) (min (x % 2) b) (rw (e.0, e.1) at (and_step x m)) (omega arith))
+    low_from n (bit_and x m) (bit_and (x / 2) h) (min (x % 2) b) (halved (bit_and x m) (bit_and (x / 2) h) (min (x % 2) b) (rw (e.0, e.1) at (and_step x m)) (omega arith))
 
 -- twice r, and one more; and each taken from p - 1, where p is twice q
 twice : (r : ℕ) → (r * 2 / 2 ≡ r) × (r * 2 % 2 ≡ 0)
 twice r = (omega arith, omega arith)
 
-twice-and-one : (r : ℕ) → ((r * 2 + 1) / 2 ≡ r) × ((r * 2 + 1) % 2 ≡ 1)
-twice-and-one r = (omega arith, omega arith)
+twice_and_one : (r : ℕ) → ((r * 2 + 1) / 2 ≡ r) × ((r * 2 + 1) % 2 ≡ 1)
+twice_and_one r = (omega arith, omega arith)
 
-not-twice : (p q r : ℕ) → p ≡ 2 * q → r < q → ((p - 1 - r * 2) / 2 ≡ q - 1 - r) × ((p - 1 - r * 2) % 2 ≡ 1)
-not-twice p q r e l = (omega arith, omega arith)
+not_twice : (p q r : ℕ) → p ≡ 2 * q → r < q → ((p - 1 - r * 2) / 2 ≡ q - 1 - r) × ((p - 1 - r * 2) % 2 ≡ 1)
+not_twice p q r e l = (omega arith, omega arith)
 
-not-twice-and-one : (p q r : ℕ) → p ≡ 2 * q → r < q → ((p - 1 - (r * 2 + 1)) / 2 ≡ q - 1 - r) × ((p - 1 - (r * 2 + 1)) % 2 ≡ 0)
-not-twice-and-one p q r e l = (omega arith, omega arith)
+not_twice_and_one : (p q r : ℕ) → p ≡ 2 * q → r < q → ((p - 1 - (r * 2 + 1)) / 2 ≡ q - 1 - r) × ((p - 1 - (r * 2 + 1)) % 2 ≡ 0)
+not_twice_and_one p q r e l = (omega arith, omega arith)
 
 -- ---- the mask of the n bits from bit k on
 unfoldable pub run : ℕ → ℕ → ℕ
@@ -63,50 +63,50 @@ run zero zero = 0
 run zero (suc n) = run zero n * 2 + 1
 run (suc k) n = run k n * 2
 
-run-sum : (k n m : ℕ) → m ≡ k + n → run k n + 2 ^ k ≡ 2 ^ m
+run_sum : (k n m : ℕ) → m ≡ k + n → run k n + 2 ^ k ≡ 2 ^ m
 unfolding run
-run-sum zero zero zero e = refl
-run-sum zero zero (suc m) e = absurd (omega arith)
-run-sum zero (suc n) zero e = absurd (omega arith)
-run-sum zero (suc n) (suc m) e = omega (arith, pow-succ' 2 m, run-sum zero n m (omega arith))
-run-sum (suc k) n zero e = absurd (omega arith)
-run-sum (suc k) n (suc m) e = omega (arith, pow-succ' 2 k, pow-succ' 2 m, run-sum k n m (omega arith))
+run_sum zero zero zero e = refl
+run_sum zero zero (suc m) e = absurd (omega arith)
+run_sum zero (suc n) zero e = absurd (omega arith)
+run_sum zero (suc n) (suc m) e = omega (arith, pow-succ' 2 m, run_sum zero n m (omega arith))
+run_sum (suc k) n zero e = absurd (omega arith)
+run_sum (suc k) n (suc m) e = omega (arith, pow-succ' 2 k, pow-succ' 2 m, run_sum k n m (omega arith))
 
-pub run-below : (k n w : ℕ) → k + n ≤ w → run k n < 2 ^ w
-run-below k n w h = omega (arith, run-sum k n (k + n) refl, pow_pos k, pow_mono h)
+pub run_below : (k n w : ℕ) → k + n ≤ w → run k n < 2 ^ w
+run_below k n w h = omega (arith, run_sum k n (k + n) refl, pow_pos k, pow_mono h)
 
 pub run_is : (k n : ℕ) → 2 ^ (n + k) - 2 ^ k ≡ run k n
-run_is k n = omega (arith, run-sum k n (n + k) (omega arith))
+run_is k n = omega (arith, run_sum k n (n + k) (omega arith))
 
 -- x | run sets them
-pub or-run : (w k n x : ℕ) → low_bits w (bit_or x (run k n)) ≡ fill (low_bits w x) k n true
+pub or_run : (w k n x : ℕ) → low_bits w (bit_or x (run k n)) ≡ fill (low_bits w x) k n true
 unfolding low_bits fill run
-or-run zero k n x = refl
-or-run (suc w) zero zero x = rw (or_zero_r x)
-or-run (suc w) zero (suc n) x =
+or_run zero k n x = refl
+or_run (suc w) zero zero x = rw (or_zero_r x)
+or_run (suc w) zero (suc n) x =
     let r = run zero n in
-    low_or w x (r * 2 + 1) r 1 (omega arith) (twice-and-one r) ∙ (let b : max (x % 2) 1 ≡ 1 = omega arith in rw (b, or-run w zero n (x / 2)))
-or-run (suc w) (suc k) n x =
+    low_or w x (r * 2 + 1) r 1 (omega arith) (twice_and_one r) ∙ (let b : max (x % 2) 1 ≡ 1 = omega arith in rw (b, or_run w zero n (x / 2)))
+or_run (suc w) (suc k) n x =
     let r = run k n in
-    low_or w x (r * 2) r 0 (omega arith) (twice r) ∙ (let b : max (x % 2) 0 ≡ x % 2 = omega arith in rw (b, or-run w k n (x / 2)))
+    low_or w x (r * 2) r 0 (omega arith) (twice r) ∙ (let b : max (x % 2) 0 ≡ x % 2 = omega arith in rw (b, or_run w k n (x / 2)))
 
 -- x & !run, in w bits, clears them
-pub and-run : (w k n x : ℕ) → k + n ≤ w → low_bits w (bit_and x (2 ^ w - 1 - run k n)) ≡ fill (low_bits w x) k n false
+pub and_run : (w k n x : ℕ) → k + n ≤ w → low_bits w (bit_and x (2 ^ w - 1 - run k n)) ≡ fill (low_bits w x) k n false
 unfolding low_bits fill run
-and-run zero k n x h = refl
-and-run (suc w) zero zero x h =
-    low_and w x (2 ^ suc w - 1 - 0) (2 ^ w - 1 - 0) 1 (not-twice (2 ^ suc w) (2 ^ w) 0 (pow-succ' 2 w) (pow_pos w))
-    ∙ (let b : min (x % 2) 1 ≡ x % 2 = omega arith in rw (b, and-run w zero zero (x / 2) (omega arith), fill_none (low_bits w (x / 2)) 0 false))
-and-run (suc w) zero (suc n) x h =
+and_run zero k n x h = refl
+and_run (suc w) zero zero x h =
+    low_and w x (2 ^ suc w - 1 - 0) (2 ^ w - 1 - 0) 1 (not_twice (2 ^ suc w) (2 ^ w) 0 (pow-succ' 2 w) (pow_pos w))
+    ∙ (let b : min (x % 2) 1 ≡ x % 2 = omega arith in rw (b, and_run w zero zero (x / 2) (omega arith), fill_none (low_bits w (x / 2)) 0 false))
+and_run (suc w) zero (suc n) x h =
     let r = run zero n in
-    let l = run-below zero n w (omega arith) in
-    low_and w x (2 ^ suc w - 1 - (r * 2 + 1)) (2 ^ w - 1 - r) 0 (not-twice-and-one (2 ^ suc w) (2 ^ w) r (pow-succ' 2 w) l)
-    ∙ (let b : min (x % 2) 0 ≡ 0 = omega arith in rw (b, and-run w zero n (x / 2) (omega arith)))
-and-run (suc w) (suc k) n x h =
+    let l = run_below zero n w (omega arith) in
+    low_and w x (2 ^ suc w - 1 - (r * 2 + 1)) (2 ^ w - 1 - r) 0 (not_twice_and_one (2 ^ suc w) (2 ^ w) r (pow-succ' 2 w) l)
+    ∙ (let b : min (x % 2) 0 ≡ 0 = omega arith in rw (b, and_run w zero n (x / 2) (omega arith)))
+and_run (suc w) (suc k) n x h =
     let r = run k n in
-    let l = run-below k n w (omega arith) in
-    low_and w x (2 ^ suc w - 1 - r * 2) (2 ^ w - 1 - r) 1 (not-twice (2 ^ suc w) (2 ^ w) r (pow-succ' 2 w) l)
-    ∙ (let b : min (x % 2) 1 ≡ x % 2 = omega arith in rw (b, and-run w k n (x / 2) (omega arith)))
+    let l = run_below k n w (omega arith) in
+    low_and w x (2 ^ suc w - 1 - r * 2) (2 ^ w - 1 - r) 1 (not_twice (2 ^ suc w) (2 ^ w) r (pow-succ' 2 w) l)
+    ∙ (let b : min (x % 2) 1 ≡ x % 2 = omega arith in rw (b, and_run w k n (x / 2) (omega arith)))
 
 -- what a mask takes and what it leaves
 both_bits : (a b : ℕ) → a < 2 → b < 2 → min a (1 - b) + min a b ≡ a
@@ -142,11 +142,11 @@ whole-fill x false = refl
 module _ (k n x : ℕ) (h : k + n ≤ 8) where
   pub all_ones : bit_and 255 (run k n) ≡ run k n
   all_ones =
-      let q = run-below k n 8 h in
+      let q = run_below k n 8 h in
       and_comm 255 (run k n) ∙ and_mask (run k n) 8 ∙ omega arith
 
-  pub put-run : (v : Bool) → low_bits 8 (bit_or (bit_and x (255 - run k n)) (bit_and (whole v) (run k n))) ≡ fill (low_bits 8 x) k n v
+  pub put_run : (v : Bool) → low_bits 8 (bit_or (bit_and x (255 - run k n)) (bit_and (whole v) (run k n))) ≡ fill (low_bits 8 x) k n v
   unfolding whole
-  put-run true =
-      rw all_ones (or-run 8 k n (bit_and x (255 - run k n)) ∙ rw (and-run 8 k n x h) (fill-over (low_bits 8 x) k n false true))
-  put-run false = rw (and_zero_l (run k n), or_zero_r (bit_and x (255 - run k n))) (and-run 8 k n x h)
+  put_run true =
+      rw all_ones (or_run 8 k n (bit_and x (255 - run k n)) ∙ rw (and_run 8 k n x h) (fill_over (low_bits 8 x) k n false true))
+  put_run false = rw (and_zero_l (run k n), or_zero_r (bit_and x (255 - run k n))) (and_run 8 k n x h)

@@ -64,10 +64,10 @@ next_clear bs from end = next_in_state false bs from end
 -- R2.11: the lent bytes at entry and at exit differ in no byte that lies wholly outside the blocks from `first` to `end`
 pub record Outside (entry exit : List ℕ) (first end : ℕ) : Type 0 where
   pub same_length : length exit ≡ length entry
-  pub same-before : (n : ℕ) → 8 * n ≤ first → take n exit ≡ take n entry
-  pub same-past : (n : ℕ) → end ≤ 8 * n → drop n exit ≡ drop n entry
+  pub same_before : (n : ℕ) → 8 * n ≤ first → take n exit ≡ take n entry
+  pub same_past : (n : ℕ) → end ≤ 8 * n → drop n exit ≡ drop n entry
 
 -- `count` blocks from `first` on were put in the state v, and nothing else was touched
 pub record Filled (entry exit : List ℕ) (first count : ℕ) (v : Bool) : Type 0 where
-  pub as-blocks : blocks exit ≡ fill (blocks entry) first count v
+  pub as_blocks : blocks exit ≡ fill (blocks entry) first count v
   pub outside : Outside entry exit first (first + count)

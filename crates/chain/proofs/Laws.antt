@@ -7,20 +7,20 @@ use mathlib.Core.List.{List}
 use native.Mathlib.Omega.{arith}
 use lib.Dec.{ltb, eqb}
 use lib.ListN.{length}
-use Rattle.units.proofs.Tests.{by-test, and_right}
+use Rattle.units.proofs.Tests.{by_test, and_right}
 use Rattle.units.specs.declared.GuestAddr.{GuestAddr}
 use Rattle.little_endian.specs.Bytes.{part}
-use Rattle.little_endian.proofs.Laws.{length-put, part-put, part-put-before, part-put-behind}
+use Rattle.little_endian.proofs.Laws.{length-put, part-put, part-put_before, part-put_behind}
 use Rattle.wire.specs.declared.VirtioMemReq.{VirtioMemReq}
 use Rattle.wire.specs.declared.VirtioMemResp.{VirtioMemResp}
 use Rattle.wire.specs.Layout.{request_at, response_bytes}
-use Rattle.wire.proofs.Laws.{request-part, length-response}
+use Rattle.wire.proofs.Laws.{request_part, length_response}
 use Rattle.descriptors.specs.declared.Descriptor.{Descriptor}
 use Rattle.descriptors.specs.declared.Link.{Link}
 use Rattle.descriptors.specs.declared.Link.TheVariants.{Is, Missing}
 use Rattle.descriptors.specs.Standard.{descriptor_at, descriptor_addr, has_next, is_write_only, is_indirect}
 use Rattle.descriptors.specs.Descriptors.{inside, link_at, link_after}
-use Rattle.descriptors.proofs.Laws.{inside-facts, descriptor-part}
+use Rattle.descriptors.proofs.Laws.{inside_facts, descriptor_part}
 use Rattle.chain.specs.declared.Parsed.{Parsed}
 use Rattle.chain.specs.declared.Parsed.TheVariants.{Request, Bad}
 use Rattle.chain.specs.Chain.{with_second, with_first, parsed, reaches, delivered}
@@ -33,29 +33,29 @@ either P false x y p q = q
 
 -- a reason from 21 to 27, or a request that stands somewhere in the memory: what holds of each holds of a parse
 module _ (P : Parsed → Type 0) (bad : (reason : ℕ) → 21 ≤ reason → reason ≤ 27 → P (Bad reason)) where
-  second-cases : (req : VirtioMemReq) (found : Link) → ((status : GuestAddr) → P (Request req status)) → P (with_second req found)
+  second_cases : (req : VirtioMemReq) (found : Link) → ((status : GuestAddr) → P (Request req status)) → P (with_second req found)
   unfolding with_second
-  second-cases req Missing good = bad 21 (omega arith) (omega arith)
-  second-cases req (Is second) good =
+  second_cases req Missing good = bad 21 (omega arith) (omega arith)
+  second_cases req (Is second) good =
       either P (is_indirect second) _ _ (bad 27 (omega arith) (omega arith))
       (either P (not (is_write_only second)) _ _ (bad 25 (omega arith) (omega arith))
       (either P (ltb second.len 10) _ _ (bad 26 (omega arith) (omega arith)) (good second.addr)))
 
-  first-cases : (mem : List ℕ) (base table : ℕ) (found : Link) → ((at : ℕ) (status : GuestAddr) → P (Request (request_at mem at) status))
+  first_cases : (mem : List ℕ) (base table : ℕ) (found : Link) → ((at : ℕ) (status : GuestAddr) → P (Request (request_at mem at) status))
       → P (with_first mem base table found)
   unfolding with_first
-  first-cases mem base table Missing good = bad 21 (omega arith) (omega arith)
-  first-cases mem base table (Is first) good =
+  first_cases mem base table Missing good = bad 21 (omega arith) (omega arith)
+  first_cases mem base table (Is first) good =
       either P (is_indirect first) _ _ (bad 27 (omega arith) (omega arith))
       (either P (is_write_only first) _ _ (bad 22 (omega arith) (omega arith))
       (either P (not (eqb first.len 24)) _ _ (bad 23 (omega arith) (omega arith))
       (either P (not (inside (length mem) base first.addr.0 24)) _ _ (bad 24 (omega arith) (omega arith))
-      (second-cases _ (link_after mem base table first) (good _)))))
+      (second_cases _ (link_after mem base table first) (good _)))))
 
-  pub parsed-cases : (mem : List ℕ) (base table head : ℕ) → ((at : ℕ) (status : GuestAddr) → P (Request (request_at mem at) status))
+  pub parsed_cases : (mem : List ℕ) (base table head : ℕ) → ((at : ℕ) (status : GuestAddr) → P (Request (request_at mem at) status))
       → P (parsed mem base table head)
   unfolding parsed
-  parsed-cases mem base table head good = first-cases mem base table (link_at mem base table head) good
+  parsed_cases mem base table head good = first_cases mem base table (link_at mem base table head) good
 
 -- ---- what a delivery leaves
 
@@ -64,15 +64,15 @@ pub length-delivered : (mem : List ℕ) (base status : ℕ) (resp : VirtioMemRes
     → length (delivered mem base status resp) ≡ length mem
 unfolding delivered
 length-delivered mem base status resp =
-    by-test (reaches mem base status) (λ t. simp (t, length-put)) (λ t. simp t)
+    by_test (reaches mem base status) (λ t. simp (t, length-put)) (λ t. simp t)
 
 -- a delivered response reads back
-pub delivered-reads : (mem : List ℕ) (base status : ℕ) (resp : VirtioMemResp) → reaches mem base status ≡ true
+pub delivered_reads : (mem : List ℕ) (base status : ℕ) (resp : VirtioMemResp) → reaches mem base status ≡ true
     → part (delivered mem base status resp) (status - base) 10 ≡ response_bytes resp
 unfolding delivered reaches
-delivered-reads mem base status resp t =
-    let i = inside-facts (length mem) base status 10 t in
-    let ten = length-response resp in
+delivered_reads mem base status resp t =
+    let i = inside_facts (length mem) base status 10 t in
+    let ten = length_response resp in
     let back = part-put mem (status - base) (response_bytes resp) (omega arith) in
     simp t (rw ten at back)
 
@@ -83,19 +83,19 @@ unfolding delivered
 undelivered mem base status resp t = simp t
 
 -- the bytes before the 10 stay
-pub delivered-before : (mem : List ℕ) (base status : ℕ) (resp : VirtioMemResp) (i n : ℕ) → i + n ≤ status - base
+pub delivered_before : (mem : List ℕ) (base status : ℕ) (resp : VirtioMemResp) (i n : ℕ) → i + n ≤ status - base
     → part (delivered mem base status resp) i n ≡ part mem i n
 unfolding delivered
-delivered-before mem base status resp i n h =
-    by-test (reaches mem base status) (λ t. simp t (part-put-before mem (status - base) (response_bytes resp) i n h)) (λ t. simp t)
+delivered_before mem base status resp i n h =
+    by_test (reaches mem base status) (λ t. simp t (part-put_before mem (status - base) (response_bytes resp) i n h)) (λ t. simp t)
 
 -- and so do those behind them
-pub delivered-behind : (mem : List ℕ) (base status : ℕ) (resp : VirtioMemResp) (i n : ℕ) → status - base + 10 ≤ i
+pub delivered_behind : (mem : List ℕ) (base status : ℕ) (resp : VirtioMemResp) (i n : ℕ) → status - base + 10 ≤ i
     → part (delivered mem base status resp) i n ≡ part mem i n
 unfolding delivered
-delivered-behind mem base status resp i n h =
-    by-test (reaches mem base status)
-    (λ t. let ten = length-response resp in simp t (part-put-behind mem (status - base) (response_bytes resp) i n (omega arith)))
+delivered_behind mem base status resp i n h =
+    by_test (reaches mem base status)
+    (λ t. let ten = length_response resp in simp t (part-put_behind mem (status - base) (response_bytes resp) i n (omega arith)))
     (λ t. simp t)
 
 -- ---- what a parse reads
@@ -112,41 +112,41 @@ read_same n read only mem mem' at same =
     only mem at ∙ ap (λ (bytes : List ℕ). read bytes 0) same ∙ sym (only mem' at)
 
 -- what is chosen where a test holds
-chosen-same : {A : Type 0} (test : Bool) (x y z : A) → (test ≡ true → x ≡ y) → cond test x z ≡ cond test y z
-chosen-same true x y z same = same refl
-chosen-same false x y z same = refl
+chosen_same : {A : Type 0} (test : Bool) (x y z : A) → (test ≡ true → x ≡ y) → cond test x z ≡ cond test y z
+chosen_same true x y z same = same refl
+chosen_same false x y z same = refl
 
-link-same : (mem mem' : List ℕ) (base table index : ℕ) → length mem ≡ length mem'
+link_same : (mem mem' : List ℕ) (base table index : ℕ) → length mem ≡ length mem'
     → SameAt mem mem' base (descriptor_addr table index) 16
     → link_at mem base table index ≡ link_at mem' base table index
 unfolding link_at
-link-same mem mem' base table index long same =
+link_same mem mem' base table index long same =
     let at = descriptor_addr table index in
     let lies = inside (length mem) base at 16 in
     rw (← long)
-    (chosen-same (ltb index 128 && lies) (Is (descriptor_at mem (at - base))) (Is (descriptor_at mem' (at - base))) Missing
-    (λ t. ap Is (read_same 16 descriptor_at descriptor-part mem mem' (at - base) (same (and_right (ltb index 128) lies t)))))
+    (chosen_same (ltb index 128 && lies) (Is (descriptor_at mem (at - base))) (Is (descriptor_at mem' (at - base))) Missing
+    (λ t. ap Is (read_same 16 descriptor_at descriptor_part mem mem' (at - base) (same (and_right (ltb index 128) lies t)))))
 
-link-after-same : (mem mem' : List ℕ) (base table : ℕ) (d : Descriptor) → length mem ≡ length mem'
+link_after_same : (mem mem' : List ℕ) (base table : ℕ) (d : Descriptor) → length mem ≡ length mem'
     → (has_next d ≡ true → SameAt mem mem' base (descriptor_addr table d.next) 16)
     → link_after mem base table d ≡ link_after mem' base table d
 unfolding link_after
-link-after-same mem mem' base table d long same =
-    chosen-same (has_next d) (link_at mem base table d.next) (link_at mem' base table d.next) Missing
-    (λ t. link-same mem mem' base table d.next long (same t))
+link_after_same mem mem' base table d long same =
+    chosen_same (has_next d) (link_at mem base table d.next) (link_at mem' base table d.next) Missing
+    (λ t. link_same mem mem' base table d.next long (same t))
 
-first-same : (mem mem' : List ℕ) (base table : ℕ) (first : Descriptor) → length mem ≡ length mem'
+first_same : (mem mem' : List ℕ) (base table : ℕ) (first : Descriptor) → length mem ≡ length mem'
     → SameAt mem mem' base first.addr.0 24
     → (has_next first ≡ true → SameAt mem mem' base (descriptor_addr table first.next) 16)
     → with_first mem base table (Is first) ≡ with_first mem' base table (Is first)
 unfolding with_first
-first-same mem mem' base table first long request second =
-    by-test (inside (length mem) base first.addr.0 24)
+first_same mem mem' base table first long request second =
+    by_test (inside (length mem) base first.addr.0 24)
     (λ t.
     rw (
       ← long,
-      read_same 24 request_at request-part mem mem' (first.addr.0 - base) (request t),
-      link-after-same mem mem' base table first long second,
+      read_same 24 request_at request_part mem mem' (first.addr.0 - base) (request t),
+      link_after_same mem mem' base table first long second,
     ))
     (λ t. rw (← long) (simp t))
 
@@ -158,17 +158,17 @@ pub record SameChain (mem mem' : List ℕ) (base table head : ℕ) : Type 0 wher
   pub second : (d : Descriptor) → link_at mem base table head ≡ Is d → has_next d ≡ true
       → SameAt mem mem' base (descriptor_addr table d.next) 16
 
-found-same : (mem mem' : List ℕ) (base table head : ℕ) → SameChain mem mem' base table head
+found_same : (mem mem' : List ℕ) (base table head : ℕ) → SameChain mem mem' base table head
     → (found : Link) → link_at mem base table head ≡ found → with_first mem base table found ≡ with_first mem' base table found
 unfolding with_first
-found-same mem mem' base table head same Missing is = refl
-found-same mem mem' base table head same (Is d) is =
-    first-same mem mem' base table d same.long (same.request d is) (same.second d is)
+found_same mem mem' base table head same Missing is = refl
+found_same mem mem' base table head same (Is d) is =
+    first_same mem mem' base table d same.long (same.request d is) (same.second d is)
 
 -- a parse does not depend on bytes outside the descriptors and the request
-pub parse-local : (mem mem' : List ℕ) (base table head : ℕ) → SameChain mem mem' base table head
+pub parse_local : (mem mem' : List ℕ) (base table head : ℕ) → SameChain mem mem' base table head
     → parsed mem base table head ≡ parsed mem' base table head
 unfolding parsed
-parse-local mem mem' base table head same =
-    found-same mem mem' base table head same (link_at mem base table head) refl
-    ∙ ap (with_first mem' base table) (link-same mem mem' base table head same.long same.first)
+parse_local mem mem' base table head same =
+    found_same mem mem' base table head same (link_at mem base table head) refl
+    ∙ ap (with_first mem' base table) (link_same mem mem' base table head same.long same.first)

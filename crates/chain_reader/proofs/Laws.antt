@@ -3,7 +3,7 @@
 use Prim.Native.Nat.{ℕ}
 use mathlib.Core.Path.{◌≡◌, refl}
 use mathlib.Core.List.{List}
-use Rattle.units.proofs.Tests.{by-test}
+use Rattle.units.proofs.Tests.{by_test}
 use Rattle.descriptors.specs.declared.Link.{Link}
 use Rattle.descriptors.specs.declared.Link.TheVariants.{Is, Missing}
 use Rattle.descriptors.specs.Standard.{has_next}
@@ -11,7 +11,7 @@ use Rattle.descriptors.specs.Descriptors.{link_at, link_after}
 use Rattle.chain_reader.specs.Reader.{reader_index, link_behind}
 
 -- the descriptor at the index after a link is the descriptor behind it, and there is none at 128
-pub link-behind : (mem : List ℕ) (base descriptors : ℕ) (link : Link) → link_at mem base descriptors (reader_index link) ≡ link_behind mem base descriptors link
+pub link_behind_lem : (mem : List ℕ) (base descriptors : ℕ) (link : Link) → link_at mem base descriptors (reader_index link) ≡ link_behind mem base descriptors link
 unfolding reader_index link_behind link_after link_at
-link-behind mem base descriptors Missing = refl
-link-behind mem base descriptors (Is d) = by-test (has_next d) (λ t. simp t) (λ t. simp t)
+link_behind_lem mem base descriptors Missing = refl
+link_behind_lem mem base descriptors (Is d) = by_test (has_next d) (λ t. simp t) (λ t. simp t)

@@ -13,8 +13,8 @@ use Rattle.change.specs.declared.Change.TheVariants.{NoHost}
 use Rattle.change.specs.Change.{legal_at}
 
 -- past `if !sum_within(..) { return .. }`, and on the way out
-pub sum-within : (n limit : ℕ) (r : Bool) → r ≡ leb n limit → not r ≡ false → n ≤ limit
-sum-within n limit r e t = leb-true n limit (passed _ _ e t)
+pub sum_within_lem : (n limit : ℕ) (r : Bool) → r ≡ leb n limit → not r ≡ false → n ≤ limit
+sum_within_lem n limit r e t = leb-true n limit (passed _ _ e t)
 
 pub sum_past : (n limit : ℕ) (r : Bool) → r ≡ leb n limit → not r ≡ true → limit < n
 sum_past n limit r e t = leb-false n limit (refused _ _ e t)

@@ -12,83 +12,83 @@ use Rattle.units.specs.declared.HostAddr.{HostAddr}
 use Rattle.units.specs.Numbers.{top, bytes_of, blocks_in, map_region}
 use Rattle.units.proofs.Tests.{and_left, and_right}
 use Rattle.bitmap.specs.Blocks.{all_are, fill}
-use Rattle.bitmap.proofs.Laws.{all_split, fill-after}
+use Rattle.bitmap.proofs.Laws.{all_split, fill_after}
 use Rattle.rows.specs.declared.MapRow.{MapRow}
 use Rattle.rows.specs.declared.Mapping.{Mapping}
 use Rattle.rows.specs.declared.Mapping.TheVariants.{At as MappedAt, Unmapped as NotMapped}
 use Rattle.rows.specs.Rows.{mapping_of}
 use Rattle.change.specs.declared.HostRange.TheVariants.{At}
 use Rattle.change.specs.Change.{host_sum, host_in, host_of}
-use Rattle.change.proofs.Laws.{sum_is, in-map-region, host-is, IsLegal}
+use Rattle.change.proofs.Laws.{sum_is, in_map_region, host_is, IsLegal}
 
 -- ---- (d): s bytes and the t bytes behind them
-sum-when : (base offset size : ℕ) → base + offset + size ≤ top → host_sum base offset size ≡ At (record { 0 = base + offset })
+sum_when : (base offset size : ℕ) → base + offset + size ≤ top → host_sum base offset size ≡ At (record { 0 = base + offset })
 unfolding host_sum
-sum-when base offset size h = rw (le-ltb top (base + offset + size) h)
+sum_when base offset size h = rw (le-ltb top (base + offset + size) h)
 
 -- in one mapping
 module _ (offset s t : ℕ) (host : HostAddr) where
-  in-first : (m : Mapping) → host_in m offset (s + t) ≡ At host → host_in m offset s ≡ At host
+  in_first : (m : Mapping) → host_in m offset (s + t) ≡ At host → host_in m offset s ≡ At host
   unfolding host_in
-  in-first (MappedAt base) e =
+  in_first (MappedAt base) e =
       let p = sum_is base.0 offset (s + t) host e in
-      sum-when base.0 offset s (omega (arith, p.0)) ∙ ap At (sym p.1)
-  in-first NotMapped e = let z : ◌≡◌ {A = ℕ} 0 1 = cc in absurd (omega arith)
+      sum_when base.0 offset s (omega (arith, p.0)) ∙ ap At (sym p.1)
+  in_first NotMapped e = let z : ◌≡◌ {A = ℕ} 0 1 = cc in absurd (omega arith)
 
-  in-second : (m : Mapping) → host_in m offset (s + t) ≡ At host → host_in m (offset + s) t ≡ At (record { 0 = host.0 + s })
+  in_second : (m : Mapping) → host_in m offset (s + t) ≡ At host → host_in m (offset + s) t ≡ At (record { 0 = host.0 + s })
   unfolding host_in
-  in-second (MappedAt base) e =
+  in_second (MappedAt base) e =
       let p = sum_is base.0 offset (s + t) host e in
       let h : host.0 ≡ base.0 + offset = ap (λ (x : HostAddr). x.0) p.1 in
       let w : base.0 + (offset + s) ≡ host.0 + s = omega arith in
-      sum-when base.0 (offset + s) t (omega (arith, p.0)) ∙ ap (λ n. At (record { 0 = n })) w
-  in-second NotMapped e = let z : ◌≡◌ {A = ℕ} 0 1 = cc in absurd (omega arith)
+      sum_when base.0 (offset + s) t (omega (arith, p.0)) ∙ ap (λ n. At (record { 0 = n })) w
+  in_second NotMapped e = let z : ◌≡◌ {A = ℕ} 0 1 = cc in absurd (omega arith)
 
-  in-joined : (m : Mapping) (behind : HostAddr) → host_in m offset s ≡ At host → host_in m (offset + s) t ≡ At behind → host_in m offset (s + t) ≡ At host
+  in_joined : (m : Mapping) (behind : HostAddr) → host_in m offset s ≡ At host → host_in m (offset + s) t ≡ At behind → host_in m offset (s + t) ≡ At host
   unfolding host_in
-  in-joined (MappedAt base) behind e f =
+  in_joined (MappedAt base) behind e f =
       let p = sum_is base.0 offset s host e in
       let q = sum_is base.0 (offset + s) t behind f in
-      sum-when base.0 offset (s + t) (omega (arith, q.0)) ∙ ap At (sym p.1)
-  in-joined NotMapped behind e f = let z : ◌≡◌ {A = ℕ} 0 1 = cc in absurd (omega arith)
+      sum_when base.0 offset (s + t) (omega (arith, q.0)) ∙ ap At (sym p.1)
+  in_joined NotMapped behind e f = let z : ◌≡◌ {A = ℕ} 0 1 = cc in absurd (omega arith)
 
 -- in the map table
 module _ (rows : List MapRow) (offset size : ℕ) (host : HostAddr) where
-  within-region : offset % map_region + size ≤ map_region → host_in (mapping_of rows (offset / map_region)) (offset % map_region) size ≡ At host → host_of true rows offset size ≡ At host
+  within_region : offset % map_region + size ≤ map_region → host_in (mapping_of rows (offset / map_region)) (offset % map_region) size ≡ At host → host_of true rows offset size ≡ At host
   unfolding host_of
-  within-region h e = rw (le-ltb map_region (offset % map_region + size) h) e
+  within_region h e = rw (le-ltb map_region (offset % map_region + size) h) e
 
 module _ (rows : List MapRow) (offset s t : ℕ) (host : HostAddr) where
   -- where the s bytes end before the border, the t bytes are of the same map region
-  same-region : offset % map_region + s < map_region → ((offset + s) / map_region ≡ offset / map_region) × ((offset + s) % map_region ≡ offset % map_region + s)
-  same-region h = (omega arith, omega arith)
+  same_region : offset % map_region + s < map_region → ((offset + s) / map_region ≡ offset / map_region) × ((offset + s) % map_region ≡ offset % map_region + s)
+  same_region h = (omega arith, omega arith)
 
-  pub host-first : (several : Bool) → host_of several rows offset (s + t) ≡ At host → host_of several rows offset s ≡ At host
+  pub host_first : (several : Bool) → host_of several rows offset (s + t) ≡ At host → host_of several rows offset s ≡ At host
   unfolding host_of
-  host-first true e =
-      let p = in-map-region rows offset (s + t) host e in
-      within-region rows offset s host (omega (arith, p.0)) (in-first (offset % map_region) s t host _ p.1)
-  host-first false e = in-first offset s t host _ e
+  host_first true e =
+      let p = in_map_region rows offset (s + t) host e in
+      within_region rows offset s host (omega (arith, p.0)) (in_first (offset % map_region) s t host _ p.1)
+  host_first false e = in_first offset s t host _ e
 
-  pub host-second : (several : Bool) → 0 < t → host_of several rows offset (s + t) ≡ At host → host_of several rows (offset + s) t ≡ At (record { 0 = host.0 + s })
+  pub host_second : (several : Bool) → 0 < t → host_of several rows offset (s + t) ≡ At host → host_of several rows (offset + s) t ≡ At (record { 0 = host.0 + s })
   unfolding host_of
-  host-second true more e =
-      let p = in-map-region rows offset (s + t) host e in
-      let r = same-region (omega (arith, p.0)) in
-      within-region rows (offset + s) t _ (omega (arith, p.0)) (rw (r.0, r.1) (in-second (offset % map_region) s t host _ p.1))
-  host-second false more e = in-second offset s t host _ e
+  host_second true more e =
+      let p = in_map_region rows offset (s + t) host e in
+      let r = same_region (omega (arith, p.0)) in
+      within_region rows (offset + s) t _ (omega (arith, p.0)) (rw (r.0, r.1) (in_second (offset % map_region) s t host _ p.1))
+  host_second false more e = in_second offset s t host _ e
 
-  pub host-joined : (several : Bool) (behind : HostAddr) → (several ≡ true → (offset + s) % map_region ≡ 0 → ⊥) → host_of several rows offset s ≡ At host → host_of several rows (offset + s) t ≡ At behind → host_of several rows offset (s + t) ≡ At host
+  pub host_joined : (several : Bool) (behind : HostAddr) → (several ≡ true → (offset + s) % map_region ≡ 0 → ⊥) → host_of several rows offset s ≡ At host → host_of several rows (offset + s) t ≡ At behind → host_of several rows offset (s + t) ≡ At host
   unfolding host_of
-  host-joined true behind seam e f =
-      let p = in-map-region rows offset s host e in
-      let q = in-map-region rows (offset + s) t behind f in
-      let r = same-region (before (seam refl) p.0) in
-      within-region rows offset (s + t) host (omega (arith, q.0)) (in-joined (offset % map_region) s t host _ behind p.1 (rw (r.0, r.1) at q.1))
+  host_joined true behind seam e f =
+      let p = in_map_region rows offset s host e in
+      let q = in_map_region rows (offset + s) t behind f in
+      let r = same_region (before (seam refl) p.0) in
+      within_region rows offset (s + t) host (omega (arith, q.0)) (in_joined (offset % map_region) s t host _ behind p.1 (rw (r.0, r.1) at q.1))
     where
       before : ((offset + s) % map_region ≡ 0 → ⊥) → offset % map_region + s ≤ map_region → offset % map_region + s < map_region
       before apart l = omega (arith, apart)
-  host-joined false behind seam e f = in-joined offset s t host _ behind e f
+  host_joined false behind seam e f = in_joined offset s t host _ behind e f
 
 -- ---- (b), (c) and (d) of k + m blocks, and of k and then m
 module _ (b start usable : ℕ) (several : Bool) (addr k m : ℕ) (wanted : Bool) (bs : List Bool) (rows : List MapRow) (positive : 0 < b) (first : ℕ) (offset : RegionOffset) (host : HostAddr) where
@@ -96,67 +96,67 @@ module _ (b start usable : ℕ) (several : Bool) (addr k m : ℕ) (wanted : Bool
   bytes = add-mul k m b
 
   -- the first k
-  pub legal-first : 0 < k → IsLegal b start usable several addr (k + m) wanted bs rows first offset host → IsLegal b start usable several addr k wanted bs rows first offset host
-  legal-first k-some l =
-      let r = l.in-range in
+  pub legal_first : 0 < k → IsLegal b start usable several addr (k + m) wanted bs rows first offset host → IsLegal b start usable several addr k wanted bs rows first offset host
+  legal_first k-some l =
+      let r = l.in_range in
       let e = bytes in
-      let h = host-first rows offset.0 (bytes_of b k) (bytes_of b m) host several (rw e at l.host-at) in
+      let h = host_first rows offset.0 (bytes_of b k) (bytes_of b m) host several (rw e at l.host_at) in
       record {
-        in-range = record { aligned = r.aligned; some = k-some; below_top = omega (arith, r.below_top); from_start = r.from_start; offset-is = r.offset-is; in-usable = omega (arith, r.in-usable) };
-        first-is = l.first-is;
+        in_range = record { aligned = r.aligned; some = k-some; below_top = omega (arith, r.below_top); from_start = r.from_start; offset_is = r.offset_is; in_usable = omega (arith, r.in_usable) };
+        first_is = l.first_is;
         not-wanted = and_left _ _ (sym (all_split bs first k m (not wanted)) ∙ l.not-wanted);
-        host-at = h;
-        hosted = host-is several rows offset.0 (bytes_of b k) host h;
+        host_at = h;
+        hosted = host_is several rows offset.0 (bytes_of b k) host h;
       }
 
   -- then the other m, where those k are in the wanted state
-  pub legal-second : 0 < m → IsLegal b start usable several addr (k + m) wanted bs rows first offset host
+  pub legal_second : 0 < m → IsLegal b start usable several addr (k + m) wanted bs rows first offset host
       → IsLegal b start usable several (addr + bytes_of b k) m wanted (fill bs first k wanted) rows (first + k) (record { 0 = offset.0 + bytes_of b k }) (record { 0 = host.0 + bytes_of b k })
-  legal-second m-some l =
-      let r = l.in-range in
+  legal_second m-some l =
+      let r = l.in_range in
       let e = bytes in
       let more : 0 < bytes_of b m = mul-pos m-some positive in
-      let h = host-second rows offset.0 (bytes_of b k) (bytes_of b m) host several more (rw e at l.host-at) in
+      let h = host_second rows offset.0 (bytes_of b k) (bytes_of b m) host several more (rw e at l.host_at) in
       record {
-        in-range = record {
+        in_range = record {
           aligned = add-mul-mod_self_right addr k b ∙ r.aligned;
           some = m-some;
           below_top = omega (arith, r.below_top);
           from_start = omega (arith, r.from_start);
-          offset-is = omega (arith, r.from_start, r.offset-is);
-          in-usable = omega (arith, r.in-usable);
+          offset_is = omega (arith, r.from_start, r.offset_is);
+          in_usable = omega (arith, r.in_usable);
         };
-        first-is = ap (λ n. n + k) l.first-is ∙ sym (add-mul-div_right offset.0 k positive);
-        not-wanted = rw (fill-after bs first k wanted (first + k) m (omega arith)) (and_right (all_are bs first k (not wanted)) _ (sym (all_split bs first k m (not wanted)) ∙ l.not-wanted));
-        host-at = h;
-        hosted = host-is several rows (offset.0 + bytes_of b k) (bytes_of b m) _ h;
+        first_is = ap (λ n. n + k) l.first_is ∙ sym (add-mul-div_right offset.0 k positive);
+        not-wanted = rw (fill_after bs first k wanted (first + k) m (omega arith)) (and_right (all_are bs first k (not wanted)) _ (sym (all_split bs first k m (not wanted)) ∙ l.not-wanted));
+        host_at = h;
+        hosted = host_is several rows (offset.0 + bytes_of b k) (bytes_of b m) _ h;
       }
 
   -- and the other way, where with several regions no border of map regions lies between
-  pub legal-joined : (second : ℕ) (offset' : RegionOffset) (host' : HostAddr) → (several ≡ true → (offset.0 + bytes_of b k) % map_region ≡ 0 → ⊥)
+  pub legal_joined : (second : ℕ) (offset' : RegionOffset) (host' : HostAddr) → (several ≡ true → (offset.0 + bytes_of b k) % map_region ≡ 0 → ⊥)
       → IsLegal b start usable several addr k wanted bs rows first offset host
       → IsLegal b start usable several (addr + bytes_of b k) m wanted (fill bs first k wanted) rows second offset' host'
       → IsLegal b start usable several addr (k + m) wanted bs rows first offset host
-  legal-joined second offset' host' seam l l' =
-      let r = l.in-range in
-      let r' = l'.in-range in
+  legal_joined second offset' host' seam l l' =
+      let r = l.in_range in
+      let r' = l'.in_range in
       let e = bytes in
-      let o : offset'.0 ≡ offset.0 + bytes_of b k = omega (arith, r.from_start, r.offset-is, r'.offset-is) in
-      let f : second ≡ first + k = l'.first-is ∙ ap (blocks_in b) o ∙ add-mul-div_right offset.0 k positive ∙ ap (λ n. n + k) (sym l.first-is) in
-      let h : host_of several rows offset.0 (bytes_of b (k + m)) ≡ At host = rw e (host-joined rows offset.0 (bytes_of b k) (bytes_of b m) host several host' seam l.host-at (rw o at l'.host-at)) in
-      let n : all_are bs (first + k) m (not wanted) ≡ true = rw (f, fill-after bs first k wanted (first + k) m (omega arith)) at l'.not-wanted in
+      let o : offset'.0 ≡ offset.0 + bytes_of b k = omega (arith, r.from_start, r.offset_is, r'.offset_is) in
+      let f : second ≡ first + k = l'.first_is ∙ ap (blocks_in b) o ∙ add-mul-div_right offset.0 k positive ∙ ap (λ n. n + k) (sym l.first_is) in
+      let h : host_of several rows offset.0 (bytes_of b (k + m)) ≡ At host = rw e (host_joined rows offset.0 (bytes_of b k) (bytes_of b m) host several host' seam l.host_at (rw o at l'.host_at)) in
+      let n : all_are bs (first + k) m (not wanted) ≡ true = rw (f, fill_after bs first k wanted (first + k) m (omega arith)) at l'.not-wanted in
       record {
-        in-range = record { aligned = r.aligned; some = omega (arith, r.some); below_top = omega (arith, r'.below_top); from_start = r.from_start; offset-is = r.offset-is; in-usable = omega (arith, r'.in-usable) };
-        first-is = l.first-is;
+        in_range = record { aligned = r.aligned; some = omega (arith, r.some); below_top = omega (arith, r'.below_top); from_start = r.from_start; offset_is = r.offset_is; in_usable = omega (arith, r'.in_usable) };
+        first_is = l.first_is;
         not-wanted = rw (all_split bs first k m (not wanted), l.not-wanted) n;
-        host-at = h;
-        hosted = host-is several rows offset.0 (bytes_of b (k + m)) host h;
+        host_at = h;
+        hosted = host_is several rows offset.0 (bytes_of b (k + m)) host h;
       }
 
   -- which it then does not: a legal change of both has no border at the seam
-  pub no-seam : 0 < k → 0 < m → several ≡ true → IsLegal b start usable several addr (k + m) wanted bs rows first offset host → (offset.0 + bytes_of b k) % map_region ≡ 0 → ⊥
-  no-seam k-some m-some s l z =
+  pub no_seam : 0 < k → 0 < m → several ≡ true → IsLegal b start usable several addr (k + m) wanted bs rows first offset host → (offset.0 + bytes_of b k) % map_region ≡ 0 → ⊥
+  no_seam k-some m-some s l z =
       let e = bytes in
       let less : 0 < bytes_of b k = mul-pos k-some positive in
       let more : 0 < bytes_of b m = mul-pos m-some positive in
-      omega (arith, l.hosted.one-map-region s)
+      omega (arith, l.hosted.one_map_region s)

@@ -19,14 +19,14 @@ use Rattle.change.specs.declared.Change.TheVariants.{Legal, Outside, WrongState,
 use Rattle.change.specs.Change.{range_of, host_of, legal_at, change_in, change_of}
 use Rattle.change.specs.Why.{part_why, host_why, wrong_state, Reasoned}
 
-pub part-reasoned : (part : Part) → Reasoned 3 (part_why part)
+pub part_reasoned : (part : Part) → Reasoned 3 (part_why part)
 unfolding part_why
-part-reasoned Alignment = record { exactly = refl; most = omega arith }
-part-reasoned ZeroBlocks = record { exactly = refl; most = omega arith }
-part-reasoned Overflow = record { exactly = refl; most = omega arith }
-part-reasoned BelowStart = record { exactly = refl; most = omega arith }
-part-reasoned PastUsable = record { exactly = refl; most = omega arith }
-part-reasoned EndPastUsable = record { exactly = refl; most = omega arith }
+part_reasoned Alignment = record { exactly = refl; most = omega arith }
+part_reasoned ZeroBlocks = record { exactly = refl; most = omega arith }
+part_reasoned Overflow = record { exactly = refl; most = omega arith }
+part_reasoned BelowStart = record { exactly = refl; most = omega arith }
+part_reasoned PastUsable = record { exactly = refl; most = omega arith }
+part_reasoned EndPastUsable = record { exactly = refl; most = omega arith }
 
 -- what holds of the reason of a change that is not legal
 unfoldable pub Failed : (ℕ → Type 0) → Change → Type 0
@@ -35,25 +35,25 @@ Failed P (Outside part) = P (part_why part)
 Failed P WrongState = P wrong_state
 Failed P (NoHost host) = P (host_why host)
 
-host-failed : (b offset : ℕ) (h : HostRange) → Failed (Reasoned 3) (legal_at b offset h)
+host_failed : (b offset : ℕ) (h : HostRange) → Failed (Reasoned 3) (legal_at b offset h)
 unfolding Failed legal_at host_why
-host-failed b offset (At host) = tt
-host-failed b offset CrossesBorder = record { exactly = refl; most = omega arith }
-host-failed b offset Unmapped = record { exactly = refl; most = omega arith }
-host-failed b offset SumPasses = record { exactly = refl; most = omega arith }
+host_failed b offset (At host) = tt
+host_failed b offset CrossesBorder = record { exactly = refl; most = omega arith }
+host_failed b offset Unmapped = record { exactly = refl; most = omega arith }
+host_failed b offset SumPasses = record { exactly = refl; most = omega arith }
 
-pub either-failed : (P : ℕ → Type 0) (t : Bool) (x y : Change) → Failed P x → Failed P y → Failed P (cond t x y)
-either-failed P true x y p q = p
-either-failed P false x y p q = q
+pub either_failed : (P : ℕ → Type 0) (t : Bool) (x y : Change) → Failed P x → Failed P y → Failed P (cond t x y)
+either_failed P true x y p q = p
+either_failed P false x y p q = q
 
-in-failed : (r : Range) (b : ℕ) (several : Bool) (count : ℕ) (wanted : Bool) (blocks : List Bool) (rows : List MapRow) → Failed (Reasoned 3) (change_in r b several count wanted blocks rows)
+in_failed : (r : Range) (b : ℕ) (several : Bool) (count : ℕ) (wanted : Bool) (blocks : List Bool) (rows : List MapRow) → Failed (Reasoned 3) (change_in r b several count wanted blocks rows)
 unfolding Failed change_in
-in-failed (Inside offset) b several count wanted blocks rows =
-    either-failed (Reasoned 3) (all_are blocks (blocks_in b offset.0) count (not wanted)) _ _
-    (host-failed b offset.0 (host_of several rows offset.0 (bytes_of b count)))
+in_failed (Inside offset) b several count wanted blocks rows =
+    either_failed (Reasoned 3) (all_are blocks (blocks_in b offset.0) count (not wanted)) _ _
+    (host_failed b offset.0 (host_of several rows offset.0 (bytes_of b count)))
     (record { exactly = refl; most = omega arith })
-in-failed (NotInside part) b several count wanted blocks rows = part-reasoned part
+in_failed (NotInside part) b several count wanted blocks rows = part_reasoned part
 
-pub change-failed : (b start usable : ℕ) (several : Bool) (addr count : ℕ) (wanted : Bool) (blocks : List Bool) (rows : List MapRow) → Failed (Reasoned 3) (change_of b start usable several addr count wanted blocks rows)
-change-failed b start usable several addr count wanted blocks rows =
-    in-failed (range_of b start usable addr count) b several count wanted blocks rows
+pub change_failed : (b start usable : ℕ) (several : Bool) (addr count : ℕ) (wanted : Bool) (blocks : List Bool) (rows : List MapRow) → Failed (Reasoned 3) (change_of b start usable several addr count wanted blocks rows)
+change_failed b start usable several addr count wanted blocks rows =
+    in_failed (range_of b start usable addr count) b several count wanted blocks rows

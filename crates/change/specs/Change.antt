@@ -44,7 +44,7 @@ host_in NotMapped offset size = Unmapped
 abbrev pub row_of : (several : Bool) (offset : ℕ) → ℕ
 row_of several offset = cond several (offset / map_region) 0
 
--- R10.6: test (d). That the row is in the table is not tested (R10.7): it is (`row-in-table` of `step`)
+-- R10.6: test (d). That the row is in the table is not tested (R10.7): it is (`row_in_table` of `step`)
 unfoldable pub host_of : (several : Bool) → List MapRow → (offset size : ℕ) → HostRange
 host_of several rows offset size =
     cond several
@@ -76,7 +76,7 @@ change_of b start usable several addr count wanted blocks rows =
 unfoldable pub state_in : List Bool → ℕ
 state_in blocks = cond (every true blocks) 0 (cond (every false blocks) 1 2)
 
--- R10.16. That it is 0 where there are no blocks is proved: `state-none-there`, `state-below-start`, `state-no-blocks`
+-- R10.16. That it is 0 where there are no blocks is proved: `state_none_there`, `state_below_start`, `state_no_blocks`
 unfoldable pub state_of : (b start region addr count : ℕ) → List Bool → ℕ
 state_of b start region addr count blocks =
     cond (ltb addr start) 0 (state_in (range (take (blocks_in b region) blocks) (blocks_in b (addr - start)) count))

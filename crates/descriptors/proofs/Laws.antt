@@ -7,7 +7,7 @@ use mathlib.Core.List.{List}
 use native.Mathlib.Omega.{arith}
 use borrow.Author.Tests.{leb-true}
 use lib.Dec.{leb}
-use Rattle.units.proofs.Tests.{by-test, and_left, and_right}
+use Rattle.units.proofs.Tests.{by_test, and_left, and_right}
 use Rattle.little_endian.specs.Bytes.{part}
 use Rattle.little_endian.proofs.Laws.{part-part}
 use Rattle.descriptors.specs.declared.Place.{Place}
@@ -19,25 +19,25 @@ use Rattle.descriptors.specs.Descriptors.{inside, place_of}
 
 -- n bytes at addr lie inside len bytes at base
 pub record Inside (len base addr n : ℕ) : Type 0 where
-  pub from-base : base ≤ addr
+  pub from_base : base ≤ addr
   pub to_end : addr + n ≤ base + len
   pub to_last : addr + n ≤ 2 ^ 64
 
-pub inside-facts : (len base addr n : ℕ) → inside len base addr n ≡ true → Inside len base addr n
+pub inside_facts : (len base addr n : ℕ) → inside len base addr n ≡ true → Inside len base addr n
 unfolding inside
-inside-facts len base addr n e =
+inside_facts len base addr n e =
     let ends = and_right (leb base addr) (leb (addr + n) (base + len) && leb (addr + n) (2 ^ 64)) e in
     record {
-      from-base = leb-true _ _ (and_left (leb base addr) _ e);
+      from_base = leb-true _ _ (and_left (leb base addr) _ e);
       to_end = leb-true _ _ (and_left (leb (addr + n) (base + len)) (leb (addr + n) (2 ^ 64)) ends);
       to_last = leb-true _ _ (and_right (leb (addr + n) (base + len)) (leb (addr + n) (2 ^ 64)) ends);
     }
 
 -- bytes that pass 2^64 - 1 do not
-pub past-last : (len base addr n : ℕ) → 2 ^ 64 < addr + n → inside len base addr n ≡ false
-past-last len base addr n h =
-    by-test (inside len base addr n)
-    (λ t. let i = inside-facts len base addr n t in absurd (omega arith))
+pub past_last : (len base addr n : ℕ) → 2 ^ 64 < addr + n → inside len base addr n ≡ false
+past_last len base addr n h =
+    by_test (inside len base addr n)
+    (λ t. let i = inside_facts len base addr n t in absurd (omega arith))
     (λ t. t)
 
 -- a place is told exactly where they lie inside, and is how far they lie past the base
@@ -49,26 +49,26 @@ pub record Found (len base addr n at : ℕ) : Type 0 where
 pub place_found : (p : Place) (len base addr n at : ℕ) → p ≡ place_of len base addr n → p ≡ At at → Found len base addr n at
 unfolding place_of
 place_found p len base addr n at told is =
-    by-test (inside len base addr n)
+    by_test (inside len base addr n)
     (λ t.
     record {
       lies = t;
-      facts = inside-facts len base addr n t;
+      facts = inside_facts len base addr n t;
       place = let q : p ≡ At (addr - base) = told ∙ simp t in cc;
     })
     (λ t. absurd (let q : p ≡ Outside = told ∙ simp t in let z : ◌≡◌ {A = ℕ} 0 1 = cc in omega arith))
 
-pub place-outside : (p : Place) (len base addr n : ℕ) → p ≡ place_of len base addr n → p ≡ Outside → inside len base addr n ≡ false
+pub place_outside : (p : Place) (len base addr n : ℕ) → p ≡ place_of len base addr n → p ≡ Outside → inside len base addr n ≡ false
 unfolding place_of
-place-outside p len base addr n told is =
-    by-test (inside len base addr n)
+place_outside p len base addr n told is =
+    by_test (inside len base addr n)
     (λ t. absurd (let q : p ≡ At (addr - base) = told ∙ simp t in let z : ◌≡◌ {A = ℕ} 0 1 = cc in omega arith))
     (λ t. t)
 
 -- a descriptor is its 16 bytes and nothing else
-pub descriptor-part : (mem : List ℕ) (at : ℕ) → descriptor_at mem at ≡ descriptor_at (part mem at 16) 0
+pub descriptor_part : (mem : List ℕ) (at : ℕ) → descriptor_at mem at ≡ descriptor_at (part mem at 16) 0
 unfolding descriptor_at
-descriptor-part mem at =
+descriptor_part mem at =
     let zero : at + 0 ≡ at = omega arith in
     let addr = part-part mem at 16 0 8 (omega arith) in
     let len = part-part mem at 16 8 4 (omega arith) in

@@ -10,8 +10,8 @@ use Rattle.wire.specs.declared.VirtioMemConfig.{VirtioMemConfig}
 use Rattle.little_endian.specs.Bytes.{part, put}
 use Rattle.wire.specs.Layout.{request_at, response_bytes, config_bytes}
 use Rattle.little_endian.proofs.Laws.{part-put}
-use Rattle.wire.proofs.Laws.{request-part, length-response, length-config}
-use Rattle.wire.proofs.Standard.{request, request-size}
+use Rattle.wire.proofs.Laws.{request_part, length_response, length_config}
+use Rattle.wire.proofs.Standard.{request, request_size}
 use Rattle.driver.specs.declared.GotResponse.{GotResponse}
 use Rattle.driver.specs.declared.GotResponse.TheVariants.{Response}
 use Rattle.driver.specs.declared.GotConfig.{GotConfig}
@@ -23,25 +23,25 @@ written : (xs : List ℕ) (at : ℕ) (ys : List ℕ) (n : ℕ) → length ys ≡
 written xs at ys n e h = rw e at (part-put xs at ys (rw e h))
 
 -- ---- the device reads the request that the driver wrote
-pub request-back : (xs : List ℕ) (at : ℕ) (q : VirtioMemReq) → at + 24 ≤ length xs → q.req_type < 256 ^ 2 → q.addr.0 < 256 ^ 8 → q.nb_blocks < 256 ^ 2
+pub request_back : (xs : List ℕ) (at : ℕ) (q : VirtioMemReq) → at + 24 ≤ length xs → q.req_type < 256 ^ 2 → q.addr.0 < 256 ^ 8 → q.nb_blocks < 256 ^ 2
     → request_at (put xs at (request_bytes q)) at ≡ q
-request-back xs at q h t a n =
-    request-part (put xs at (request_bytes q)) at
-    ∙ ap (λ (l : List ℕ). request_at l 0) (written xs at (request_bytes q) 24 (request-size q.req_type 0 0 0 q.addr.0 q.nb_blocks 0 0 0) h)
+request_back xs at q h t a n =
+    request_part (put xs at (request_bytes q)) at
+    ∙ ap (λ (l : List ℕ). request_at l 0) (written xs at (request_bytes q) 24 (request_size q.req_type 0 0 0 q.addr.0 q.nb_blocks 0 0 0) h)
     ∙ request q.req_type 0 0 0 q.addr.0 q.nb_blocks 0 0 0 t a n
 
-pub wrote-back : (q : VirtioMemReq) (entry exit : List ℕ) → Wrote q entry exit 0 → q.req_type < 256 ^ 2 → q.addr.0 < 256 ^ 8 → q.nb_blocks < 256 ^ 2 → 24 ≤ length entry → request_at exit 0 ≡ q
-wrote-back q entry exit w t a n h = ap (λ (l : List ℕ). request_at l 0) (w.whole h).1 ∙ request-back entry 0 q h t a n
+pub wrote_back : (q : VirtioMemReq) (entry exit : List ℕ) → Wrote q entry exit 0 → q.req_type < 256 ^ 2 → q.addr.0 < 256 ^ 8 → q.nb_blocks < 256 ^ 2 → 24 ≤ length entry → request_at exit 0 ≡ q
+wrote_back q entry exit w t a n h = ap (λ (l : List ℕ). request_at l 0) (w.whole h).1 ∙ request_back entry 0 q h t a n
 
 -- ---- the driver reads the response that the device wrote
-pub response-back : (xs : List ℕ) (at : ℕ) (v : VirtioMemResp) → at + 10 ≤ length xs → v.resp_type ≤ 3 → v.state ≤ 2
+pub response_back : (xs : List ℕ) (at : ℕ) (v : VirtioMemResp) → at + 10 ≤ length xs → v.resp_type ≤ 3 → v.state ≤ 2
     → (r : GotResponse) → ReadsResponse (drop at (put xs at (response_bytes v))) r → r ≡ Response v
 unfolding part
-response-back xs at v h t s r p =
-    p.only v (record { text = written xs at (response_bytes v) 10 (length-response v) h; type-known = t; state-known = s })
+response_back xs at v h t s r p =
+    p.only v (record { text = written xs at (response_bytes v) 10 (length_response v) h; type_known = t; state_known = s })
 
 -- ---- the driver reads the config that the device wrote
-pub config-back : (xs : List ℕ) (c : VirtioMemConfig) → 56 ≤ length xs → ConfigFits c
+pub config_back : (xs : List ℕ) (c : VirtioMemConfig) → 56 ≤ length xs → ConfigFits c
     → (r : GotConfig) → ReadsConfig (put xs 0 (drop 0 (config_bytes c))) r → r ≡ Config c
 unfolding part
-config-back xs c h f r p = p.only c (record { text = written xs 0 (config_bytes c) 56 (length-config c) h; fits = f })
+config_back xs c h f r p = p.only c (record { text = written xs 0 (config_bytes c) 56 (length_config c) h; fits = f })

@@ -24,8 +24,8 @@ pub record Wrote (q : VirtioMemReq) (entry exit : List ℕ) (r : ℕ) : Type 0 w
 -- R14.2: the first 10 bytes are the text of v, whose type and state are known ones
 pub record ResponseText (xs : List ℕ) (v : VirtioMemResp) : Type 0 where
   pub text : take 10 xs ≡ response_bytes v
-  pub type-known : v.resp_type ≤ 3
-  pub state-known : v.state ≤ 2
+  pub type_known : v.resp_type ≤ 3
+  pub state_known : v.state ≤ 2
 
 -- v is given exactly if the bytes are its text; otherwise 16
 pub record ReadsResponse (xs : List ℕ) (r : GotResponse) : Type 0 where

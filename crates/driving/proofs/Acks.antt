@@ -10,7 +10,7 @@ use lib.ListN.{length}
 use borrow.Author.Tests.{le-ltb, le-leb, ltb-false, eqb-false}
 use Rattle.units.specs.Numbers.{top, bytes_of, blocks_in, map_region}
 use Rattle.units.specs.declared.GuestAddr.{GuestAddr}
-use Rattle.units.proofs.Tests.{by-test}
+use Rattle.units.proofs.Tests.{by_test}
 use Rattle.bitmap.specs.Blocks.{next_clear}
 use Rattle.bitmap.specs.declared.Found.{Found}
 use Rattle.bitmap.specs.declared.Found.TheVariants.{At, Nothing}
@@ -18,14 +18,14 @@ use Rattle.wire.specs.declared.VirtioMemConfig.{VirtioMemConfig}
 use Rattle.chain.specs.declared.Parsed.TheVariants.{Request as Got}
 use Rattle.chain.specs.Chain.{parsed}
 use Rattle.record.specs.Shape.{config_shaped_of}
-use Rattle.record.proofs.Laws.{shaped-is}
+use Rattle.record.proofs.Laws.{shaped_is}
 use Rattle.step.specs.World.{World, Guest, Request}
 use Rattle.step.specs.Step.{block_size, usable, plugged, requested, start, several, region_blocks, region_rows, tables_fit, ready_refusal, unless, plug_as, plug, serve, request, step}
 use Rattle.driver.specs.declared.Proposal.TheVariants.{Plug, Refused}
 use Rattle.driver.specs.Plan.{room_of, count_of, plan_at, plan_of}
-use Rattle.step.proofs.Entry.{ready-when}
+use Rattle.step.proofs.Entry.{ready_when}
 use Rattle.driving.specs.Sound.{Ready, PlugAcknowledged}
-use Rattle.driving.proofs.Legal.{proposed, some-count}
+use Rattle.driving.proofs.Legal.{proposed, some_count}
 
 clash : {A : Type 0} {n m : ℕ} {a : GuestAddr} → Refused n ≡ Plug a m → A
 clash e = let z : ◌≡◌ {A = ℕ} 0 1 = cc in absurd (omega arith)
@@ -38,7 +38,7 @@ pub record Planned (c : VirtioMemConfig) (bs : List Bool) (addr : GuestAddr) (n 
   pub lowest : next_clear bs 0 (blocks_in c.block_size c.usable_region_size) ≡ At first
   pub room : room_of c.block_size c.plugged_size c.requested_size ≡ 0 → ⊥
   pub addr_is : addr.0 ≡ c.addr.0 + bytes_of c.block_size first
-  pub count-is : n ≡ count_of c.block_size c.usable_region_size c.plugged_size c.requested_size bs first
+  pub count_is : n ≡ count_of c.block_size c.usable_region_size c.plugged_size c.requested_size bs first
 
 pub not-false : (t : Bool) → not t ≡ false → t ≡ true
 not-false true e = refl
@@ -57,12 +57,12 @@ module _ (c : VirtioMemConfig) (bs : List Bool) (addr : GuestAddr) (n : ℕ) whe
   abbrev short : Bool
   short = ltb (length bs) (blocks_in b c.region_size)
 
-  at-found : (x : Found) → config_shaped_of c ≡ true → short ≡ false → next_clear bs 0 end ≡ x
+  at_found : (x : Found) → config_shaped_of c ≡ true → short ≡ false → next_clear bs 0 end ≡ x
       → plan_at x b c.addr.0 c.usable_region_size c.plugged_size c.requested_size bs ≡ Plug addr n → Planned c bs addr n
   unfolding plan_at
-  at-found Nothing s l f e = clash e
-  at-found (At i) s l f e =
-      by-test (eqb room 0) (λ t. clash (simp t at e))
+  at_found Nothing s l f e = clash e
+  at_found (At i) s l f e =
+      by_test (eqb room 0) (λ t. clash (simp t at e))
       (λ t.
       let q = simp t at e in
       record {
@@ -72,23 +72,23 @@ module _ (c : VirtioMemConfig) (bs : List Bool) (addr : GuestAddr) (n : ℕ) whe
         lowest = f;
         room = eqb-false room 0 t;
         addr_is = cc;
-        count-is = cc;
+        count_is = cc;
       })
 
-  pub plan-is : plan_of c bs ≡ Plug addr n → Planned c bs addr n
+  pub plan_is : plan_of c bs ≡ Plug addr n → Planned c bs addr n
   unfolding plan_of
-  plan-is e =
-      by-test (not (config_shaped_of c)) (λ t. clash (simp t at e))
+  plan_is e =
+      by_test (not (config_shaped_of c)) (λ t. clash (simp t at e))
       (λ t.
-      by-test short (λ u. clash (simp (t, u) at e))
-      (λ u. at-found (next_clear bs 0 end) (not-false (config_shaped_of c) t) u refl (simp (t, u) at e)))
+      by_test short (λ u. clash (simp (t, u) at e))
+      (λ u. at_found (next_clear bs 0 end) (not-false (config_shaped_of c) t) u refl (simp (t, u) at e)))
 
 -- ---- a ready device is not refused
-pub ready-zero : (w : World) → Ready w → region_blocks w ≤ length w.blocks → ready_refusal w.device (length w.blocks) (length w.rows) ≡ 0
+pub ready_zero : (w : World) → Ready w → region_blocks w ≤ length w.blocks → ready_refusal w.device (length w.blocks) (length w.rows) ≡ 0
 unfolding tables_fit
-ready-zero w r h =
-    ready-when _ _ _
-    (record { shaped = r.shaped; idle = r.idle; is-placed = r.placed; fits = rw (le-leb (region_blocks w) (length w.blocks) h) (le-leb (region_rows w) (length w.rows) r.rows_fit) })
+ready_zero w r h =
+    ready_when _ _ _
+    (record { shaped = r.shaped; idle = r.idle; is_placed = r.placed; fits = rw (le-leb (region_blocks w) (length w.blocks) h) (le-leb (region_rows w) (length w.rows) r.rows_fit) })
 
 -- ---- as many blocks as proposed, or fewer, from the start of the proposal on
 module _ (w : World) (r : Ready w) (addr : GuestAddr) (n : ℕ) (e : plan_of w.device.config w.blocks ≡ Plug addr n)
@@ -96,18 +96,18 @@ module _ (w : World) (r : Ready w) (addr : GuestAddr) (n : ℕ) (e : plan_of w.d
   up_to : (m : ℕ) → (n ≡ 0 → ⊥) × (0 < m → m ≤ n → parsed g.mem g.base descriptors head ≡ Got (record { req_type = 0; addr = addr; nb_blocks = m }) status → PlugAcknowledged w addr.0 m status.0 g (step w (Request g descriptors head)))
   unfolding step unless request serve plug plug_as
   up_to m =
-      let p = plan-is w.device.config w.blocks addr n e in
-      let s = shaped-is w.device r.shaped in
-      let z = ready-zero w r p.long in
+      let p = plan_is w.device.config w.blocks addr n e in
+      let s = shaped_is w.device r.shaped in
+      let z = ready_zero w r p.long in
       let bsz = s.block_size in
       let pos : 0 < block_size w = omega arith in
       let whole : blocks_in (block_size w) map_region * block_size w ≡ map_region = rw bsz in
-      let al : start w % block_size w ≡ 0 = rw bsz s.start-blocks in
-      let ends : start w + usable w ≤ top = omega (arith, s.start-region, s.usable-in) in
-      let some = some-count (block_size w) (start w) (usable w) (plugged w) (requested w) (several w) w.blocks w.rows pos whole al ends r.sound p.first p.lowest p.room in (
-        (λ q. omega (arith, some, p.count-is)),
+      let al : start w % block_size w ≡ 0 = rw bsz s.start_blocks in
+      let ends : start w + usable w ≤ top = omega (arith, s.start_region, s.usable_in) in
+      let some = some_count (block_size w) (start w) (usable w) (plugged w) (requested w) (several w) w.blocks w.rows pos whole al ends r.sound p.first p.lowest p.room in (
+        (λ q. omega (arith, some, p.count_is)),
         λ h k q.
-            let l = proposed (block_size w) (start w) (usable w) (plugged w) (requested w) (several w) w.blocks w.rows pos whole al ends r.sound p.first p.lowest p.room m h (rw (← p.count-is) k) in
+            let l = proposed (block_size w) (start w) (usable w) (plugged w) (requested w) (several w) w.blocks w.rows pos whole al ends r.sound p.first p.lowest p.room m h (rw (← p.count_is) k) in
             let legal = rw (← p.addr_is) at l.legal in
             record { first = p.first; addr_is = p.addr_is; outcome = simp (z, q, le-ltb (requested w) (plugged w + bytes_of (block_size w) m) l.within, legal) },
       )
@@ -122,10 +122,10 @@ acknowledged w r addr n e g descriptors head status q =
     u.1 s (omega arith) q
 
 -- ---- and the plug of one block at its start
-pub one-acknowledged : (w : World) → Ready w → (addr : GuestAddr) (n : ℕ) → plan_of w.device.config w.blocks ≡ Plug addr n
+pub one_acknowledged : (w : World) → Ready w → (addr : GuestAddr) (n : ℕ) → plan_of w.device.config w.blocks ≡ Plug addr n
     → (g : Guest) (descriptors head : ℕ) (status : GuestAddr) → parsed g.mem g.base descriptors head ≡ Got (record { req_type = 0; addr = addr; nb_blocks = 1 }) status
     → PlugAcknowledged w addr.0 1 status.0 g (step w (Request g descriptors head))
-one-acknowledged w r addr n e g descriptors head status q =
+one_acknowledged w r addr n e g descriptors head status q =
     let u = up_to w r addr n e g descriptors head status 1 in
     let s : 1 ≤ n = omega (arith, u.0) in
     u.1 (omega arith) s q

@@ -11,108 +11,108 @@ use lib.Dec.{leb, ltb}
 use lib.ListN.{length}
 use Rattle.units.specs.Numbers.{blocks_in, map_region}
 use Rattle.units.specs.declared.GuestAddr.{GuestAddr}
-use Rattle.units.proofs.Tests.{by-test}
+use Rattle.units.proofs.Tests.{by_test}
 use Rattle.little_endian.specs.Bytes.{little_endian, part, put}
-use Rattle.little_endian.proofs.Laws.{length-put, part-part, part-put, part-put-before, part-put-behind}
+use Rattle.little_endian.proofs.Laws.{length-put, part-part, part-put, part-put_before, part-put_behind}
 use Rattle.wire.specs.declared.VirtioMemReq.{VirtioMemReq}
 use Rattle.wire.specs.declared.VirtioMemConfig.{VirtioMemConfig}
 use Rattle.wire.specs.Layout.{request_at}
-use Rattle.wire.proofs.Laws.{request-part}
-use Rattle.wire.proofs.Standard.{request as request-laid, request-size}
+use Rattle.wire.proofs.Laws.{request_part}
+use Rattle.wire.proofs.Standard.{request as request-laid, request_size}
 use Rattle.descriptors.specs.declared.Descriptor.{Descriptor}
 use Rattle.descriptors.specs.declared.Link.TheVariants.{Is}
 use Rattle.descriptors.specs.Standard.{virtq_desc, descriptor_addr}
 use Rattle.descriptors.specs.Descriptors.{inside, link_at, link_after}
-use Rattle.descriptors.proofs.Laws.{inside-facts}
-use Rattle.descriptors.proofs.Standard.{descriptor-laid}
+use Rattle.descriptors.proofs.Laws.{inside_facts}
+use Rattle.descriptors.proofs.Standard.{descriptor_laid}
 use Rattle.chain.specs.declared.Parsed.TheVariants.{Request as Got}
 use Rattle.chain.specs.Chain.{with_second, with_first, parsed}
-use Rattle.record.proofs.Laws.{config-shaped-is}
+use Rattle.record.proofs.Laws.{config_shaped_is}
 use Rattle.step.specs.Answers.{served_with}
 use Rattle.step.specs.World.{World, Guest, Request}
 use Rattle.step.specs.Step.{step, ack}
 use Rattle.driver.specs.declared.Proposal.TheVariants.{Plug, Refused}
 use Rattle.driver.specs.Plan.{plan_of}
 use Rattle.driver.specs.Text.{request_bytes, Wrote}
-use Rattle.driver.proofs.Laws.{count-few, starts}
+use Rattle.driver.proofs.Laws.{count_few, starts}
 use Rattle.driving.specs.Sound.{Ready, PlugAcknowledged}
 use Rattle.driving.specs.Chain.{BytesAt, RequestFits, HoldsRequest, plug_of, Places, first_addr, second_addr, NoOverlap, PlacesIn, put_at, laid_in, in66}
-use Rattle.driving.proofs.Acks.{plan-is, acknowledged, one-acknowledged}
-use Rattle.driving.proofs.Exact.{none-acknowledged}
+use Rattle.driving.proofs.Acks.{plan_is, acknowledged, one_acknowledged}
+use Rattle.driving.proofs.Exact.{none_acknowledged}
 
 module _ (g : Guest) (descriptors head : ℕ) (q : VirtioMemReq) (status : GuestAddr) (h : HoldsRequest g descriptors head q status) where
   abbrev first : Descriptor
-  first = record { addr = record { 0 = h.request-at }; len = 24; flags = 1; next = h.second-index }
+  first = record { addr = record { 0 = h.request_addr }; len = 24; flags = 1; next = h.second_index }
 
   abbrev second : Descriptor
-  second = record { addr = status; len = h.second-len; flags = 2; next = h.second-next }
+  second = record { addr = status; len = h.second_len; flags = 2; next = h.second_next }
 
-  first-link : link_at g.mem g.base descriptors head ≡ Is first
+  first_link : link_at g.mem g.base descriptors head ≡ Is first
   unfolding link_at
-  first-link =
-      let i = inside-facts (length g.mem) g.base h.request-at 24 h.request.lies in
-      let n = h.second-in-table in
-      rw (lt-ltb head 128 h.head-in-table, h.first.lies)
-      (ap Is (descriptor-laid g.mem (descriptor_addr descriptors head - g.base) first (record { addr = omega (arith, i.to_last); len = omega arith; flags = omega arith; next = omega arith }) h.first.are))
+  first_link =
+      let i = inside_facts (length g.mem) g.base h.request_addr 24 h.request.lies in
+      let n = h.second_in_table in
+      rw (lt-ltb head 128 h.head_in_table, h.first.lies)
+      (ap Is (descriptor_laid g.mem (descriptor_addr descriptors head - g.base) first (record { addr = omega (arith, i.to_last); len = omega arith; flags = omega arith; next = omega arith }) h.first.are))
 
-  second-link : link_at g.mem g.base descriptors h.second-index ≡ Is second
+  second_link_lem : link_at g.mem g.base descriptors h.second_index ≡ Is second
   unfolding link_at
-  second-link =
-      rw (lt-ltb h.second-index 128 h.second-in-table, h.second.lies)
-      (ap Is (descriptor-laid g.mem (descriptor_addr descriptors h.second-index - g.base) second (record { addr = h.status-fits; len = h.len-fits; flags = omega arith; next = h.next_fits }) h.second.are))
+  second_link_lem =
+      rw (lt-ltb h.second_index 128 h.second_in_table, h.second.lies)
+      (ap Is (descriptor_laid g.mem (descriptor_addr descriptors h.second_index - g.base) second (record { addr = h.status_fits; len = h.len_fits; flags = omega arith; next = h.next_fits }) h.second.are))
 
   -- the chain is parsed as the request, and its status address is the second descriptor's
-  pub held-parses : parsed g.mem g.base descriptors head ≡ Got q status
+  pub held_parses : parsed g.mem g.base descriptors head ≡ Got q status
   unfolding parsed with_first link_after with_second
-  held-parses =
-      let f = h.request-fits in
-      let r = request-part g.mem (h.request-at - g.base)
+  held_parses =
+      let f = h.request_fits in
+      let r = request_part g.mem (h.request_addr - g.base)
       ∙ ap (λ (bytes : List ℕ). request_at bytes 0) h.request.are
-      ∙ request-laid q.req_type 0 0 0 q.addr.0 q.nb_blocks 0 0 0 f.type-fits f.addr-fits f.blocks-fit in
-      rw (first-link, h.request.lies, second-link, r, le-ltb h.second-len 10 h.len-enough)
+      ∙ request-laid q.req_type 0 0 0 q.addr.0 q.nb_blocks 0 0 0 f.type_fits f.addr_fits f.blocks_fit in
+      rw (first_link, h.request.lies, second_link_lem, r, le-ltb h.second_len 10 h.len_enough)
 
 -- ---- a chain that was laid is held
-length-desc : (addr len flags next : ℕ) → length (virtq_desc addr len flags next) ≡ 16
+length_desc : (addr len flags next : ℕ) → length (virtq_desc addr len flags next) ≡ 16
 unfolding virtq_desc little_endian
-length-desc addr len flags next = refl
+length_desc addr len flags next = refl
 
-length-request : (q : VirtioMemReq) → length (request_bytes q) ≡ 24
-length-request q = request-size q.req_type 0 0 0 q.addr.0 q.nb_blocks 0 0 0
+length_request : (q : VirtioMemReq) → length (request_bytes q) ≡ 24
+length_request q = request_size q.req_type 0 0 0 q.addr.0 q.nb_blocks 0 0 0
 
 -- bytes that are written where they lie inside stand there
-put-stands : (g : Guest) (addr n : ℕ) (bytes : List ℕ) → length bytes ≡ n → inside (length g.mem) g.base addr n ≡ true → BytesAt (put_at g addr bytes) addr n bytes
-put-stands g addr n bytes e l =
-    let i = inside-facts (length g.mem) g.base addr n l in
+put_stands : (g : Guest) (addr n : ℕ) (bytes : List ℕ) → length bytes ≡ n → inside (length g.mem) g.base addr n ≡ true → BytesAt (put_at g addr bytes) addr n bytes
+put_stands g addr n bytes e l =
+    let i = inside_facts (length g.mem) g.base addr n l in
     record {
       lies = rw (length-put g.mem (addr - g.base) bytes) l;
-      are = rw e at (part-put g.mem (addr - g.base) bytes (omega (arith, i.from-base, i.to_end)));
+      are = rw e at (part-put g.mem (addr - g.base) bytes (omega (arith, i.from_base, i.to_end)));
     }
 
 -- and bytes apart from them stay
 part_apart : (xs : List ℕ) (base addr n other m : ℕ) (ys : List ℕ) → length ys ≡ m → base ≤ addr → base ≤ other → NoOverlap addr n other m
     → part (put xs (other - base) ys) (addr - base) n ≡ part xs (addr - base) n
-part_apart xs base addr n other m ys e a o (inl h) = part-put-before xs (other - base) ys (addr - base) n (omega arith)
-part_apart xs base addr n other m ys e a o (inr h) = part-put-behind xs (other - base) ys (addr - base) n (omega arith)
+part_apart xs base addr n other m ys e a o (inl h) = part-put_before xs (other - base) ys (addr - base) n (omega arith)
+part_apart xs base addr n other m ys e a o (inr h) = part-put_behind xs (other - base) ys (addr - base) n (omega arith)
 
-still-stands : (g : Guest) (addr n : ℕ) (bytes : List ℕ) (other m : ℕ) (more : List ℕ) → length more ≡ m → inside (length g.mem) g.base other m ≡ true → NoOverlap addr n other m
+still_stands : (g : Guest) (addr n : ℕ) (bytes : List ℕ) (other m : ℕ) (more : List ℕ) → length more ≡ m → inside (length g.mem) g.base other m ≡ true → NoOverlap addr n other m
     → BytesAt g addr n bytes → BytesAt (put_at g other more) addr n bytes
-still-stands g addr n bytes other m more e l apart s =
-    let i = inside-facts (length g.mem) g.base addr n s.lies in
-    let j = inside-facts (length g.mem) g.base other m l in
+still_stands g addr n bytes other m more e l apart s =
+    let i = inside_facts (length g.mem) g.base addr n s.lies in
+    let j = inside_facts (length g.mem) g.base other m l in
     record {
       lies = rw (length-put g.mem (other - g.base) more) s.lies;
-      are = part_apart g.mem g.base addr n other m more e i.from-base j.from-base apart ∙ s.are;
+      are = part_apart g.mem g.base addr n other m more e i.from_base j.from_base apart ∙ s.are;
     }
 
 -- the length stays
-pub length-laid : (g : Guest) (p : Places) (q : VirtioMemReq) → length (laid_in g p q).mem ≡ length g.mem
-length-laid g p q = rw (length-put, length-put, length-put)
+pub length_laid : (g : Guest) (p : Places) (q : VirtioMemReq) → length (laid_in g p q).mem ≡ length g.mem
+length_laid g p q = rw (length-put, length-put, length-put)
 
 module _ (g : Guest) (p : Places) (q : VirtioMemReq) (fit : PlacesIn g p) where
-  descs-apart : NoOverlap (first_addr p) 16 (second_addr p) 16
+  descs_apart : NoOverlap (first_addr p) 16 (second_addr p) 16
   unfolding descriptor_addr
-  descs-apart =
-      by-test (ltb p.head p.second)
+  descs_apart =
+      by_test (ltb p.head p.second)
       (λ t. let h = ltb-true p.head p.second t in inl (omega arith))
       (λ t. let h = ltb-false p.head p.second t in let n = fit.two in inr (omega arith))
 
@@ -128,76 +128,76 @@ module _ (g : Guest) (p : Places) (q : VirtioMemReq) (fit : PlacesIn g p) where
   abbrev two : Guest
   two = put_at one (second_addr p) second_bytes
 
-  second-lies : inside (length one.mem) g.base (second_addr p) 16 ≡ true
-  second-lies = rw (length-put g.mem (first_addr p - g.base) first_bytes) fit.second-lies
+  second_lies : inside (length one.mem) g.base (second_addr p) 16 ≡ true
+  second_lies = rw (length-put g.mem (first_addr p - g.base) first_bytes) fit.second_lies
 
-  request-lies : inside (length two.mem) g.base p.request 24 ≡ true
-  request-lies = rw (length-put one.mem (second_addr p - g.base) second_bytes, length-put g.mem (first_addr p - g.base) first_bytes) fit.request-lies
+  request_lies : inside (length two.mem) g.base p.request 24 ≡ true
+  request_lies = rw (length-put one.mem (second_addr p - g.base) second_bytes, length-put g.mem (first_addr p - g.base) first_bytes) fit.request_lies
 
-  pub laid-holds : RequestFits q → HoldsRequest (laid_in g p q) p.descriptors p.head q p.status
-  laid-holds f =
-      let d = length-desc p.request 24 1 p.second in
-      let e = length-desc p.status.0 p.len 2 0 in
-      let r = length-request q in
-      let a₁ = put-stands g (first_addr p) 16 first_bytes d fit.first-lies in
-      let a₂ = still-stands one (first_addr p) 16 first_bytes (second_addr p) 16 second_bytes e second-lies descs-apart a₁ in
-      let a₃ = still-stands two (first_addr p) 16 first_bytes p.request 24 (request_bytes q) r request-lies fit.first-apart a₂ in
-      let b₂ = put-stands one (second_addr p) 16 second_bytes e second-lies in
-      let b₃ = still-stands two (second_addr p) 16 second_bytes p.request 24 (request_bytes q) r request-lies fit.second-apart b₂ in
-      let c₃ = put-stands two p.request 24 (request_bytes q) r request-lies in
+  pub laid_holds : RequestFits q → HoldsRequest (laid_in g p q) p.descriptors p.head q p.status
+  laid_holds f =
+      let d = length_desc p.request 24 1 p.second in
+      let e = length_desc p.status.0 p.len 2 0 in
+      let r = length_request q in
+      let a₁ = put_stands g (first_addr p) 16 first_bytes d fit.first_lies in
+      let a₂ = still_stands one (first_addr p) 16 first_bytes (second_addr p) 16 second_bytes e second_lies descs_apart a₁ in
+      let a₃ = still_stands two (first_addr p) 16 first_bytes p.request 24 (request_bytes q) r request_lies fit.first_apart a₂ in
+      let b₂ = put_stands one (second_addr p) 16 second_bytes e second_lies in
+      let b₃ = still_stands two (second_addr p) 16 second_bytes p.request 24 (request_bytes q) r request_lies fit.second_apart b₂ in
+      let c₃ = put_stands two p.request 24 (request_bytes q) r request_lies in
       record {
-        request-at = p.request;
-        second-index = p.second;
-        second-len = p.len;
-        second-next = 0;
-        head-in-table = fit.head-in-table;
-        second-in-table = fit.second-in-table;
-        len-enough = fit.len-enough;
-        len-fits = fit.len-fits;
+        request_addr = p.request;
+        second_index = p.second;
+        second_len = p.len;
+        second_next = 0;
+        head_in_table = fit.head_in_table;
+        second_in_table = fit.second_in_table;
+        len_enough = fit.len_enough;
+        len_fits = fit.len_fits;
         next_fits = omega arith;
-        status-fits = fit.status-fits;
-        request-fits = f;
+        status_fits = fit.status_fits;
+        request_fits = f;
         first = a₃;
         second = b₃;
         request = c₃;
       }
 
 -- any 66 bytes of guest memory can hold any request
-pub is-inside : (len base addr n : ℕ) → base ≤ addr → addr + n ≤ base + len → addr + n ≤ 2 ^ 64 → inside len base addr n ≡ true
+pub is_inside : (len base addr n : ℕ) → base ≤ addr → addr + n ≤ base + len → addr + n ≤ 2 ^ 64 → inside len base addr n ≡ true
 unfolding inside
-is-inside len base addr n a b c = simp (le-leb base addr a, le-leb (addr + n) (base + len) b, le-leb (addr + n) (2 ^ 64) c)
+is_inside len base addr n a b c = simp (le-leb base addr a, le-leb (addr + n) (base + len) b, le-leb (addr + n) (2 ^ 64) c)
 
-pub in-66 : (g : Guest) → 66 ≤ length g.mem → g.base + 66 ≤ 2 ^ 64 → PlacesIn g (in66 g.base)
+pub in_66 : (g : Guest) → 66 ≤ length g.mem → g.base + 66 ≤ 2 ^ 64 → PlacesIn g (in66 g.base)
 unfolding descriptor_addr
-in-66 g long low =
+in_66 g long low =
     let n = length g.mem in
     let b = g.base in
     record {
-      head-in-table = omega arith;
-      second-in-table = omega arith;
+      head_in_table = omega arith;
+      second_in_table = omega arith;
       two = λ e. omega arith;
-      first-lies = is-inside n b (descriptor_addr b 0) 16 (omega arith) (omega arith) (omega arith);
-      second-lies = is-inside n b (descriptor_addr b 1) 16 (omega arith) (omega arith) (omega arith);
-      request-lies = is-inside n b (in66 b).request 24 (omega arith) (omega arith) (omega arith);
-      first-apart = inl (omega arith);
-      second-apart = inl (omega arith);
-      len-enough = omega arith;
-      len-fits = omega arith;
-      status-fits = omega arith;
+      first_lies = is_inside n b (descriptor_addr b 0) 16 (omega arith) (omega arith) (omega arith);
+      second_lies = is_inside n b (descriptor_addr b 1) 16 (omega arith) (omega arith) (omega arith);
+      request_lies = is_inside n b (in66 b).request 24 (omega arith) (omega arith) (omega arith);
+      first_apart = inl (omega arith);
+      second_apart = inl (omega arith);
+      len_enough = omega arith;
+      len_fits = omega arith;
+      status_fits = omega arith;
     }
 
 -- ---- the request that `write_request` writes
 -- a slice that it wrote, 0 being its answer, standing at an address, is a request standing there
-pub wrote-stands : (q : VirtioMemReq) (entry exit : List ℕ) → Wrote q entry exit 0 → (g : Guest) (addr : ℕ) → BytesAt g addr (length exit) exit → BytesAt g addr 24 (request_bytes q)
-wrote-stands q entry exit w g addr s =
-    let long : 24 ≤ length entry = by-test (leb 24 (length entry)) (λ t. leb-true 24 (length entry) t) (λ t. let z = (w.short (leb-false 24 (length entry) t)).0 in absurd (omega arith)) in
+pub wrote_stands : (q : VirtioMemReq) (entry exit : List ℕ) → Wrote q entry exit 0 → (g : Guest) (addr : ℕ) → BytesAt g addr (length exit) exit → BytesAt g addr 24 (request_bytes q)
+wrote_stands q entry exit w g addr s =
+    let long : 24 ≤ length entry = by_test (leb 24 (length entry)) (λ t. leb-true 24 (length entry) t) (λ t. let z = (w.short (leb-false 24 (length entry) t)).0 in absurd (omega arith)) in
     let e = (w.whole long).1 in
     let n : length exit ≡ length entry = ap length e ∙ length-put entry 0 (request_bytes q) in
-    let r = length-request q in
-    let i = inside-facts (length g.mem) g.base addr (length exit) s.lies in
+    let r = length_request q in
+    let i = inside_facts (length g.mem) g.base addr (length exit) s.lies in
     let zero : addr - g.base + 0 ≡ addr - g.base = omega arith in
     record {
-      lies = is-inside (length g.mem) g.base addr 24 i.from-base (omega (arith, i.to_end)) (omega (arith, i.to_last));
+      lies = is_inside (length g.mem) g.base addr 24 i.from_base (omega (arith, i.to_end)) (omega (arith, i.to_last));
       are = sym (rw zero at (part-part g.mem (addr - g.base) (length exit) 0 24 (omega arith)))
           ∙ ap (λ (bytes : List ℕ). part bytes 0 24) (s.are ∙ e)
           ∙ rw r at (part-put entry 0 (request_bytes q) (omega arith));
@@ -205,31 +205,31 @@ wrote-stands q entry exit w g addr s =
 
 -- ---- what the planner proposes fits a request
 module _ (c : VirtioMemConfig) (bs : List Bool) (addr : GuestAddr) (n : ℕ) (e : plan_of c bs ≡ Plug addr n) where
-  pub proposal-fits : RequestFits (plug_of addr n)
-  proposal-fits =
-      let p = plan-is c bs addr n e in
-      let s = config-shaped-is c p.shaped in
+  pub proposal_fits : RequestFits (plug_of addr n)
+  proposal_fits =
+      let p = plan_is c bs addr n e in
+      let s = config_shaped_is c p.shaped in
       let b = c.block_size in
       let pos : 0 < b = omega (arith, s.block_size) in
       let f = starts bs b c.usable_region_size p.first pos p.lowest in
       let m : blocks_in b map_region ≡ 512 = rw s.block_size in
-      let k = count-few b c.usable_region_size c.plugged_size c.requested_size bs p.first (omega arith) in
+      let k = count_few b c.usable_region_size c.plugged_size c.requested_size bs p.first (omega arith) in
       record {
-        type-fits = omega arith;
-        addr-fits = omega (arith, p.addr_is, f.bytes, s.usable-in, s.start-region);
-        blocks-fit = omega (arith, p.count-is, k);
+        type_fits = omega arith;
+        addr_fits = omega (arith, p.addr_is, f.bytes, s.usable_in, s.start_region);
+        blocks_fit = omega (arith, p.count_is, k);
       }
 
 -- ---- the theorems of Acks.antt and Exact.antt, for guest memory that holds the plug
 module _ (w : World) (r : Ready w) (addr : GuestAddr) (n : ℕ) (e : plan_of w.device.config w.blocks ≡ Plug addr n)
     (g : Guest) (descriptors head : ℕ) (status : GuestAddr) where
-  pub acknowledged-held : HoldsRequest g descriptors head (plug_of addr n) status → PlugAcknowledged w addr.0 n status.0 g (step w (Request g descriptors head))
-  acknowledged-held h = acknowledged w r addr n e g descriptors head status (held-parses g descriptors head (plug_of addr n) status h)
+  pub acknowledged_held : HoldsRequest g descriptors head (plug_of addr n) status → PlugAcknowledged w addr.0 n status.0 g (step w (Request g descriptors head))
+  acknowledged_held h = acknowledged w r addr n e g descriptors head status (held_parses g descriptors head (plug_of addr n) status h)
 
-  pub one-acknowledged-held : HoldsRequest g descriptors head (plug_of addr 1) status → PlugAcknowledged w addr.0 1 status.0 g (step w (Request g descriptors head))
-  one-acknowledged-held h = one-acknowledged w r addr n e g descriptors head status (held-parses g descriptors head (plug_of addr 1) status h)
+  pub one_acknowledged_held : HoldsRequest g descriptors head (plug_of addr 1) status → PlugAcknowledged w addr.0 1 status.0 g (step w (Request g descriptors head))
+  one_acknowledged_held h = one_acknowledged w r addr n e g descriptors head status (held_parses g descriptors head (plug_of addr 1) status h)
 
-pub none-acknowledged-held : (w : World) → Ready w → plan_of w.device.config w.blocks ≡ Refused 17
+pub none_acknowledged_held : (w : World) → Ready w → plan_of w.device.config w.blocks ≡ Refused 17
     → (addr : GuestAddr) (g : Guest) (descriptors head : ℕ) (status : GuestAddr) → HoldsRequest g descriptors head (plug_of addr 1) status
     → (len : ℕ) → (step w (Request g descriptors head)).answer ≡ served_with ack len → ⊥
-none-acknowledged-held w r e addr g descriptors head status h = none-acknowledged w r e addr status g descriptors head (held-parses g descriptors head (plug_of addr 1) status h)
+none_acknowledged_held w r e addr g descriptors head status h = none_acknowledged w r e addr status g descriptors head (held_parses g descriptors head (plug_of addr 1) status h)

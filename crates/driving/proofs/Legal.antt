@@ -12,16 +12,16 @@ use Rattle.units.specs.Numbers.{top, bytes_of, blocks_in, map_region}
 use Rattle.bitmap.specs.Blocks.{block_at, all_are, next_set, next_clear}
 use Rattle.bitmap.specs.declared.Found.{Found}
 use Rattle.bitmap.specs.declared.Found.TheVariants.{At, Nothing}
-use Rattle.bitmap.proofs.Laws.{Lowest, all_split, next-at, next-nothing}
-use Rattle.units.proofs.Tests.{by-test, and_left}
+use Rattle.bitmap.proofs.Laws.{Lowest, all_split, next_at, next_nothing}
+use Rattle.units.proofs.Tests.{by_test, and_left}
 use Rattle.units.specs.declared.HostAddr.{HostAddr}
 use Rattle.rows.specs.declared.MapRow.{MapRow}
 use Rattle.rows.specs.Rows.{row_at}
-use Rattle.rows.proofs.Laws.{mapping-at}
+use Rattle.rows.proofs.Laws.{mapping_at}
 use Rattle.change.specs.declared.Change.TheVariants.{Legal}
 use Rattle.change.specs.declared.HostRange.TheVariants.{At as HostAt}
 use Rattle.change.specs.Change.{host_of, host_in, host_sum, change_of}
-use Rattle.change.proofs.Laws.{host-is, legal-when}
+use Rattle.change.proofs.Laws.{host_is, legal_when}
 use Rattle.driver.proofs.Laws.{border}
 use Rattle.driver.specs.Plan.{border_after, limit_of, stop_at, stop_of, room_of, count_of}
 use Rattle.driving.specs.Sound.{SoundRows}
@@ -31,14 +31,14 @@ clash p q = let z : ◌≡◌ {A = ℕ} 0 1 = cc in absurd (omega arith)
 
 -- ---- the run of free blocks from there
 module _ (b usable : ℕ) (bs : List Bool) (first : ℕ) (pos : 0 < blocks_in b map_region) (f : Lowest false bs 0 (blocks_in b usable) first) where
-  below-border : first < border_after b first
-  below-border = (border first (blocks_in b map_region) pos).above
+  below_border : first < border_after b first
+  below_border = (border first (blocks_in b map_region) pos).above
 
   pub record Run (stop : ℕ) : Type 0 where
     pub some : first < stop
-    pub in-usable : stop ≤ blocks_in b usable
-    pub in-border : stop ≤ border_after b first
-    pub all-free : all_are bs first (stop - first) false ≡ true
+    pub in_usable : stop ≤ blocks_in b usable
+    pub in_border : stop ≤ border_after b first
+    pub all_free : all_are bs first (stop - first) false ≡ true
 
   pub run : Run (stop_of b usable bs first)
   unfolding stop_at
@@ -49,18 +49,18 @@ module _ (b usable : ℕ) (bs : List Bool) (first : ℕ) (pos : 0 < blocks_in b 
 
       go : (x : Found) → next_set bs first limit ≡ x → Run (stop_at x limit)
       go Nothing e =
-          record { some = omega (arith, below-border, f.before-end); in-usable = omega arith; in-border = omega arith; all-free = next-nothing true bs first limit e }
+          record { some = omega (arith, below_border, f.before_end); in_usable = omega arith; in_border = omega arith; all_free = next_nothing true bs first limit e }
       go (At i) e =
-          let l = next-at true bs first limit i e in
+          let l = next_at true bs first limit i e in
           record {
             some = not_first i l.from_on l.found;
-            in-usable = omega (arith, l.before-end);
-            in-border = omega (arith, l.before-end);
-            all-free = l.none_below;
+            in_usable = omega (arith, l.before_end);
+            in_border = omega (arith, l.before_end);
+            all_free = l.none_below;
           }
         where
           not_first : (i : ℕ) → first ≤ i → block_at bs i ≡ true → first < i
-          not_first i p q = by-test (ltb first i) (λ t. ltb-true first i t) (λ t. let e : i ≡ first = omega (arith, ltb-false first i t) in clash (rw e at q) f.found)
+          not_first i p q = by_test (ltb first i) (λ t. ltb-true first i t) (λ t. let e : i ≡ first = omega (arith, ltb-false first i t) in clash (rw e at q) f.found)
 
 -- ---- and what the requested size has room for of it
 part_free : (bs : List Bool) (first n m : ℕ) → m ≤ n → all_are bs first n false ≡ true → all_are bs first m false ≡ true
@@ -70,8 +70,8 @@ part_free bs first n m h e =
 
 -- ---- a run that stops at the border crosses none
 module _ (b p : ℕ) (pos : 0 < b) where
-  offset-in : (first : ℕ) → first * b % (p * b) ≡ first % p * b
-  offset-in first =
+  offset_in : (first : ℕ) → first * b % (p * b) ≡ first % p * b
+  offset_in first =
       let e = div-add-mod' (first * b) (p * b) in
       let q : first * b / (p * b) ≡ first / p = mul-div-mul_right first p pos in
       let m : first * b / (p * b) * (p * b) ≡ first / p * p * b = rw (q, mul_assoc) in
@@ -79,11 +79,11 @@ module _ (b p : ℕ) (pos : 0 < b) where
       let v : (first / p * p + first % p) * b ≡ first * b = ap (λ n. n * b) (div-add-mod' first p) in
       omega arith
 
-  pub no-border : (first count : ℕ) → first + count ≤ suc (first / p) * p → first * b % (p * b) + count * b ≤ p * b
-  no-border first count h =
+  pub no_border : (first count : ℕ) → first + count ≤ suc (first / p) * p → first * b % (p * b) + count * b ≤ p * b
+  no_border first count h =
       let e = div-add-mod' first p in
       let n : first % p + count ≤ p = omega arith in
-      rw (offset-in first, ← add-mul (first % p) count b) (mul-le-mul_right b n)
+      rw (offset_in first, ← add-mul (first % p) count b) (mul-le-mul_right b n)
 
 -- ---- the host has it
 module _ (several : Bool) (usable : ℕ) (rows : List MapRow) (sound : SoundRows several usable rows) where
@@ -98,12 +98,12 @@ module _ (several : Bool) (usable : ℕ) (rows : List MapRow) (sound : SoundRows
           let mapped : row.mapped ≡ 0 → ⊥ = rw e at (sound.mapped offset (omega arith)) in
           let same : (offset + (size - 1)) / map_region ≡ offset / map_region = omega arith in
           let room : row.host.0 + (offset + (size - 1)) % map_region < top = rw (e, same) at (sound.fits (offset + (size - 1)) (omega arith)) in
-          (record { 0 = row.host.0 + offset % map_region }, rw (e, le-ltb map_region (offset % map_region + size) m, mapping-at rows (offset / map_region) mapped, le-ltb top (row.host.0 + offset % map_region + size) (omega arith)))
+          (record { 0 = row.host.0 + offset % map_region }, rw (e, le-ltb map_region (offset % map_region + size) m, mapping_at rows (offset / map_region) mapped, le-ltb top (row.host.0 + offset % map_region + size) (omega arith)))
       go false e =
           let row = row_at rows 0 in
           let mapped : row.mapped ≡ 0 → ⊥ = rw e at (sound.mapped offset (omega arith)) in
           let room : row.host.0 + (offset + (size - 1)) < top = rw e at (sound.fits (offset + (size - 1)) (omega arith)) in
-          (record { 0 = row.host.0 + offset }, rw (e, mapping-at rows 0 mapped, le-ltb top (row.host.0 + offset + size) (omega arith)))
+          (record { 0 = row.host.0 + offset }, rw (e, mapping_at rows 0 mapped, le-ltb top (row.host.0 + offset + size) (omega arith)))
 
 -- ---- what is proposed is legal: (a), and (b) to (d) at its first block
 module _ (b start usable plugged requested : ℕ) (several : Bool) (bs : List Bool) (rows : List MapRow) (pos : 0 < b) (whole : blocks_in b map_region * b ≡ map_region) (aligned : start % b ≡ 0)
@@ -118,36 +118,36 @@ module _ (b start usable plugged requested : ℕ) (several : Bool) (bs : List Bo
   pub proposed : (count : ℕ) → 0 < count → count ≤ count_of b usable plugged requested bs first → Proposed count
   proposed count some most =
       let p = blocks_in b map_region in
-      let f = next-at false bs 0 (blocks_in b usable) first lowest in
+      let f = next_at false bs 0 (blocks_in b usable) first lowest in
       let p-pos : 0 < p = positive p whole in
       let r = run b usable bs first p-pos f in
-      let to-usable : first + count ≤ blocks_in b usable = omega (arith, r.in-usable, r.some) in
-      let to-border : first + count ≤ suc (first / p) * p = omega (arith, r.in-border, r.some) in
+      let to-usable : first + count ≤ blocks_in b usable = omega (arith, r.in_usable, r.some) in
+      let to-border : first + count ≤ suc (first / p) * p = omega (arith, r.in_border, r.some) in
       let few : count ≤ (requested - plugged) / b = omega arith in
       let bytes : count * b ≤ requested - plugged = (le-div_iff_mul-le pos).0 few in
       let all : (first + count) * b ≤ usable = (le-div_iff_mul-le pos).0 to-usable in
       let sum = add-mul first count b in
       let one : b ≤ count * b = at_least count some in
-      let inside : first * b % map_region + count * b ≤ map_region = rw whole at (no-border b p pos first count to-border) in
+      let inside : first * b % map_region + count * b ≤ map_region = rw whole at (no_border b p pos first count to-border) in
       let h = hosted several usable rows sound (first * b) (count * b) (omega arith) (omega arith) inside in
-      let free = part_free bs first (stop_of b usable bs first - first) count (omega arith) r.all-free in
+      let free = part_free bs first (stop_of b usable bs first - first) count (omega arith) r.all_free in
       record {
         some = some;
         within = omega arith;
         host = h.0;
-        legal = legal-when b start usable several (start + first * b) count true bs rows first (record { 0 = first * b }) h.0 pos (record {
-          in-range = record {
+        legal = legal_when b start usable several (start + first * b) count true bs rows first (record { 0 = first * b }) h.0 pos (record {
+          in_range = record {
             aligned = add-mul-mod_self_right start first b ∙ aligned;
             some = some;
             below_top = omega arith;
             from_start = omega arith;
-            offset-is = omega arith;
-            in-usable = omega arith;
+            offset_is = omega arith;
+            in_usable = omega arith;
           };
-          first-is = sym (mul-div_cancel first pos);
+          first_is = sym (mul-div_cancel first pos);
           not-wanted = free;
-          host-at = h.1;
-          hosted = host-is several rows (first * b) (count * b) h.0 h.1;
+          host_at = h.1;
+          hosted = host_is several rows (first * b) (count * b) h.0 h.1;
         });
       }
     where
@@ -159,9 +159,9 @@ module _ (b start usable plugged requested : ℕ) (several : Bool) (bs : List Bo
       at_least zero h = absurd (omega arith)
       at_least (suc count) h = omega arith
 
-  pub some-count : 0 < count_of b usable plugged requested bs first
-  some-count =
-      let f = next-at false bs 0 (blocks_in b usable) first lowest in
+  pub some_count : 0 < count_of b usable plugged requested bs first
+  some_count =
+      let f = next_at false bs 0 (blocks_in b usable) first lowest in
       let r = run b usable bs first (positive (blocks_in b map_region) whole) f in
       omega (arith, r.some)
     where

@@ -23,28 +23,28 @@ pub record BytesAt (g : Guest) (addr n : ℕ) (bytes : List ℕ) : Type 0 where
 
 -- le16, le64 and le16 hold the fields: what the types u16 and u64 say
 pub record RequestFits (q : VirtioMemReq) : Type 0 where
-  pub type-fits : q.req_type < 256 ^ 2
-  pub addr-fits : q.addr.0 < 256 ^ 8
-  pub blocks-fit : q.nb_blocks < 256 ^ 2
+  pub type_fits : q.req_type < 256 ^ 2
+  pub addr_fits : q.addr.0 < 256 ^ 8
+  pub blocks_fit : q.nb_blocks < 256 ^ 2
 
 -- guest memory holds the request q as a chain of two descriptors, the first at index `head` of the descriptors:
 -- one of 24 bytes with NEXT (1), which are those of q, and one of 10 bytes or more with WRITE (2), for the response
 pub record HoldsRequest (g : Guest) (descriptors head : ℕ) (q : VirtioMemReq) (status : GuestAddr) : Type 0 where
   -- where q stands, the second descriptor's index, and the length and next index that this one gives
-  pub request-at : ℕ
-  pub second-index : ℕ
-  pub second-len : ℕ
-  pub second-next : ℕ
-  pub head-in-table : head < 128
-  pub second-in-table : second-index < 128
-  pub len-enough : 10 ≤ second-len
-  pub len-fits : second-len < 256 ^ 4
-  pub next_fits : second-next < 256 ^ 2
-  pub status-fits : status.0 < 256 ^ 8
-  pub request-fits : RequestFits q
-  pub first : BytesAt g (descriptor_addr descriptors head) 16 (virtq_desc request-at 24 1 second-index)
-  pub second : BytesAt g (descriptor_addr descriptors second-index) 16 (virtq_desc status.0 second-len 2 second-next)
-  pub request : BytesAt g request-at 24 (request_bytes q)
+  pub request_addr : ℕ
+  pub second_index : ℕ
+  pub second_len : ℕ
+  pub second_next : ℕ
+  pub head_in_table : head < 128
+  pub second_in_table : second_index < 128
+  pub len_enough : 10 ≤ second_len
+  pub len_fits : second_len < 256 ^ 4
+  pub next_fits : second_next < 256 ^ 2
+  pub status_fits : status.0 < 256 ^ 8
+  pub request_fits : RequestFits q
+  pub first : BytesAt g (descriptor_addr descriptors head) 16 (virtq_desc request_addr 24 1 second_index)
+  pub second : BytesAt g (descriptor_addr descriptors second_index) 16 (virtq_desc status.0 second_len 2 second_next)
+  pub request : BytesAt g request_addr 24 (request_bytes q)
 
 -- the request that asks for a plug
 abbrev pub plug_of : GuestAddr → (count : ℕ) → VirtioMemReq
@@ -71,17 +71,17 @@ NoOverlap addr n other m = (addr + n ≤ other) ⊎ (other + m ≤ addr)
 
 -- they are places for a chain: inside guest memory, and apart
 pub record PlacesIn (g : Guest) (p : Places) : Type 0 where
-  pub head-in-table : p.head < 128
-  pub second-in-table : p.second < 128
+  pub head_in_table : p.head < 128
+  pub second_in_table : p.second < 128
   pub two : p.head ≡ p.second → ⊥
-  pub first-lies : inside (length g.mem) g.base (first_addr p) 16 ≡ true
-  pub second-lies : inside (length g.mem) g.base (second_addr p) 16 ≡ true
-  pub request-lies : inside (length g.mem) g.base p.request 24 ≡ true
-  pub first-apart : NoOverlap (first_addr p) 16 p.request 24
-  pub second-apart : NoOverlap (second_addr p) 16 p.request 24
-  pub len-enough : 10 ≤ p.len
-  pub len-fits : p.len < 256 ^ 4
-  pub status-fits : p.status.0 < 256 ^ 8
+  pub first_lies : inside (length g.mem) g.base (first_addr p) 16 ≡ true
+  pub second_lies : inside (length g.mem) g.base (second_addr p) 16 ≡ true
+  pub request_lies : inside (length g.mem) g.base p.request 24 ≡ true
+  pub first_apart : NoOverlap (first_addr p) 16 p.request 24
+  pub second_apart : NoOverlap (second_addr p) 16 p.request 24
+  pub len_enough : 10 ≤ p.len
+  pub len_fits : p.len < 256 ^ 4
+  pub status_fits : p.status.0 < 256 ^ 8
 
 -- bytes written at a guest address
 abbrev pub put_at : Guest → (addr : ℕ) → List ℕ → Guest
@@ -124,8 +124,8 @@ ReadAt g status bytes resp =
 
 -- R14.4: a response that a call gives is a known one, and is read back where its used length is 10
 pub record ReadBack (w : World) (c : Call) (reply : Reply) (bytes : List ℕ) : Type 0 where
-  pub type-known : reply.response.resp_type ≤ 3
-  pub state-known : reply.response.state ≤ 2
+  pub type_known : reply.response.resp_type ≤ 3
+  pub state_known : reply.response.state ≤ 2
   pub guest : Guest
   pub status : GuestAddr
   pub goes : GoesTo w c guest status

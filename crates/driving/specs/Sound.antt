@@ -26,7 +26,7 @@ pub record Ready (w : World) : Type 0 where
   pub shaped : shaped_of w.device ≡ true
   pub idle : is_idle w.device.pending ≡ true
   pub placed : w.device.placed ≡ true
-  pub blocks-fit : region_blocks w ≤ length w.blocks
+  pub blocks_fit : region_blocks w ≤ length w.blocks
   pub rows_fit : region_rows w ≤ length w.rows
   pub sound : SoundRows (several w) (usable w) w.rows
 
@@ -47,7 +47,7 @@ Stops c bs first n =
 pub record Greatest (c : VirtioMemConfig) (bs : List Bool) (addr : GuestAddr) (n : ℕ) : Type 0 where
   pub first : ℕ
   pub addr_is : addr.0 ≡ c.addr.0 + bytes_of c.block_size first
-  pub all-below : all_are bs 0 first true ≡ true
+  pub all_below : all_are bs 0 first true ≡ true
   pub is_free : block_at bs first ≡ false
   pub stops : Stops c bs first n
 
@@ -90,8 +90,8 @@ Counted w = plugged w ≡ bytes_of (block_size w) (plugged_blocks w)
 pub record There (from to : World) : Type 0 where
   pub spent : planned to ≡ Refused 17
   pub size : plugged to ≡ max (plugged from) (min (requested from) (usable from))
-  pub same-requested : requested to ≡ requested from
-  pub same-usable : usable to ≡ usable from
+  pub same_requested : requested to ≡ requested from
+  pub same_usable : usable to ≡ usable from
 
 -- block i is the first of a run of free blocks: the one before it is plugged, or it lies at a 2 GiB border of offsets, as every `per` blocks one does
 unfoldable pub begins_run : (per : ℕ) → List Bool → ℕ → Bool

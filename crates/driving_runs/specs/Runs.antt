@@ -14,8 +14,8 @@ use Rattle.in_parts.specs.InParts.{Asks}
 
 -- the device is placed, and nothing is pending
 pub record TakesRequests (w : World) : Type 0 where
-  pub is-placed : w.device.placed ≡ true
-  pub is-idle : is_idle w.device.pending ≡ true
+  pub is_placed : w.device.placed ≡ true
+  pub pending_is_idle : is_idle w.device.pending ≡ true
 
 -- then what the theorems of the crate `driving` ask of a world is so
 abbrev pub ReadyAndCounted : Story → Call → Type 0
@@ -55,7 +55,7 @@ unfoldable pub FollowsPlanner : World → List Call → Type 0
 FollowsPlanner w [] = Unit {0}
 FollowsPlanner w (c ∷ cs) = Proposed w c × FollowsPlanner (step w c).world cs
 
--- there are such calls that get there, at most as many as the usable part has runs of free blocks, which are at most its free blocks (`runs-few` of the crate `driving`)
+-- there are such calls that get there, at most as many as the usable part has runs of free blocks, which are at most its free blocks (`runs_few` of the crate `driving`)
 pub record GetsThere (s : Story) : Type 0 where
   pub plugs : List Call
   pub follow : FollowsPlanner s.world plugs
@@ -75,8 +75,8 @@ FollowingGetsThere s c = TakesRequests s.world → (plugs : List Call) → Follo
 
 -- ---- all of it, in every run from a newly made device on
 pub record PlannerInRuns : Type 0 where
-  pub ready-and-counted : InEveryRun ReadyAndCounted
+  pub ready_and_counted : InEveryRun ReadyAndCounted
   pub acknowledges : InEveryRun ProposalAcknowledged
-  pub seventeen-exactly : InEveryRun SeventeenExactly
-  pub gets-there : InEveryRun PlannerGetsThere
-  pub nowhere-else : InEveryRun FollowingGetsThere
+  pub seventeen_exactly : InEveryRun SeventeenExactly
+  pub gets_there : InEveryRun PlannerGetsThere
+  pub nowhere_else : InEveryRun FollowingGetsThere

@@ -10,7 +10,7 @@ use borrow.Author.Tests.{leb-true, leb-false}
 use lib.Dec.{leb}
 use lib.ListN.{length, take, get_or}
 use lib.Seq.{take-suc, take_all}
-use Rattle.units.proofs.Tests.{by-test}
+use Rattle.units.proofs.Tests.{by_test}
 use Rattle.record.specs.declared.Device.{Device}
 use Rattle.step.specs.declared.Answer.{Answer}
 use Rattle.trace_text.specs.declared.Line.{Line}
@@ -19,19 +19,19 @@ use Rattle.trace_run.specs.Run.{Turn}
 use Rattle.sentences.specs.Sentences.{sentence}
 use Rattle.explaining.specs.Explaining.{visible, visibles, no_device, device_in, said_of}
 
-visibles-append : (xs ys : List ℕ) → visibles (xs ++ ys) ≡ visibles xs ++ visibles ys
+visibles_append : (xs ys : List ℕ) → visibles (xs ++ ys) ≡ visibles xs ++ visibles ys
 unfolding visibles
-visibles-append [] ys = refl
-visibles-append (x ∷ xs) ys = ap (λ (l : List ℕ). visible x ∷ l) (visibles-append xs ys)
+visibles_append [] ys = refl
+visibles_append (x ∷ xs) ys = ap (λ (l : List ℕ). visible x ∷ l) (visibles_append xs ys)
 
 pub visible_more : (s : List ℕ) (i : ℕ) → i < length s → visibles (take (i + 1) s) ≡ visibles (take i s) ++ visible (get_or s i 0) ∷ []
 unfolding visibles
-visible_more s i h = rw (add-one, take-suc s i 0 h) (visibles-append (take i s) (get_or s i 0 ∷ []))
+visible_more s i h = rw (add-one, take-suc s i 0 h) (visibles_append (take i s) (get_or s i 0 ∷ []))
 
 -- the first bytes, as many as there are
-pub take-end : (s : List ℕ) (i n : ℕ) → i ≡ min (length s) n → take i s ≡ take n s
-take-end s i n e =
-    by-test (leb (length s) n)
+pub take_end : (s : List ℕ) (i n : ℕ) → i ≡ min (length s) n → take i s ≡ take n s
+take_end s i n e =
+    by_test (leb (length s) n)
     (λ t. let h = leb-true (length s) n t in take_all i s (omega arith) ∙ sym (take_all n s (omega arith)))
     (λ t. let h = leb-false (length s) n t in let f : i ≡ n = omega arith in rw f)
 

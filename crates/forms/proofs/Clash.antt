@@ -8,9 +8,9 @@ use native.Mathlib.Omega.{arith}
 use borrow.Author.Tests.{not-true, ne_eqb}
 use lib.Dec.{eqb}
 use lib.ListN.{get_or}
-use Rattle.units.proofs.Tests.{by-test, and_left, and_right}
+use Rattle.units.proofs.Tests.{by_test, and_left, and_right}
 use Rattle.text.specs.Reading.{got, nothing, is_digit, digit_of}
-use Rattle.text.proofs.Laws.{decimal-starts, word-written, word_none}
+use Rattle.text.proofs.Laws.{decimal_starts, word_written, word_none}
 use Rattle.forms.specs.Forms.{is_hole, holes, filled_from}
 use Rattle.forms.specs.Scanning.{Scan, lost, push, hole_then, byte_then, scan_of}
 use Rattle.forms.proofs.Laws.{Words, taken, opens, apart, opened}
@@ -31,56 +31,56 @@ clash (t ∷ ts) (u ∷ us) = meet (is_hole t) (is_hole u) t u (clash ts us)
 abbrev pub IsLost : (scan : Scan) → Type 0
 IsLost scan = (us : List ℕ) × (scan ≡ lost us)
 
-hole-lost : (v : ℕ) (rest : List ℕ) (f : List ℕ → Scan) → IsLost (f rest) → IsLost (hole_then (got v rest) f)
+hole_lost : (v : ℕ) (rest : List ℕ) (f : List ℕ → Scan) → IsLost (f rest) → IsLost (hole_then (got v rest) f)
 unfolding hole_then push
-hole-lost v rest f h = (v ∷ h.0, rw h.1)
+hole_lost v rest f h = (v ∷ h.0, rw h.1)
 
-hole-nothing : (f : List ℕ → Scan) → IsLost (hole_then nothing f)
+hole_nothing : (f : List ℕ → Scan) → IsLost (hole_then nothing f)
 unfolding hole_then
-hole-nothing f = ([], refl)
+hole_nothing f = ([], refl)
 
-byte-nil : (t : ℕ) (f : List ℕ → Scan) → IsLost (byte_then t [] f)
+byte_nil : (t : ℕ) (f : List ℕ → Scan) → IsLost (byte_then t [] f)
 unfolding byte_then
-byte-nil t f = ([], refl)
+byte_nil t f = ([], refl)
 
-byte-is : (t u : ℕ) (l : List ℕ) (f : List ℕ → Scan) → eqb u t ≡ true → byte_then t (u ∷ l) f ≡ f l
+byte_is : (t u : ℕ) (l : List ℕ) (f : List ℕ → Scan) → eqb u t ≡ true → byte_then t (u ∷ l) f ≡ f l
 unfolding byte_then
-byte-is t u l f e = rw e
+byte_is t u l f e = rw e
 
-byte-other : (t u : ℕ) (l : List ℕ) (f : List ℕ → Scan) → eqb u t ≡ false → IsLost (byte_then t (u ∷ l) f)
+byte_other : (t u : ℕ) (l : List ℕ) (f : List ℕ → Scan) → eqb u t ≡ false → IsLost (byte_then t (u ∷ l) f)
 unfolding byte_then
-byte-other t u l f e = ([], rw e)
+byte_other t u l f e = ([], rw e)
 
 -- a digit is not the byte t
-digit-other : (d t : ℕ) → is_digit d ≡ true → is_digit t ≡ false → eqb d t ≡ false
-digit-other d t y n = ne_eqb d t λ q. let z : ◌≡◌ {A = ℕ} 0 1 = differ q in omega arith
+digit_other : (d t : ℕ) → is_digit d ≡ true → is_digit t ≡ false → eqb d t ≡ false
+digit_other d t y n = ne_eqb d t λ q. let z : ◌≡◌ {A = ℕ} 0 1 = differ q in omega arith
   where
     differ : d ≡ t → ◌≡◌ {A = ℕ} 0 1
     differ q = cc
 
-pub scan-clash : (k : ℕ) (f g vs : List ℕ) → clash f g ≡ true → apart g ≡ true → Words (taken k (holes g) vs) → IsLost (scan_of f (filled_from k g vs))
+pub scan_clash : (k : ℕ) (f g vs : List ℕ) → clash f g ≡ true → apart g ≡ true → Words (taken k (holes g) vs) → IsLost (scan_of f (filled_from k g vs))
 unfolding scan_of filled_from holes digit_of
-scan-clash k [] us vs c a w = let z : ◌≡◌ {A = ℕ} 0 1 = cc in absurd (omega arith)
-scan-clash k (t ∷ ts) [] vs c a w = rw (not-true (is_hole t) c) (byte-nil t (scan_of ts))
-scan-clash k (t ∷ ts) (u ∷ us) vs c a w =
-    by-test (is_hole t)
+scan_clash k [] us vs c a w = let z : ◌≡◌ {A = ℕ} 0 1 = cc in absurd (omega arith)
+scan_clash k (t ∷ ts) [] vs c a w = rw (not-true (is_hole t) c) (byte_nil t (scan_of ts))
+scan_clash k (t ∷ ts) (u ∷ us) vs c a w =
+    by_test (is_hole t)
     (λ p.
-    by-test (is_hole u)
+    by_test (is_hole u)
     (λ q.
     let b : opens us && apart us ≡ true = rw q at a in
     let x : Words (get_or vs k 0 ∷ taken (suc k) (holes us) vs) = rw q at w in
     let o = rw append-nil at (opened (suc k) us vs [] (omega arith) (and_left (opens us) (apart us) b)) in
-    let n = word-written (get_or vs k 0) (filled_from (suc k) us vs) x.0 o in
+    let n = word_written (get_or vs k 0) (filled_from (suc k) us vs) x.0 o in
     rw (p, q, n)
-    (hole-lost (get_or vs k 0) (filled_from (suc k) us vs) (scan_of ts)
-    (scan-clash (suc k) ts us vs (rw (p, q) at c) (and_right (opens us) (apart us) b) x.1)))
-    (λ q. rw (p, q, word_none u (filled_from k us vs) (not-true (is_digit u) (rw (p, q) at c))) (hole-nothing (scan_of ts))))
+    (hole_lost (get_or vs k 0) (filled_from (suc k) us vs) (scan_of ts)
+    (scan_clash (suc k) ts us vs (rw (p, q) at c) (and_right (opens us) (apart us) b) x.1)))
+    (λ q. rw (p, q, word_none u (filled_from k us vs) (not-true (is_digit u) (rw (p, q) at c))) (hole_nothing (scan_of ts))))
     (λ p.
-    by-test (is_hole u)
+    by_test (is_hole u)
     (λ q.
-    let i = decimal-starts (get_or vs k 0) (get_or vs k 0) (filled_from (suc k) us vs) (omega arith) in
-    rw (p, q, i.2) (byte-other t i.0 i.1 (scan_of ts) (digit-other i.0 t i.3 (not-true (is_digit t) (rw (p, q) at c)))))
+    let i = decimal_starts (get_or vs k 0) (get_or vs k 0) (filled_from (suc k) us vs) (omega arith) in
+    rw (p, q, i.2) (byte_other t i.0 i.1 (scan_of ts) (digit_other i.0 t i.3 (not-true (is_digit t) (rw (p, q) at c)))))
     (λ q.
-    by-test (eqb u t)
-    (λ r. rw (p, q, byte-is t u (filled_from k us vs) (scan_of ts) r) (scan-clash k ts us vs (rw (p, q, r) at c) (rw q at a) (rw q at w)))
-    (λ r. rw (p, q) (byte-other t u (filled_from k us vs) (scan_of ts) r))))
+    by_test (eqb u t)
+    (λ r. rw (p, q, byte_is t u (filled_from k us vs) (scan_of ts) r) (scan_clash k ts us vs (rw (p, q, r) at c) (rw q at a) (rw q at w)))
+    (λ r. rw (p, q) (byte_other t u (filled_from k us vs) (scan_of ts) r))))

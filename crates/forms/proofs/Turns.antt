@@ -10,19 +10,19 @@ use borrow.Author.Tests.{le-leb, lt-leb, eq-eqb, ne_eqb}
 use lib.Dec.{leb}
 use lib.ListN.{length, drop, take, set, get_or, length-take, length-drop, length-append, drop_of_length-le}
 use lib.Seq.{sets, drop-cons, take-length, take-suc-set, length-sets}
-use Rattle.units.proofs.Tests.{by-test}
+use Rattle.units.proofs.Tests.{by_test}
 use Rattle.text.specs.declared.Number.{Number}
 use Rattle.text.specs.declared.Number.TheVariants.{At, Bad}
 use Rattle.text.specs.Decimal.{decimal}
 use Rattle.text.specs.Reading.{Got, got, nothing, word_of, answer_in, number_at}
 use Rattle.text.specs.Putting.{Put}
-use Rattle.text.proofs.Laws.{read_none, read-rest}
-use Rattle.text.proofs.Puts.{sets-append, sets-out, then}
+use Rattle.text.proofs.Laws.{read_none, read_rest}
+use Rattle.text.proofs.Puts.{sets_append, sets_out, then}
 use Rattle.forms.specs.Forms.{filled_from}
 use Rattle.forms.specs.Scanning.{Scan, found, lost, numbers, push, hole_then, byte_then, scan_of, is_whole, place_in, Scanned, ScannedAt}
 use Rattle.forms.specs.declared.Place.{Place}
 use Rattle.forms.specs.declared.Place.TheVariants as place
-use Rattle.forms.proofs.Laws.{drop_min, nowhere, scan-filled}
+use Rattle.forms.proofs.Laws.{drop_min, nowhere, scan_filled}
 
 -- ---- `scan_at`
 
@@ -31,10 +31,10 @@ unfoldable pub prepend : (us : List ℕ) (scan : Scan) → Scan
 prepend us (found vs rest) = found (us ++ vs) rest
 prepend us (lost vs) = lost (us ++ vs)
 
-prepend-none : (scan : Scan) → scan ≡ prepend [] scan
+prepend_none : (scan : Scan) → scan ≡ prepend [] scan
 unfolding prepend
-prepend-none (found vs rest) = refl
-prepend-none (lost vs) = refl
+prepend_none (found vs rest) = refl
+prepend_none (lost vs) = refl
 
 prepend-push : (us : List ℕ) (v : ℕ) (scan : Scan) → prepend us (push v scan) ≡ prepend (us ++ (v ∷ [])) scan
 unfolding prepend push
@@ -48,9 +48,9 @@ pub record Left (w : Scan) (before s form values : List ℕ) (i j k : ℕ) : Typ
   pub left : w ≡ prepend (take k values) (scan_of (drop j form) (drop i s))
   pub inside : i ≤ length s
 
-number-inside : (s : List ℕ) (g : Got) (v n : ℕ) → At v n ≡ answer_in s g → n ≤ length s
-number-inside s (got u rest) v n e = let q : n ≡ length s - length rest = cc in omega arith
-number-inside s nothing v n e = let z : ◌≡◌ {A = ℕ} 0 1 = cc in absurd (omega arith)
+number_inside : (s : List ℕ) (g : Got) (v n : ℕ) → At v n ≡ answer_in s g → n ≤ length s
+number_inside s (got u rest) v n e = let q : n ≡ length s - length rest = cc in omega arith
+number_inside s nothing v n e = let z : ◌≡◌ {A = ℕ} 0 1 = cc in absurd (omega arith)
 
 -- one number more than there is room for is told and stored nowhere
 over : (before s us : List ℕ) (g : Got) (f : List ℕ → Scan) → length us ≡ length before → us ≡ sets before 0 us
@@ -60,7 +60,7 @@ over before s us nothing f e h = record { answer = refl; values = rw append-nil 
 over before s us (got v l) f e h = go (f l)
   where
     more : (vs : List ℕ) → us ≡ sets before 0 (us ++ vs)
-    more vs = sym (sets-append before 0 us vs ∙ rw (← h) (sets-out us (0 + length us) vs (omega arith)))
+    more vs = sym (sets_append before 0 us vs ∙ rw (← h) (sets_out us (0 + length us) vs (omega arith)))
 
     go : (w : Scan) → ScannedAt before s (prepend us (push v w)) place.Nowhere us
     go (found vs rest) =
@@ -71,7 +71,7 @@ over before s us (got v l) f e h = go (f l)
 pub begin : (s form values : List ℕ) (at i : ℕ) → i ≡ min at (length s) → Left (scan_of form (drop at s)) values s form values i 0 0
 begin s form values at i q =
     let d : drop at s ≡ drop i s = sym (drop_min at s) ∙ ap (λ (n : ℕ). drop n s) (sym q) in
-    record { within = omega arith; kept = refl; left = rw (← d) (prepend-none (scan_of form (drop at s))); inside = omega arith }
+    record { within = omega arith; kept = refl; left = rw (← d) (prepend_none (scan_of form (drop at s))); inside = omega arith }
 
 module _ {w : Scan} {before s form values : List ℕ} {i j k : ℕ} (o : Left w before s form values i j k) where
   pub long : length values ≡ length before
@@ -85,16 +85,16 @@ module _ {w : Scan} {before s form values : List ℕ} {i j k : ℕ} (o : Left w 
 
   module _ (h : j < length form) where
     module _ (e : get_or form j 0 ≡ 35) where
-      at-hole : scan_of (drop j form) (drop i s) ≡ hole_then (word_of (drop i s)) (scan_of (drop (suc j) form))
+      at_hole : scan_of (drop j form) (drop i s) ≡ hole_then (word_of (drop i s)) (scan_of (drop (suc j) form))
       unfolding scan_of
-      at-hole = rw (drop-cons form j 0, eq-eqb _ _ e)
+      at_hole = rw (drop-cons form j 0, eq-eqb _ _ e)
 
       pub no_room : length values ≤ k → ScannedAt before s w place.Nowhere values
       no_room f =
           let l = long in
           let m = o.within in
           let t : take k values ≡ values = let z : k ≡ length values = omega arith in rw z (take-length values) in
-          let q = at-hole in
+          let q = at_hole in
           let a = rw (q, t) at o.left in
           rw a (over before s values (word_of (drop i s)) (scan_of (drop (suc j) form)) l (o.kept ∙ ap (sets before 0) t))
 
@@ -102,7 +102,7 @@ module _ {w : Scan} {before s form values : List ℕ} {i j k : ℕ} (o : Left w 
         pub no_number : r ≡ Bad → ScannedAt before s w place.Nowhere values
         unfolding hole_then
         no_number t =
-            let q = at-hole in
+            let q = at_hole in
             fails (rw (q, read_none s i (sym g ∙ t)) at o.left)
 
         module _ (v n : ℕ) where
@@ -112,23 +112,23 @@ module _ {w : Scan} {before s form values : List ℕ} {i j k : ℕ} (o : Left w 
           stored : set values k v ≡ sets before 0 (take (k + 1) (set values k v))
           stored =
               let z : 0 + length (take k values) ≡ k = simp length-take (omega arith) in
-              let a = sets-append before 0 (take k values) (v ∷ []) in
+              let a = sets_append before 0 (take k values) (v ∷ []) in
               let b : sets (sets before 0 (take k values)) (0 + length (take k values)) (v ∷ []) ≡ set values k v = rw (← o.kept, z) in
               sym b ∙ sym a ∙ ap (sets before 0) first_read
 
-          pub hole-turn : r ≡ At v n → Left w before s form (set values k v) n (j + 1) (k + 1)
+          pub hole_turn : r ≡ At v n → Left w before s form (set values k v) n (j + 1) (k + 1)
           unfolding hole_then
-          hole-turn t =
-              let q = at-hole in
+          hole_turn t =
+              let q = at_hole in
               record {
                 within = let l = long in omega arith;
                 kept = stored;
                 left =
-                    rw (q, read-rest s i v n (sym g ∙ t)) at o.left
+                    rw (q, read_rest s i v n (sym g ∙ t)) at o.left
                     ∙ prepend-push (take k values) v (scan_of (drop (suc j) form) (drop n s))
                     ∙ ap (λ (us : List ℕ). prepend us (scan_of (drop (suc j) form) (drop n s))) first_read
                     ∙ rw (add-one j);
-                inside = number-inside s (word_of (drop i s)) v n (sym t ∙ g);
+                inside = number_inside s (word_of (drop i s)) v n (sym t ∙ g);
               }
 
     module _ (e : get_or form j 0 ≡ 35 → ⊥) where
@@ -144,9 +144,9 @@ module _ {w : Scan} {before s form values : List ℕ} {i j k : ℕ} (o : Left w 
       unfolding byte_then
       other_byte f n = let q = at_byte in fails (rw (q, drop-cons s i 0 f, ne_eqb _ _ n) at o.left)
 
-      pub byte-turn : i < length s → get_or s i 0 ≡ get_or form j 0 → Left w before s form values (i + 1) (j + 1) k
+      pub byte_turn : i < length s → get_or s i 0 ≡ get_or form j 0 → Left w before s form values (i + 1) (j + 1) k
       unfolding byte_then
-      byte-turn f n =
+      byte_turn f n =
           let q = at_byte in
           record {
             within = o.within;
@@ -155,9 +155,9 @@ module _ {w : Scan} {before s form values : List ℕ} {i j k : ℕ} (o : Left w 
             inside = omega arith;
           }
 
-  pub at-end : length form ≤ j → ScannedAt before s w (place.At i) values
+  pub at_end : length form ≤ j → ScannedAt before s w (place.At i) values
   unfolding scan_of prepend
-  at-end h =
+  at_end h =
       let q : w ≡ found (take k values) (drop i s) = rw (drop_of_length-le form h, append-nil) at o.left in
       let n : take k values ≡ numbers w = rw q in
       let l : length (take k values) ≤ length before = let t = length-take k values in let m = o.within in omega arith in
@@ -166,16 +166,16 @@ module _ {w : Scan} {before s form values : List ℕ} {i j k : ℕ} (o : Left w 
 
 -- ---- `scan`: a scan at 0 that ends where the text does
 
-not-whole : (room : ℕ) (s : List ℕ) (w : Scan) → place.Nowhere ≡ place_in room s w → false ≡ is_whole room w
-not-whole room s (found us []) e = by-test (leb (length us) room) (λ l. absurd (nowhere (rw l at e))) (λ l. sym l)
-not-whole room s (found us (x ∷ xs)) e = refl
-not-whole room s (lost us) e = refl
+not_whole : (room : ℕ) (s : List ℕ) (w : Scan) → place.Nowhere ≡ place_in room s w → false ≡ is_whole room w
+not_whole room s (found us []) e = by_test (leb (length us) room) (λ l. absurd (nowhere (rw l at e))) (λ l. sym l)
+not_whole room s (found us (x ∷ xs)) e = refl
+not_whole room s (lost us) e = refl
 
 whole : (room n : ℕ) (s : List ℕ) (w : Scan) → ((us rest : List ℕ) → w ≡ found us rest → length rest ≤ length s)
     → place.At n ≡ place_in room s w → leb (length s) n ≡ is_whole room w
 whole room n s (lost us) h e = absurd (nowhere (sym e))
 whole room n s (found us rest) h e =
-    by-test (leb (length us) room)
+    by_test (leb (length us) room)
     (λ l.
     let a : place.At n ≡ place.At (length s - length rest) = rw l at e in
     let m : n ≡ length s - length rest = cc in
@@ -187,16 +187,16 @@ whole room n s (found us rest) h e =
     go (x ∷ xs) l m k = lt-leb (length s) n (omega arith)
 
 module _ (form s : List ℕ) {before after : List ℕ} {r : Place} (o : ScannedAt before s (scan_of form s) r after) where
-  pub scan-nowhere : r ≡ place.Nowhere → Scanned before (scan_of form s) false after
-  scan-nowhere e = record { answer = not-whole (length before) s (scan_of form s) (sym e ∙ o.answer); values = o.values }
+  pub scan_nowhere : r ≡ place.Nowhere → Scanned before (scan_of form s) false after
+  scan_nowhere e = record { answer = not_whole (length before) s (scan_of form s) (sym e ∙ o.answer); values = o.values }
 
-  pub scan-at-end : (n : ℕ) → r ≡ place.At n → Scanned before (scan_of form s) (leb (length s) n) after
-  scan-at-end n e =
+  pub scan_at_end : (n : ℕ) → r ≡ place.At n → Scanned before (scan_of form s) (leb (length s) n) after
+  scan_at_end n e =
       record { answer = whole (length before) n s (scan_of form s) short (sym e ∙ o.answer); values = o.values }
     where
       short : (us rest : List ℕ) → scan_of form s ≡ found us rest → length rest ≤ length s
       short us rest q =
-          let l = simp length-append at (ap length ((scan-filled form s us rest q).text [])) in
+          let l = simp length-append at (ap length ((scan_filled form s us rest q).text [])) in
           omega arith
 
 -- ---- `put_form_at`
@@ -212,13 +212,13 @@ pub puts_none : (out : List ℕ) (at : ℕ) (form vs : List ℕ) (to : ℕ) → 
 puts_none out at form vs to e = record { done = []; put = record { held = refl; next = omega arith }; rest = refl; few = omega arith }
 
 module _ {before : List ℕ} {at : ℕ} {form vs out : List ℕ} {to j k : ℕ} (o : Puts before at form vs out to j k) where
-  pub puts-long : length out ≡ length before
-  puts-long = let h = o.put.held in ap length h ∙ length-sets before at o.done
+  pub puts_long : length out ≡ length before
+  puts_long = let h = o.put.held in ap length h ∙ length-sets before at o.done
 
   module _ (h : j < length form) {out' : List ℕ} {to' : ℕ} where
-    pub put-hole : (v : ℕ) → get_or form j 0 ≡ 35 → v ≡ get_or vs k 0 → Put out to (decimal v) out' to' → Puts before at form vs out' to' (j + 1) (k + 1)
+    pub put_hole : (v : ℕ) → get_or form j 0 ≡ 35 → v ≡ get_or vs k 0 → Put out to (decimal v) out' to' → Puts before at form vs out' to' (j + 1) (k + 1)
     unfolding filled_from
-    put-hole v e f p =
+    put_hole v e f p =
         let few = o.few in
         record {
           done = o.done ++ decimal v;
@@ -242,6 +242,6 @@ module _ {before : List ℕ} {at : ℕ} {form vs out : List ℕ} {to j k : ℕ} 
           few = omega arith;
         }
 
-  pub put-end : length form ≤ j → Put before at (filled_from 0 form vs) out to
+  pub put_end : length form ≤ j → Put before at (filled_from 0 form vs) out to
   unfolding filled_from
-  put-end h = let e = rw (drop_of_length-le form h, append-nil) at o.rest in rw (← e) o.put
+  put_end h = let e = rw (drop_of_length-le form h, append-nil) at o.rest in rw (← e) o.put

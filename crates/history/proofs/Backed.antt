@@ -9,23 +9,23 @@ use native.Mathlib.Omega.{arith}
 use lib.Dec.{ltb}
 use borrow.Author.Tests.{ltb-false, le-ltb}
 use Rattle.units.specs.Numbers.{top, bytes_of, blocks_in, map_region, map_regions}
-use Rattle.units.proofs.Tests.{by-test}
+use Rattle.units.proofs.Tests.{by_test}
 use Rattle.bitmap.specs.Blocks.{all_are}
 use Rattle.rows.specs.declared.MapRow.{MapRow}
 use Rattle.rows.specs.Rows.{row_at}
-use Rattle.rows.proofs.Laws.{mapping-at}
-use Rattle.record.proofs.Laws.{shaped-is}
+use Rattle.rows.proofs.Laws.{mapping_at}
+use Rattle.record.proofs.Laws.{shaped_is}
 use Rattle.change.specs.declared.Part.{Part}
 use Rattle.change.specs.declared.Part.TheVariants.{Alignment, ZeroBlocks, Overflow, BelowStart, PastUsable, EndPastUsable}
 use Rattle.change.specs.declared.Range.{Range}
 use Rattle.change.specs.declared.Range.TheVariants.{Inside, Outside as NotInside}
 use Rattle.change.specs.Change.{range_of, host_of, host_in, host_sum, legal_at, change_in}
 use Rattle.change.specs.Why.{part_why, host_why, range_why}
-use Rattle.change.proofs.Why.{Failed, either-failed}
+use Rattle.change.proofs.Why.{Failed, either_failed}
 use Rattle.change.proofs.Laws.{inside_is}
 use Rattle.step.specs.World.{World}
 use Rattle.step.specs.Step.{block_size, region, usable, start, several, changing}
-use Rattle.step.proofs.Served.{Known, of-every-reply}
+use Rattle.step.proofs.Served.{Known, of_every_reply}
 use Rattle.history.specs.Good.{row_size}
 use Rattle.history.specs.Rules.{FromEveryGood, NotSpoiled, Never9Or10}
 
@@ -41,19 +41,19 @@ part_low BelowStart = low 4 (omega arith)
 part_low PastUsable = low 5 (omega arith)
 part_low EndPastUsable = low 6 (omega arith)
 
-state-low : (r : Range) → NotSpoiled (range_why r)
+state_low : (r : Range) → NotSpoiled (range_why r)
 unfolding range_why
-state-low (Inside offset) = low 0 (omega arith)
-state-low (NotInside part) = part_low part
+state_low (Inside offset) = low 0 (omega arith)
+state_low (NotInside part) = part_low part
 
 -- ---- the host has what is usable
 pub record Backed (w : World) : Type 0 where
   pub whole : 0 < block_size w
-  pub in-region : usable w ≤ region w
+  pub in_region : usable w ≤ region w
   pub below : (r : ℕ) → r * map_region < usable w → r < map_regions (region w) (several w) → (row_at w.rows r).mapped ≡ 0 → ⊥
   pub fits : (r : ℕ) → r < map_regions (region w) (several w) → ((row_at w.rows r).mapped ≡ 0 → ⊥) → (row_at w.rows r).host.0 + row_size (region w) (several w) ≤ top
 
-module _ (b usable region : ℕ) (rows : List MapRow) (offset size : ℕ) (some : 0 < size) (in-usable : offset + size ≤ usable) (in-region : usable ≤ region) where
+module _ (b usable region : ℕ) (rows : List MapRow) (offset size : ℕ) (some : 0 < size) (in-usable : offset + size ≤ usable) (in_region : usable ≤ region) where
   -- with several regions a range that crosses no border lies in a row that is mapped
   by_rows :
       ((r : ℕ) → r * map_region < usable → r < map_regions region true → (row_at rows r).mapped ≡ 0 → ⊥)
@@ -65,28 +65,28 @@ module _ (b usable region : ℕ) (rows : List MapRow) (offset size : ℕ) (some 
       let there : row < map_regions region true = omega arith in
       let mapped = below row (omega arith) there in
       let room = fits row there mapped in
-      by-test (ltb map_region (offset % map_region + size)) (λ t. rw t (low 8 (omega arith)))
+      by_test (ltb map_region (offset % map_region + size)) (λ t. rw t (low 8 (omega arith)))
       (λ t.
       let inside = ltb-false map_region (offset % map_region + size) t in
-      rw (t, mapping-at rows row mapped, le-ltb top ((row_at rows row).host.0 + offset % map_region + size) (omega arith)) tt)
+      rw (t, mapping_at rows row mapped, le-ltb top ((row_at rows row).host.0 + offset % map_region + size) (omega arith)) tt)
 
   -- and a single one is mapped whole
   by_one :
       ((row_at rows 0).mapped ≡ 0 → ⊥) → (row_at rows 0).host.0 + region ≤ top → Failed NotSpoiled (legal_at b offset (host_of false rows offset size))
   unfolding host_of host_in host_sum legal_at Failed
-  by_one mapped room = rw (mapping-at rows 0 mapped, le-ltb top ((row_at rows 0).host.0 + offset + size) (omega arith)) tt
+  by_one mapped room = rw (mapping_at rows 0 mapped, le-ltb top ((row_at rows 0).host.0 + offset + size) (omega arith)) tt
 
 hosts : (w : World) → Backed w → (offset size : ℕ) → 0 < size → offset + size ≤ usable w → Failed NotSpoiled (legal_at (block_size w) offset (host_of (several w) w.rows offset size))
 unfolding map_regions
 hosts w u offset size some inside = go (several w) refl
   where
     go : (v : Bool) → several w ≡ v → Failed NotSpoiled (legal_at (block_size w) offset (host_of (several w) w.rows offset size))
-    go true e = rw e (by_rows (block_size w) (usable w) (region w) w.rows offset size some inside u.in-region (rw e at u.below) (rw e at u.fits))
+    go true e = rw e (by_rows (block_size w) (usable w) (region w) w.rows offset size some inside u.in_region (rw e at u.below) (rw e at u.fits))
     go false e =
         let there : 0 < map_regions (region w) (several w) = rw e (omega arith) in
         let mapped = u.below 0 (omega arith) there in
         let room = rw e at (u.fits 0 there mapped) in
-        rw e (by_one (block_size w) (usable w) (region w) w.rows offset size some inside u.in-region mapped room)
+        rw e (by_one (block_size w) (usable w) (region w) w.rows offset size some inside u.in_region mapped room)
 
 changes : (w : World) → Backed w → (addr count : ℕ) (wanted : Bool) → Failed NotSpoiled (changing w addr count wanted)
 unfolding change_in Failed
@@ -95,8 +95,8 @@ changes w u addr count wanted = go (range_of (block_size w) (start w) (usable w)
     go : (r : Range) → range_of (block_size w) (start w) (usable w) addr count ≡ r → Failed NotSpoiled (change_in r (block_size w) (several w) count wanted w.blocks w.rows)
     go (Inside offset) e =
         let in-range = inside_is (block_size w) (start w) (usable w) addr count offset e in
-        either-failed NotSpoiled (all_are w.blocks (blocks_in (block_size w) offset.0) count (not wanted)) _ _
-        (hosts w u offset.0 (bytes_of (block_size w) count) (mul-pos in-range.some u.whole) in-range.in-usable)
+        either_failed NotSpoiled (all_are w.blocks (blocks_in (block_size w) offset.0) count (not wanted)) _ _
+        (hosts w u offset.0 (bytes_of (block_size w) count) (mul-pos in-range.some u.whole) in-range.in_usable)
         (low 7 (omega arith))
     go (NotInside part) e = part_low part
 
@@ -105,14 +105,14 @@ known =
     record {
       acks = low 0 (omega arith);
       nacks = low 0 (omega arith);
-      states = λ w u addr count. state-low _;
+      states = λ w u addr count. state_low _;
       changes = changes;
       discards = (λ e. omega arith, λ e. omega arith);
-      clears = λ w block u. record { whole = u.whole; in-region = u.in-region; below = u.below; fits = u.fits };
+      clears = λ w block u. record { whole = u.whole; in_region = u.in_region; below = u.below; fits = u.fits };
     }
 
-pub never-9-or-10 : FromEveryGood Never9Or10
-never-9-or-10 s g =
+pub never_9_or_10 : FromEveryGood Never9Or10
+never_9_or_10 s g =
     let w = s.world in
-    let f = shaped-is w.device g.shaped in
-    of-every-reply (λ v. NotSpoiled v.why) Backed known w (record { whole = omega (arith, f.block_size); in-region = f.usable-in; below = g.mapped.below; fits = g.mapped.fits })
+    let f = shaped_is w.device g.shaped in
+    of_every_reply (λ v. NotSpoiled v.why) Backed known w (record { whole = omega (arith, f.block_size); in_region = f.usable_in; below = g.mapped.below; fits = g.mapped.fits })

@@ -30,14 +30,14 @@ use Rattle.change.specs.declared.Change.{Change}
 use Rattle.change.specs.declared.Change.TheVariants.{Legal, Outside, WrongState, NoHost}
 use Rattle.change.specs.declared.HostRange.TheVariants.{At as HostAt}
 use Rattle.change.specs.Change.{host_of}
-use Rattle.change.proofs.Laws.{legal-is, legal-whole}
+use Rattle.change.proofs.Laws.{legal_is, legal_whole}
 use Rattle.step.specs.declared.Answer.TheVariants.{Done}
 use Rattle.step.specs.World.{World, Guest, Outcome}
 use Rattle.step.specs.Step.{block_size, region, usable, plugged, requested, start, several, region_blocks, region_rows, device_of}
 use Rattle.step.specs.Step.{refused, unserved, nack, error, served, plugs, asks_discard, stops, asks_one, ends_all, new_usable, sizes, asks_create, placed}
 use Rattle.step.specs.Step.{tables_fit, ready_refusal, unplaced_refusal, pending_refusal, range_refusal, unless, changing, plug_as, plug, unplug_as, unplug, one_as, unplug_one, next_as, unplug_all, state_verdict, serve, resizes, resized, placing, place, set_requested_size, read_config, write_config}
-use Rattle.record.proofs.Laws.{Parts, parts as shaped-is, whole as shaped-when, shaped-is as facts-of}
-use Rattle.history.proofs.Shaped.{size-whole, size-within, block-is}
+use Rattle.record.proofs.Laws.{Parts, parts as shaped-is, whole as shaped-when, shaped_is as facts-of}
+use Rattle.history.proofs.Shaped.{size_whole, size_within, block_is}
 
 module _ {A : Type 0} (P : A → Type 0) where
   -- what holds of both sides of a test holds of the test
@@ -46,25 +46,25 @@ module _ {A : Type 0} (P : A → Type 0) where
   by_cond false a b f g = g refl
 
   -- .. and of a test whose answer is turned
-  pub by-not : (t : Bool) (a b : A) → (t ≡ true → P b) → (t ≡ false → P a) → P (cond (not t) a b)
-  by-not true a b f g = f refl
-  by-not false a b f g = g refl
+  pub by_not : (t : Bool) (a b : A) → (t ≡ true → P b) → (t ≡ false → P a) → P (cond (not t) a b)
+  by_not true a b f g = f refl
+  by_not false a b f g = g refl
 
 -- what is known where a call is not refused; the lent tables have so many blocks and rows
 pub record Entered (d : Device) (blocks rows : ℕ) (quiet : Bool) : Type 0 where
-  pub is-shaped : Parts d
-  pub is-idle : is_idle d.pending ≡ quiet
-  pub is-long : blocks_in d.config.block_size d.config.region_size ≤ blocks
-  pub has-rows : map_regions d.config.region_size d.several ≤ rows
+  pub is_shaped : Parts d
+  pub pending_is_idle : is_idle d.pending ≡ quiet
+  pub is_long : blocks_in d.config.block_size d.config.region_size ≤ blocks
+  pub has_rows : map_regions d.config.region_size d.several ≤ rows
 
 entered : (d : Device) (blocks rows : ℕ) (quiet : Bool) → shaped_of d ≡ true → is_idle d.pending ≡ quiet → tables_fit d blocks rows ≡ true → Entered d blocks rows quiet
 unfolding tables_fit
 entered d blocks rows quiet s i t =
     record {
-      is-shaped = shaped-is d s;
-      is-idle = i;
-      is-long = leb-true _ _ (and_left _ _ t);
-      has-rows = leb-true _ _ (and_right (leb (blocks_in d.config.block_size d.config.region_size) blocks) _ t);
+      is_shaped = shaped-is d s;
+      pending_is_idle = i;
+      is_long = leb-true _ _ (and_left _ _ t);
+      has_rows = leb-true _ _ (and_right (leb (blocks_in d.config.block_size d.config.region_size) blocks) _ t);
     }
 
 -- ---- the refusals of every call: 12 is given for the shape alone
@@ -72,93 +72,93 @@ module _ (P : Outcome → Type 0) (w : World) (bytes : List ℕ) (o : Outcome) (
   abbrev Given : ℕ → Type 0
   Given n = P (unless n w bytes o)
 
-  pub on-ready : (w.device.placed ≡ true → Entered w.device blocks rows true → P o) → P (unless (ready_refusal w.device blocks rows) w bytes o)
+  pub on_ready : (w.device.placed ≡ true → Entered w.device blocks rows true → P o) → P (unless (ready_refusal w.device blocks rows) w bytes o)
   unfolding ready_refusal unless
-  on-ready k =
-      by-not Given (shaped_of w.device) _ _
-      (λ h₁. by-not Given (is_idle w.device.pending) _ _
-      (λ h₂. by-not Given w.device.placed _ _
-      (λ h₃. by-not Given (tables_fit w.device blocks rows) _ _
+  on_ready k =
+      by_not Given (shaped_of w.device) _ _
+      (λ h₁. by_not Given (is_idle w.device.pending) _ _
+      (λ h₂. by_not Given w.device.placed _ _
+      (λ h₃. by_not Given (tables_fit w.device blocks rows) _ _
       (λ h₄. k h₃ (entered _ _ _ _ h₁ h₂ h₄))
       (λ _. refuses 11 (λ e. omega arith) (λ e. absurd (omega arith))))
       (λ _. refuses 5 (λ e. omega arith) (λ e. absurd (omega arith))))
       (λ _. refuses 7 (λ e. omega arith) (λ e. absurd (omega arith))))
       (λ h₁. refuses 12 (λ e. omega arith) (λ _. h₁))
 
-  pub on-unplaced : (w.device.placed ≡ false → Entered w.device blocks rows true → P o) → P (unless (unplaced_refusal w.device blocks rows) w bytes o)
+  pub on_unplaced : (w.device.placed ≡ false → Entered w.device blocks rows true → P o) → P (unless (unplaced_refusal w.device blocks rows) w bytes o)
   unfolding unplaced_refusal unless
-  on-unplaced k =
-      by-not Given (shaped_of w.device) _ _
-      (λ h₁. by-not Given (is_idle w.device.pending) _ _
+  on_unplaced k =
+      by_not Given (shaped_of w.device) _ _
+      (λ h₁. by_not Given (is_idle w.device.pending) _ _
       (λ h₂. by_cond Given w.device.placed _ _
       (λ _. refuses 6 (λ e. omega arith) (λ e. absurd (omega arith)))
-      (λ h₃. by-not Given (tables_fit w.device blocks rows) _ _
+      (λ h₃. by_not Given (tables_fit w.device blocks rows) _ _
       (λ h₄. k h₃ (entered _ _ _ _ h₁ h₂ h₄))
       (λ _. refuses 11 (λ e. omega arith) (λ e. absurd (omega arith)))))
       (λ _. refuses 7 (λ e. omega arith) (λ e. absurd (omega arith))))
       (λ h₁. refuses 12 (λ e. omega arith) (λ _. h₁))
 
-  pub on-pending : (Entered w.device blocks rows false → P o) → P (unless (pending_refusal w.device blocks rows) w bytes o)
+  pub on_pending : (Entered w.device blocks rows false → P o) → P (unless (pending_refusal w.device blocks rows) w bytes o)
   unfolding pending_refusal unless
-  on-pending k =
-      by-not Given (shaped_of w.device) _ _
+  on_pending k =
+      by_not Given (shaped_of w.device) _ _
       (λ h₁. by_cond Given (is_idle w.device.pending) _ _
       (λ _. refuses 8 (λ e. omega arith) (λ e. absurd (omega arith)))
-      (λ h₂. by-not Given (tables_fit w.device blocks rows) _ _
+      (λ h₂. by_not Given (tables_fit w.device blocks rows) _ _
       (λ h₃. k (entered _ _ _ _ h₁ h₂ h₃))
       (λ _. refuses 11 (λ e. omega arith) (λ e. absurd (omega arith)))))
       (λ h₁. refuses 12 (λ e. omega arith) (λ _. h₁))
 
 -- ---- a legal range, by blocks
 pub record Lies (w : World) (addr count : ℕ) (wanted : Bool) (first offset : ℕ) : Type 0 where
-  pub first-is : first ≡ blocks_in (block_size w) (addr - start w)
-  pub offset-is : offset ≡ addr - start w
-  pub some-blocks : 0 < count
+  pub first_is : first ≡ blocks_in (block_size w) (addr - start w)
+  pub offset_is : offset ≡ addr - start w
+  pub some_blocks : 0 < count
   pub ends : first + count ≤ region_blocks w
-  pub in-usable : offset + bytes_of (block_size w) count ≤ usable w
+  pub in_usable : offset + bytes_of (block_size w) count ≤ usable w
   pub state : all_are w.blocks first count (not wanted) ≡ true
 
 pub lies : (w : World) (addr count : ℕ) (wanted : Bool) (first : ℕ) (offset : RegionOffset) (host : HostAddr) → Parts w.device → changing w addr count wanted ≡ Legal first offset host
     → Lies w addr count wanted first offset.0
 lies w addr count wanted first offset host s e =
-    let l = legal-is (block_size w) (start w) (usable w) (several w) addr count wanted w.blocks w.rows first offset host e in
-    let b = block-is w.device s in
+    let l = legal_is (block_size w) (start w) (usable w) (several w) addr count wanted w.blocks w.rows first offset host e in
+    let b = block_is w.device s in
     let positive : 0 < block_size w = omega arith in
-    let fits = size-within (block_size w) (usable w) (region w) s.usable in
-    let first-at = l.first-is in
-    let offset_at = l.in-range.offset-is in
+    let fits = size_within (block_size w) (usable w) (region w) s.usable in
+    let first-at = l.first_is in
+    let offset_at = l.in_range.offset_is in
     record {
-      first-is = first-at ∙ ap (λ n. blocks_in (block_size w) n) offset_at;
-      offset-is = offset_at;
-      some-blocks = l.in-range.some;
-      ends = (le-div_iff_mul-le positive).1 (rw (first-at, add-mul (blocks_in (block_size w) offset.0) count (block_size w)) (omega (arith, div-mul-le_self offset.0 (block_size w), l.in-range.in-usable)));
-      in-usable = l.in-range.in-usable;
+      first_is = first-at ∙ ap (λ n. blocks_in (block_size w) n) offset_at;
+      offset_is = offset_at;
+      some_blocks = l.in_range.some;
+      ends = (le-div_iff_mul-le positive).1 (rw (first-at, add-mul (blocks_in (block_size w) offset.0) count (block_size w)) (omega (arith, div-mul-le_self offset.0 (block_size w), l.in_range.in_usable)));
+      in_usable = l.in_range.in_usable;
       state = l.not-wanted;
     }
 
 -- .. its offset, and the host address that its row gives: what a discard of it is asked for with
 pub record Located (w : World) (first count offset host : ℕ) : Type 0 where
-  pub offset-is : offset ≡ bytes_of (block_size w) first
-  pub host-is : host_of (several w) w.rows offset (bytes_of (block_size w) count) ≡ HostAt (record { 0 = host })
+  pub offset_is : offset ≡ bytes_of (block_size w) first
+  pub host_is : host_of (several w) w.rows offset (bytes_of (block_size w) count) ≡ HostAt (record { 0 = host })
 
 located : (w : World) (addr count : ℕ) (wanted : Bool) (first : ℕ) (offset : RegionOffset) (host : HostAddr) → Parts w.device → changing w addr count wanted ≡ Legal first offset host
     → Located w first count offset.0 host.0
 located w addr count wanted first offset host s e =
-    let l = legal-is (block_size w) (start w) (usable w) (several w) addr count wanted w.blocks w.rows first offset host e in
-    let b = block-is w.device s in
+    let l = legal_is (block_size w) (start w) (usable w) (several w) addr count wanted w.blocks w.rows first offset host e in
+    let b = block_is w.device s in
     let facts = facts-of w.device (shaped-when w.device s) in
     record {
-      offset-is = (legal-whole (block_size w) (start w) (usable w) (several w) addr count wanted w.blocks w.rows first offset host (omega arith) (rw b facts.start-blocks) l).offset-of;
-      host-is = l.host-at;
+      offset_is = (legal_whole (block_size w) (start w) (usable w) (several w) addr count wanted w.blocks w.rows first offset host (omega arith) (rw b facts.start_blocks) l).offset_of_lem;
+      host_is = l.host_at;
     }
 
 -- ---- plug, unplug, unplug-all, and the kinds of request
 module _ (P : Outcome → Type 0) (w : World) (s : Parts w.device) (status : ℕ) (g : Guest) where
-  pub plug-cases : (addr count : ℕ)
+  pub plug_cases : (addr count : ℕ)
       → ((first offset : ℕ) → plugged w + bytes_of (block_size w) count ≤ requested w → Lies w addr count true first offset → P (plugs w first count status g))
       → ((why : ℕ) → P (served (error why) status w g)) → P (served nack status w g) → P (plug w addr count status g)
   unfolding plug plug_as
-  plug-cases addr count legal bad over =
+  plug_cases addr count legal bad over =
       by_cond P (ltb (requested w) (plugged w + bytes_of (block_size w) count)) _ _ (λ _. over)
       (λ h. go (changing w addr count true) refl (ltb-false (requested w) (plugged w + bytes_of (block_size w) count) h))
     where
@@ -168,13 +168,13 @@ module _ (P : Outcome → Type 0) (w : World) (s : Parts w.device) (status : ℕ
       go WrongState e h = bad _
       go (NoHost part) e h = bad _
 
-  pub unplug-cases : (addr count : ℕ)
+  pub unplug_cases : (addr count : ℕ)
       → ((first offset host : ℕ) → bytes_of (block_size w) count ≤ plugged w → Lies w addr count false first offset → Located w first count offset host
       → P (asks_discard w first count offset host status g))
       → ((first offset : ℕ) → plugged w < bytes_of (block_size w) count → Lies w addr count false first offset → P (refused 12 w g.mem))
       → ((why : ℕ) → P (served (error why) status w g)) → P (unplug w addr count status g)
   unfolding unplug_as
-  unplug-cases addr count legal spoiled bad = go (changing w addr count false) refl
+  unplug_cases addr count legal spoiled bad = go (changing w addr count false) refl
     where
       go : (c : Change) → changing w addr count false ≡ c → P (unplug_as c w count status g)
       go (Legal first offset host) e =
@@ -186,35 +186,35 @@ module _ (P : Outcome → Type 0) (w : World) (s : Parts w.device) (status : ℕ
       go WrongState e = bad _
       go (NoHost part) e = bad _
 
-  one-cases : (block : ℕ)
+  one_cases : (block : ℕ)
       → ((offset host : ℕ) → Located w block 1 offset host → P (asks_one w block offset host status g))
       → ((why : ℕ) → P (stops why w status g)) → P (unplug_one w block status g)
   unfolding one_as
-  one-cases block asks stop = go (changing w (start w + bytes_of (block_size w) block) 1 false) refl
+  one_cases block asks stop = go (changing w (start w + bytes_of (block_size w) block) 1 false) refl
     where
       go : (c : Change) → changing w (start w + bytes_of (block_size w) block) 1 false ≡ c → P (one_as c w block status g)
       go (Legal first offset host) e =
           let addr = start w + bytes_of (block_size w) block in
           let l = lies w addr 1 false first offset host s e in
           let at = located w addr 1 false first offset host s e in
-          asks offset.0 host.0 (record { offset-is = omega (arith, l.offset-is); host-is = at.host-is })
+          asks offset.0 host.0 (record { offset_is = omega (arith, l.offset_is); host_is = at.host_is })
       go (Outside part) e = stop _
       go WrongState e = stop _
       go (NoHost part) e = stop _
 
-  pub unplug-all-cases : (from : ℕ)
+  pub unplug_all_cases : (from : ℕ)
       → (next_set w.blocks from (region_blocks w) ≡ NoneSet → P (ends_all w status g))
       → ((block offset host : ℕ) → next_set w.blocks from (region_blocks w) ≡ At block → Located w block 1 offset host → P (asks_one w block offset host status g))
       → ((why : ℕ) → P (stops why w status g)) → P (unplug_all w from status g)
   unfolding next_as
-  unplug-all-cases from ends asks stop = go (next_set w.blocks from (region_blocks w)) refl
+  unplug_all_cases from ends asks stop = go (next_set w.blocks from (region_blocks w)) refl
     where
       go : (f : Found) → next_set w.blocks from (region_blocks w) ≡ f → P (next_as f w status g)
       go NoneSet e = ends e
-      go (At block) e = one-cases block (λ offset host q. asks block offset host e q) stop
+      go (At block) e = one_cases block (λ offset host q. asks block offset host e q) stop
 
 module _ (P : Outcome → Type 0) (w : World) (req : VirtioMemReq) (status : ℕ) (g : Guest) where
-  pub serve-cases :
+  pub serve_cases :
       (eqb req.req_type 0 ≡ true → P (plug w req.addr.0 req.nb_blocks status g))
       → (eqb req.req_type 0 ≡ false → eqb req.req_type 1 ≡ true
       → P (unplug w req.addr.0 req.nb_blocks status g))
@@ -223,7 +223,7 @@ module _ (P : Outcome → Type 0) (w : World) (req : VirtioMemReq) (status : ℕ
       → P (served (state_verdict w req.addr.0 req.nb_blocks) status w g))
       → P (unserved 0 w g) → P (serve w req status g)
   unfolding serve
-  serve-cases plugging unplugging all state other =
+  serve_cases plugging unplugging all state other =
       by_cond P (eqb req.req_type 0) _ _ plugging
       (λ e₀. by_cond P (eqb req.req_type 1) _ _ (unplugging e₀)
       (λ e₁. by_cond P (eqb req.req_type 2) _ _ (all e₀ e₁)
@@ -231,60 +231,60 @@ module _ (P : Outcome → Type 0) (w : World) (req : VirtioMemReq) (status : ℕ
 
 -- ---- the usable size, placing, the size change, and the config
 module _ (P : Outcome → Type 0) (w : World) where
-  pub resized-ways :
+  pub resized_ways :
       (growth_of (region w) (several w) (usable w) (new_usable w) w.rows ≡ Settled → P (sizes w))
       → ((i last size : ℕ) → growth_of (region w) (several w) (usable w) (new_usable w) w.rows ≡ Asks i last size → P (asks_create w i last size))
       → P (resized w)
   unfolding resizes
-  resized-ways settled asks = go (growth_of (region w) (several w) (usable w) (new_usable w) w.rows) refl
+  resized_ways settled asks = go (growth_of (region w) (several w) (usable w) (new_usable w) w.rows) refl
     where
       go : (x : Growth) → growth_of (region w) (several w) (usable w) (new_usable w) w.rows ≡ x → P (resizes x w)
       go Settled e = settled e
       go (Asks i last size) e = asks i last size e
 
-  pub resized-cases : P (sizes w)
+  pub resized_cases : P (sizes w)
       → ((i last size : ℕ) → growth_of (region w) (several w) (usable w) (new_usable w) w.rows ≡ Asks i last size → P (asks_create w i last size))
       → P (resized w)
-  resized-cases settled asks = resized-ways (λ _. settled) asks
+  resized_cases settled asks = resized_ways (λ _. settled) asks
 
-  pub placing-cases : P (sizes w)
+  pub placing_cases : P (sizes w)
       → ((i last size : ℕ) → growth_of (region w) (several w) (usable w) (new_usable w) w.rows ≡ Asks i last size → P (asks_create w i last size))
       → (several w ≡ false → P (asks_create w 0 0 (region w)))
       → P (placing w)
   unfolding placing
-  placing-cases settled asks single = by_cond P (several w) _ _ (λ _. resized-cases settled asks) single
+  placing_cases settled asks single = by_cond P (several w) _ _ (λ _. resized_cases settled asks) single
 
-  pub place-cases : (at size : ℕ) (slots : List ℕ) (bs : List Bool) (rows : List MapRow)
+  pub place_cases : (at size : ℕ) (slots : List ℕ) (bs : List Bool) (rows : List MapRow)
       → P (refused 3 w []) → P (refused 4 w [])
       → (length slots ≡ region_rows w → start_ok at (region w) (several w) w.device.alignment ≡ true → P (placing (placed w at slots bs rows)))
       → P (place w at size slots bs rows)
   unfolding place range_refusal unless
-  place-cases at size slots bs rows bad-range bad-start k =
+  place_cases at size slots bs rows bad-range bad-start k =
       let Given : ℕ → Type 0 = λ n. P (unless n w [] (placing (placed w at slots bs rows))) in
-      by-not Given (eqb (length slots) (region_rows w) && eqb size (region w)) _ _
-      (λ fit. by-not Given (start_ok at (region w) (several w) w.device.alignment) _ _
+      by_not Given (eqb (length slots) (region_rows w) && eqb size (region w)) _ _
+      (λ fit. by_not Given (start_ok at (region w) (several w) w.device.alignment) _ _
       (λ starts. k (eqb-true (length slots) (region_rows w) (and_left _ _ fit)) starts)
       (λ _. bad-start))
       (λ _. bad-range)
 
-  pub size-cases : (mib : ℕ) → P (refused 1 w [])
+  pub size_cases : (mib : ℕ) → P (refused 1 w [])
       → (mib * 1048576 ≤ region w → mib * 1048576 % block_size w ≡ 0 → P (resized (device_of (requested_to (mib * 1048576) w.device) w)))
       → P (set_requested_size w mib)
   unfolding set_requested_size
-  size-cases mib bad k =
-      by-not P (size_ok (block_size w) (mib * 1048576) (region w)) _ _
-      (λ fits. k (size-within _ _ _ fits) (size-whole _ _ _ fits))
+  size_cases mib bad k =
+      by_not P (size_ok (block_size w) (mib * 1048576) (region w)) _ _
+      (λ fits. k (size_within _ _ _ fits) (size_whole _ _ _ fits))
       (λ _. bad)
 
-  pub read-cases : (offset : ℕ) (buffer : List ℕ) → (shaped_of w.device ≡ false → P (refused 12 w buffer))
+  pub read_cases : (offset : ℕ) (buffer : List ℕ) → (shaped_of w.device ≡ false → P (refused 12 w buffer))
       → P (record { world = w; answer = Done; bytes = put buffer 0 (drop offset (config_bytes w.device.config)) })
       → P (read_config w offset buffer)
   unfolding read_config
-  read-cases offset buffer bad good =
-      by-not P (shaped_of w.device) _ _ (λ _. good) bad
+  read_cases offset buffer bad good =
+      by_not P (shaped_of w.device) _ _ (λ _. good) bad
 
-  pub write-cases : (buffer : List ℕ) → (shaped_of w.device ≡ false → P (refused 12 w buffer))
+  pub write_cases : (buffer : List ℕ) → (shaped_of w.device ≡ false → P (refused 12 w buffer))
       → P (record { world = w; answer = Done; bytes = buffer }) → P (write_config w buffer)
   unfolding write_config
-  write-cases buffer bad good =
-      by-not P (shaped_of w.device) _ _ (λ _. good) bad
+  write_cases buffer bad good =
+      by_not P (shaped_of w.device) _ _ (λ _. good) bad

@@ -9,14 +9,14 @@ use lib.Dec.{leb, ltb, eqb}
 use lib.ListN.{length}
 use borrow.Author.Tests.{ltb-true, ltb-false, le-leb, lt-ltb, eq-eqb}
 use Rattle.units.specs.Numbers.{map_regions}
-use Rattle.units.proofs.Tests.{by-test, and_left, and_right}
+use Rattle.units.proofs.Tests.{by_test, and_left, and_right}
 use Rattle.bitmap.specs.Blocks.{block_at, all_are, next_set}
 use Rattle.bitmap.specs.declared.Found.{Found}
 use Rattle.bitmap.specs.declared.Found.TheVariants.{At, Nothing as NoneSet}
-use Rattle.bitmap.proofs.Laws.{next-at, next-nothing, all-clear-at}
+use Rattle.bitmap.proofs.Laws.{next_at, next_nothing, all_clear_at}
 use Rattle.rows.specs.declared.MapRow.{MapRow}
 use Rattle.rows.specs.Rows.{row_at, rows_laid}
-use Rattle.rows.proofs.Laws.{laid-inside}
+use Rattle.rows.proofs.Laws.{laid_inside}
 use Rattle.record.specs.declared.Pending.{Pending}
 use Rattle.record.specs.declared.Pending.TheVariants.{Nothing, Create, Discard, DiscardOne}
 use Rattle.record.specs.Shape.{is_idle}
@@ -30,7 +30,7 @@ use Rattle.history.specs.Good.{due}
 use Rattle.history.proofs.Shaped.{clash}
 use Rattle.history.proofs.Invariant.{Inv, Asked}
 use Rattle.history.proofs.Calls.{Grows, resized_by, placed_by, Endings}
-use Rattle.history.proofs.Keeps.{discard-ends}
+use Rattle.history.proofs.Keeps.{discard_ends}
 
 -- ---- the first row of a creation has no mapping
 unfoldable pub row_due : Pending → List MapRow → Bool
@@ -39,70 +39,70 @@ row_due (Create first last) rows = eqb (row_at rows first).mapped 0
 row_due (Discard first count status) rows = true
 row_due (DiscardOne block status) rows = true
 
-idle-due : (p : Pending) (rows : List MapRow) → is_idle p ≡ true → row_due p rows ≡ true
+idle_due : (p : Pending) (rows : List MapRow) → is_idle p ≡ true → row_due p rows ≡ true
 unfolding row_due
-idle-due Nothing rows e = refl
-idle-due (Create first last) rows e = clash e refl
-idle-due (Discard first count status) rows e = clash e refl
-idle-due (DiscardOne block status) rows e = clash e refl
+idle_due Nothing rows e = refl
+idle_due (Create first last) rows e = clash e refl
+idle_due (Discard first count status) rows e = clash e refl
+idle_due (DiscardOne block status) rows e = clash e refl
 
-grows-due : (w : World) (i last size : ℕ) → Grows w i last size → eqb (row_at w.rows i).mapped 0 ≡ true
-grows-due w i last size g =
+grows_due : (w : World) (i last size : ℕ) → Grows w i last size → eqb (row_at w.rows i).mapped 0 ≡ true
+grows_due w i last size g =
     eq-eqb (row_at w.rows i).mapped 0 (asking (region w) (several w) (usable w) (new_usable w) w.rows i last size g).search.unmapped
 
-laid-due : (rows : List MapRow) (slots : List ℕ) → 0 < length rows → 0 < length slots → eqb (row_at (rows_laid rows slots) 0).mapped 0 ≡ true
-laid-due rows slots p q = rw (laid-inside rows slots 0 p q)
+laid_due : (rows : List MapRow) (slots : List ℕ) → 0 < length rows → 0 < length slots → eqb (row_at (rows_laid rows slots) 0).mapped 0 ≡ true
+laid_due rows slots p q = rw (laid_inside rows slots 0 p q)
 
-one-row : (region : ℕ) (several : Bool) → several ≡ false → map_regions region several ≡ 1
+one_row : (region : ℕ) (several : Bool) → several ≡ false → map_regions region several ≡ 1
 unfolding map_regions
-one-row region several e = rw e
+one_row region several e = rw e
 
 abbrev pub RowDue : Call → Outcome → List Event → Type 0
 RowDue c o new = row_due o.world.device.pending o.world.rows ≡ true
 
-pub row-due : (w : World) → row_due w.device.pending w.rows ≡ true → Endings w RowDue
+pub row_due_lem : (w : World) → row_due w.device.pending w.rows ≡ true → Endings w RowDue
 unfolding row_due
-row-due w h =
+row_due_lem w h =
     record {
       refuses = λ c n _ _. h;
       reads = λ offset buffer bytes. h;
       writes = λ offset buffer. h;
       unserves = λ a reason. h;
       responds = λ a resp. h;
-      plugs-range = λ a addr count first offset _ _. h;
-      asks-range = λ a addr count first offset host _ _ _. refl;
+      plugs_range = λ a addr count first offset _ _. h;
+      asks_range = λ a addr count first offset host _ _ _. refl;
       spoils = λ a addr count first offset _ _. h;
-      ends-at-once = λ a r. refl;
-      asks-first = λ a block offset host r _. refl;
-      stops-at-once = λ a. refl;
+      ends_at_once = λ a r. refl;
+      asks_first = λ a block offset host r _. refl;
+      stops_at_once = λ a. refl;
       maps = λ i last a. refl;
-      create-fails = λ i last a. refl;
-      unplugs-range = λ first count status a. refl;
-      discard-fails = λ first count status a. refl;
-      ends-all = λ j status a r. refl;
-      asks-next = λ j status a block offset host r _. refl;
-      stops-after = λ j status a. refl;
-      one-fails = λ j status a. refl;
+      create_fails_lem = λ i last a. refl;
+      unplugs_range = λ first count status a. refl;
+      discard_fails = λ first count status a. refl;
+      ends_all_lem = λ j status a r. refl;
+      asks_next = λ j status a block offset host r _. refl;
+      stops_after = λ j status a. refl;
+      one_fails = λ j status a. refl;
       resizes = λ a. h;
-      resize-asks = λ a i last size g. grows-due (resized_by a) i last size g;
-      places = λ a. idle-due w.device.pending _ a.entry.is-idle;
-      place-asks = λ a i last size g. grows-due (placed_by a) i last size g;
-      place-asks-whole = λ a single.
-          let one : region_rows w ≡ 1 = one-row (region w) (several w) single in
-          laid-due a.table a.slots (omega (arith, a.entry.has-rows)) (omega (arith, a.slots-fit));
+      resize_asks = λ a i last size g. grows_due (resized_by a) i last size g;
+      places = λ a. idle_due w.device.pending _ a.entry.pending_is_idle;
+      place_asks = λ a i last size g. grows_due (placed_by a) i last size g;
+      place_asks_whole = λ a single.
+          let one : region_rows w ≡ 1 = one_row (region w) (several w) single in
+          laid_due a.table a.slots (omega (arith, a.entry.has_rows)) (omega (arith, a.slots_fit));
     }
 
 -- ---- what an unplug and an unplug-all ask for
-pub could-discard : (n : ℕ) (bs : List Bool) (j : ℕ) → next_set bs 0 n ≡ At j → could (Discarded j) bs n ≡ true
+pub could_discard : (n : ℕ) (bs : List Bool) (j : ℕ) → next_set bs 0 n ≡ At j → could (Discarded j) bs n ≡ true
 unfolding could
-could-discard n bs j e =
-    let lowest = next-at true bs 0 n j e in
+could_discard n bs j e =
+    let lowest = next_at true bs 0 n j e in
     let z : j - 0 ≡ j = omega arith in
-    rw (lt-ltb j n lowest.before-end, lowest.found) (rw z at lowest.none_below)
+    rw (lt-ltb j n lowest.before_end, lowest.found) (rw z at lowest.none_below)
 
-pub could-unplug : (n : ℕ) (bs : List Bool) (f c : ℕ) → f + c ≤ n → all_are bs f c true ≡ true → could (UnplugAck f c) bs n ≡ true
+pub could_unplug : (n : ℕ) (bs : List Bool) (f c : ℕ) → f + c ≤ n → all_are bs f c true ≡ true → could (UnplugAck f c) bs n ≡ true
 unfolding could
-could-unplug n bs f c p q = rw (le-leb (f + c) n p) q
+could_unplug n bs f c p q = rw (le-leb (f + c) n p) q
 
 -- and the other way: such a block is the lowest that is plugged
 lowest : (n : ℕ) (bs : List Bool) (j : ℕ) → could (Discarded j) bs n ≡ true → next_set bs 0 n ≡ At j
@@ -122,36 +122,36 @@ lowest n bs j e = go (next_set bs 0 n) refl
     go NoneSet q =
         let l = before in
         let z : n - 0 ≡ n = omega arith in
-        clash there (all-clear-at bs 0 n j (rw z at (next-nothing true bs 0 n q)) (omega arith) (omega arith))
+        clash there (all_clear_at bs 0 n j (rw z at (next_nothing true bs 0 n q)) (omega arith) (omega arith))
     go (At k) q =
-        let x = next-at true bs 0 n k q in
+        let x = next_at true bs 0 n k q in
         let z : k - 0 ≡ k = omega arith in
         let clear : all_are bs 0 k false ≡ true = rw z at x.none_below in
-        by-test (ltb k j) (λ t. clash x.found (all-clear-at bs 0 j k none_below (omega arith) (omega (arith, ltb-true k j t))))
-        (λ t. by-test (ltb j k) (λ u. clash there (all-clear-at bs 0 k j clear (omega arith) (omega (arith, ltb-true j k u))))
+        by_test (ltb k j) (λ t. clash x.found (all_clear_at bs 0 j k none_below (omega arith) (omega (arith, ltb-true k j t))))
+        (λ t. by_test (ltb j k) (λ u. clash there (all_clear_at bs 0 k j clear (omega arith) (omega (arith, ltb-true j k u))))
         (λ u. let same : k ≡ j = omega (arith, ltb-false k j t, ltb-false j k u) in q ∙ ap At same))
 
 -- ---- what is asked for is due
-pub by-pending : (w : World) (es : List Event) (p : Pending) → w.device.pending ≡ p → Inv w es → Parts w.device → row_due p w.rows ≡ true
+pub by_pending : (w : World) (es : List Event) (p : Pending) → w.device.pending ≡ p → Inv w es → Parts w.device → row_due p w.rows ≡ true
     → due p w.blocks w.rows (region_blocks w) ≡ true
 unfolding due row_due Asked
-by-pending w es Nothing q h s r = refl
-by-pending w es (Create first last) q h s r = r
-by-pending w es (Discard first count status) q h s r =
-    could-unplug (region_blocks w) w.blocks first count (discard-ends w first count status (rw q at s.pending)) (rw q at h.asked)
-by-pending w es (DiscardOne block status) q h s r = could-discard (region_blocks w) w.blocks block (rw q at h.asked)
+by_pending w es Nothing q h s r = refl
+by_pending w es (Create first last) q h s r = r
+by_pending w es (Discard first count status) q h s r =
+    could_unplug (region_blocks w) w.blocks first count (discard_ends w first count status (rw q at s.pending)) (rw q at h.asked)
+by_pending w es (DiscardOne block status) q h s r = could_discard (region_blocks w) w.blocks block (rw q at h.asked)
 
 -- what is due is asked for rightly, and its row is due
-pub asked-when : (p : Pending) (bs : List Bool) (rows : List MapRow) (n : ℕ) → due p bs rows n ≡ true → Asked p bs n
+pub asked_when : (p : Pending) (bs : List Bool) (rows : List MapRow) (n : ℕ) → due p bs rows n ≡ true → Asked p bs n
 unfolding due Asked could
-asked-when Nothing bs rows n e = refl
-asked-when (Create first last) bs rows n e = refl
-asked-when (Discard first count status) bs rows n e = and_right (leb (first + count) n) _ e
-asked-when (DiscardOne block status) bs rows n e = lowest n bs block e
+asked_when Nothing bs rows n e = refl
+asked_when (Create first last) bs rows n e = refl
+asked_when (Discard first count status) bs rows n e = and_right (leb (first + count) n) _ e
+asked_when (DiscardOne block status) bs rows n e = lowest n bs block e
 
-pub row-when : (p : Pending) (bs : List Bool) (rows : List MapRow) (n : ℕ) → due p bs rows n ≡ true → row_due p rows ≡ true
+pub row_when : (p : Pending) (bs : List Bool) (rows : List MapRow) (n : ℕ) → due p bs rows n ≡ true → row_due p rows ≡ true
 unfolding due row_due
-row-when Nothing bs rows n e = refl
-row-when (Create first last) bs rows n e = e
-row-when (Discard first count status) bs rows n e = refl
-row-when (DiscardOne block status) bs rows n e = refl
+row_when Nothing bs rows n e = refl
+row_when (Create first last) bs rows n e = e
+row_when (Discard first count status) bs rows n e = refl
+row_when (DiscardOne block status) bs rows n e = refl

@@ -49,9 +49,9 @@ device =
       pending = Nothing;
     }
 
-pub is-fresh : Fresh device
+pub is_fresh : Fresh device
 unfolding device shaped_of alignment_ok region_ok size_ok span_of start_ok several_ok pending_ok
-is-fresh = record { shaped = refl; unplaced = refl; waits-for-nothing = refl; nothing-plugged = refl; nothing-usable = refl }
+is_fresh = record { shaped = refl; unplaced = refl; waits_for_nothing = refl; nothing_plugged = refl; nothing_usable = refl }
 
 -- two descriptors from address 0 on, a request of 24 bytes at 32, and 10 bytes for the response at 56, the last of the memory; the address of a request is 4 GiB + 64 KiB x third
 chain_to : (status type third count : ℕ) → Guest
@@ -69,15 +69,15 @@ chain : (type third count : ℕ) → Guest
 chain type third count = chain_to 56 type third count
 
 -- addr=4294967296 slot=1, and the host's answer; the tables that are lent hold anything
-place-it : List Call
-place-it =
+place_it : List Call
+place_it =
     Place 4294967296 268435456 (1 ∷ []) (replicate 72 true) (record { slot = 9; mapped = 7; host = record { 0 = 5 } } ∷ [])
     ∷ HostAnswer (chain 0 0 0) true 140737488355328
     ∷ []
 
 pub calls : List Call
 calls =
-    place-it
+    place_it
     ++ Request (chain 0 0 2) 0 0
     ∷ Request (chain 0 128 3) 0 0
     ∷ Request (chain 3 64 2) 0 0
@@ -90,7 +90,7 @@ calls =
 -- two blocks plugged with an ACK that could not be delivered, the first unplugged, and all
 pub more : List Call
 more =
-    place-it
+    place_it
     ++ Request (chain_to 57 0 0 2) 0 0
     ∷ Request (chain 1 0 1) 0 0
     ∷ HostAnswer (chain 0 0 0) true 0
@@ -101,7 +101,7 @@ more =
 -- four blocks, which is all that is requested; an unplug-all whose second discard fails; and the first block again
 pub again : List Call
 again =
-    place-it
+    place_it
     ++ Request (chain 0 0 4) 0 0
     ∷ Request (chain 2 0 0) 0 0
     ∷ HostAnswer (chain 0 0 0) true 0
@@ -116,8 +116,8 @@ saved = PlugAck 3 2 ∷ PlugAck 0 1 ∷ []
 pub resumed : Story
 resumed = restored (after (begun device) more).world 8388608 saved
 
-pub on-with : List Call
-on-with = Request (chain 1 0 1) 0 0 ∷ HostAnswer (chain 0 0 0) true 0 ∷ []
+pub on_with : List Call
+on_with = Request (chain 1 0 1) 0 0 ∷ HostAnswer (chain 0 0 0) true 0 ∷ []
 
 pub answers : World → List Call → List Answer
 answers w [] = []
@@ -140,7 +140,7 @@ pub record Example : Type 0 where
   pub told : (after (begun device) calls).events ≡ Discarded 0 ∷ PlugAck 0 2 ∷ []
   pub left : plugged (after (begun device) calls).world ≡ 4194304
   pub counted : ones (used (after (begun device) calls).world) ≡ 1
-  pub more-answered :
+  pub more_answered :
       answers (begun device).world more
       ≡ Wants (Create (record { 0 = 4294967296 }) 268435456 1)
       ∷ Sized
@@ -150,10 +150,10 @@ pub record Example : Type 0 where
       ∷ Wants (Discard (record { 0 = 4194304 }) 4194304 (record { 0 = 140737492549632 }))
       ∷ served_with ack 10
       ∷ []
-  pub more-told : (after (begun device) more).events ≡ UnplugAllAck ∷ Discarded 1 ∷ UnplugAck 0 1 ∷ PlugAck 0 2 ∷ []
+  pub more_told : (after (begun device) more).events ≡ UnplugAllAck ∷ Discarded 1 ∷ UnplugAck 0 1 ∷ PlugAck 0 2 ∷ []
   pub more_left : plugged (after (begun device) more).world ≡ 0
-  pub more-counted : ones (used (after (begun device) more).world) ≡ 0
-  pub again-answered :
+  pub more_counted : ones (used (after (begun device) more).world) ≡ 0
+  pub again_answered :
       answers (begun device).world again
       ≡ Wants (Create (record { 0 = 4294967296 }) 268435456 1)
       ∷ Sized
@@ -163,48 +163,48 @@ pub record Example : Type 0 where
       ∷ served_with (error failed_discard) 10
       ∷ served_with ack 10
       ∷ []
-  pub again-told : (after (begun device) again).events ≡ PlugAck 0 1 ∷ Discarded 0 ∷ PlugAck 0 4 ∷ []
-  pub again-left : plugged (after (begun device) again).world ≡ 16777216
-  pub again-counted : ones (used (after (begun device) again).world) ≡ 4
-  pub saved-restores : CanRestore (after (begun device) more).world 8388608 saved
-  pub resumed-answered :
-      answers resumed.world on-with
+  pub again_told : (after (begun device) again).events ≡ PlugAck 0 1 ∷ Discarded 0 ∷ PlugAck 0 4 ∷ []
+  pub again_left : plugged (after (begun device) again).world ≡ 16777216
+  pub again_counted : ones (used (after (begun device) again).world) ≡ 4
+  pub saved_restores : CanRestore (after (begun device) more).world 8388608 saved
+  pub resumed_answered :
+      answers resumed.world on_with
       ≡ Wants (Discard (record { 0 = 0 }) 4194304 (record { 0 = 140737488355328 }))
       ∷ served_with ack 10
       ∷ []
-  pub resumed-told : (after resumed on-with).events ≡ UnplugAck 0 1 ∷ PlugAck 3 2 ∷ PlugAck 0 1 ∷ []
-  pub resumed-left : plugged (after resumed on-with).world ≡ 8388608
-  pub resumed-counted : ones (used (after resumed on-with).world) ≡ 2
+  pub resumed_told : (after resumed on_with).events ≡ UnplugAck 0 1 ∷ PlugAck 3 2 ∷ PlugAck 0 1 ∷ []
+  pub resumed_left : plugged (after resumed on_with).world ≡ 8388608
+  pub resumed_counted : ones (used (after resumed on_with).world) ≡ 2
 
 pub example : Example
-unfolding device chain_to chain place-it calls more again saved resumed on-with answers map_regions every fill first_from ones value little_endian part put request_at response_bytes virtq_desc descriptor_at descriptor_addr inside link_at link_after with_second with_first parsed reaches delivered mapping_of fill_rows rows_laid alignment_ok region_ok size_ok span_of start_ok several_ok pending_ok shaped_of new_size growth_of inside_of range_of host_sum host_in host_of legal_at change_in state_in state_of tables_fit ready_refusal unplaced_refusal pending_refusal range_refusal unless plug_as plug unplug_as one_as next_as state_type range_why serve request resizes placing place set_requested_size host_answer step ack_to_type ack_to_request ack_to_host acknowledges discard_of reports response refusal events_of opened_by_type opened_by_request goes_on opened_by asked_by open_after next after was_plug marks counts could marked counted all_could all_plugs
+unfolding device chain_to chain place_it calls more again saved resumed on_with answers map_regions every fill first_from ones value little_endian part put request_at response_bytes virtq_desc descriptor_at descriptor_addr inside link_at link_after with_second with_first parsed reaches delivered mapping_of fill_rows rows_laid alignment_ok region_ok size_ok span_of start_ok several_ok pending_ok shaped_of new_size growth_of inside_of range_of host_sum host_in host_of legal_at change_in state_in state_of tables_fit ready_refusal unplaced_refusal pending_refusal range_refusal unless plug_as plug unplug_as one_as next_as state_type range_why serve request resizes placing place set_requested_size host_answer step ack_to_type ack_to_request ack_to_host acknowledges discard_of reports response refusal events_of opened_by_type opened_by_request goes_on opened_by asked_by open_after next after was_plug marks counts could marked counted all_could all_plugs
 example =
     record {
       answered = refl;
       told = refl;
       left = refl;
       counted = refl;
-      more-answered = refl;
-      more-told = refl;
+      more_answered = refl;
+      more_told = refl;
       more_left = refl;
-      more-counted = refl;
-      again-answered = refl;
-      again-told = refl;
-      again-left = refl;
-      again-counted = refl;
-      saved-restores =
+      more_counted = refl;
+      again_answered = refl;
+      again_told = refl;
+      again_left = refl;
+      again_counted = refl;
+      saved_restores =
           record {
-            is-placed = refl;
-            waits-for-nothing = refl;
-            is-long = omega arith;
-            none-set = refl;
-            nothing-plugged = refl;
-            requested-fits = refl;
-            only-plugs = refl;
-            all-could = refl;
+            is_placed = refl;
+            waits_for_nothing = refl;
+            is_long = omega arith;
+            none_set = refl;
+            nothing_plugged = refl;
+            requested_fits = refl;
+            only_plugs = refl;
+            could_all = refl;
           };
-      resumed-answered = refl;
-      resumed-told = refl;
-      resumed-left = refl;
-      resumed-counted = refl;
+      resumed_answered = refl;
+      resumed_told = refl;
+      resumed_left = refl;
+      resumed_counted = refl;
     }

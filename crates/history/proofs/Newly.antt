@@ -9,23 +9,23 @@ use Rattle.step.specs.World.{Call}
 use Rattle.units.specs.declared.Node.{Node}
 use Rattle.making.specs.declared.Made.TheVariants.{Device as MadeDevice}
 use Rattle.making.specs.Made.{made}
-use Rattle.making.proofs.Newly.{made-new}
+use Rattle.making.proofs.Newly.{made_new}
 use Rattle.history.specs.History.{Fresh, Demand3, after, begun}
-use Rattle.history.specs.Reached.{from-making}
-use Rattle.history.proofs.Demand3.{demand-3, reached-after}
+use Rattle.history.specs.Reached.{from_making}
+use Rattle.history.proofs.Demand3.{demand_3, reached_after}
 
 module _ (capacity requested : ℕ) (several : Bool) (node : Node) (boot : ℕ) (d : Device) (e : made capacity requested several node boot ≡ MadeDevice d) where
-  pub made-fresh : Fresh d
-  made-fresh =
-      let new = made-new capacity requested several node boot d e in
+  pub made_fresh : Fresh d
+  made_fresh =
+      let new = made_new capacity requested several node boot d e in
       record {
         shaped = new.shape;
         unplaced = new.unplaced;
-        waits-for-nothing = new.idle;
-        nothing-plugged = new.unplugged;
-        nothing-usable = new.unusable;
+        waits_for_nothing = new.idle;
+        nothing_plugged = new.unplugged;
+        nothing_usable = new.unusable;
       }
 
   -- demand 3, from the making of a device on
-  pub demand-3-from-making : (cs : List Call) → Demand3 (after (begun d) cs).world (after (begun d) cs).events
-  demand-3-from-making cs = demand-3 (after (begun d) cs) (reached-after (begun d) (from-making made-fresh) cs)
+  pub demand_3_from_making : (cs : List Call) → Demand3 (after (begun d) cs).world (after (begun d) cs).events
+  demand_3_from_making cs = demand_3 (after (begun d) cs) (reached_after (begun d) (from_making made_fresh) cs)

@@ -25,7 +25,7 @@ use Rattle.history.specs.History.{Event, open_of}
 use Rattle.history.specs.Rules.{FromEveryGood, FromEveryWorld, DiscardsNothing, SizeChangeDiscardsNothing, asks}
 use Rattle.history.specs.Questions.{IsDiscard, creation_due, IsCreation, WaitsFor, AsksForPending, is_unplug, is_unplug_all, may_discard, OnlyUnplugsDiscard, OnlyOpenUnplugsDiscard, OthersDiscardNothing}
 use Rattle.history.proofs.Shaped.{clash}
-use Rattle.history.proofs.Calls.{Endings, each-call}
+use Rattle.history.proofs.Calls.{Endings, each_call}
 
 -- ---- the questions
 -- an answer that is no question
@@ -33,36 +33,36 @@ pub silent : {A : Type 0} (a : Answer) (call : HostCall) → asks a ≡ 0 → a 
 unfolding question
 silent a call h e = let one : asks a ≡ 1 = ap asks e in absurd (omega arith)
 
-discard-asked : (w : World) (first count offset host : ℕ) (call : HostCall) → offset ≡ bytes_of (block_size w) first
+discard_asked : (w : World) (first count offset host : ℕ) (call : HostCall) → offset ≡ bytes_of (block_size w) first
     → host_of (several w) w.rows offset (bytes_of (block_size w) count) ≡ At (record { 0 = host })
     → Wants (DiscardCall (record { 0 = offset }) (bytes_of (block_size w) count) (record { 0 = host })) ≡ Wants call → IsDiscard w first count call
-discard-asked w first count offset host call at maps e =
+discard_asked w first count offset host call at maps e =
     let q : DiscardCall (record { 0 = offset }) (bytes_of (block_size w) count) (record { 0 = host }) ≡ call = cc in
-    record { host = record { 0 = host }; host-is = rw at at maps; call-is = sym (rw at at q) }
+    record { host = record { 0 = host }; host_is = rw at at maps; call_is = sym (rw at at q) }
 
-creation-asked : (w : World) (i last size : ℕ) (call : HostCall) → creation_due w ≡ Asks i last size
+creation_asked : (w : World) (i last size : ℕ) (call : HostCall) → creation_due w ≡ Asks i last size
     → Wants (CreateCall (record { 0 = start w + i * map_region }) size (row_at w.rows i).slot) ≡ Wants call → IsCreation w i last call
-creation-asked w i last size call due e = record { size = size; is-due = due; call-is = cc }
+creation_asked w i last size call due e = record { size = size; is_due = due; call_is = cc }
 
 -- the growth of the usable size asks only where there are several regions
-several-due : (several placed : Bool) (region usable new : ℕ) (rows : List MapRow) (i last size : ℕ) → growth_of region several usable new rows ≡ Asks i last size
+several_due : (several placed : Bool) (region usable new : ℕ) (rows : List MapRow) (i last size : ℕ) → growth_of region several usable new rows ≡ Asks i last size
     → cond several (growth_of region several usable new rows) (cond placed Settled (Asks 0 0 region)) ≡ Asks i last size
-several-due true placed region usable new rows i last size g = g
-several-due false placed region usable new rows i last size g = clash (asking region false usable new rows i last size g).regions refl
+several_due true placed region usable new rows i last size g = g
+several_due false placed region usable new rows i last size g = clash (asking region false usable new rows i last size g).regions refl
 
 -- ---- each ending
 record Question (w : World) (c : Call) (o : Outcome) : Type 0 where
-  pub is-pending : AsksForPending w c o
-  pub by-unplug : OnlyUnplugsDiscard w c o
+  pub is_pending : AsksForPending w c o
+  pub by_unplug : OnlyUnplugsDiscard w c o
 
 abbrev IsQuestion : World → Call → Outcome → List Event → Type 0
 IsQuestion w c o new = Question w c o
 
 asks_none : (w : World) (c : Call) (o : Outcome) → asks o.answer ≡ 0 → Question w c o
-asks_none w c o none = record { is-pending = λ call e. silent o.answer call none e; by-unplug = λ offset size host e. silent o.answer _ none e }
+asks_none w c o none = record { is_pending = λ call e. silent o.answer call none e; by_unplug = λ offset size host e. silent o.answer _ none e }
 
-asks-creation : (w : World) (c : Call) (o : Outcome) (guest : GuestAddr) (size slot : ℕ) → o.answer ≡ Wants (CreateCall guest size slot) → AsksForPending w c o → Question w c o
-asks-creation w c o guest size slot is p = record { is-pending = p; by-unplug = λ offset n host e. let z : ◌≡◌ {A = ℕ} 0 1 = cc in absurd (omega arith) }
+asks_creation : (w : World) (c : Call) (o : Outcome) (guest : GuestAddr) (size slot : ℕ) → o.answer ≡ Wants (CreateCall guest size slot) → AsksForPending w c o → Question w c o
+asks_creation w c o guest size slot is p = record { is_pending = p; by_unplug = λ offset n host e. let z : ◌≡◌ {A = ℕ} 0 1 = cc in absurd (omega arith) }
 
 questions : (w : World) → Endings w (IsQuestion w)
 unfolding question WaitsFor is_unplug is_unplug_all may_discard open_of
@@ -73,59 +73,59 @@ questions w =
       writes = λ offset buffer. asks_none w _ _ refl;
       unserves = λ a reason. asks_none w _ _ refl;
       responds = λ a resp. asks_none w _ _ refl;
-      plugs-range = λ a addr count first offset _ _. asks_none w _ _ refl;
-      asks-range = λ a addr count first offset host _ _ at.
+      plugs_range = λ a addr count first offset _ _. asks_none w _ _ refl;
+      asks_range = λ a addr count first offset host _ _ at.
           record {
-            is-pending = λ call e. discard-asked _ first count offset host call at.offset-is at.host-is e;
-            by-unplug = λ _ _ _ _. ap is_unplug a.of-type;
+            is_pending = λ call e. discard_asked _ first count offset host call at.offset_is at.host_is e;
+            by_unplug = λ _ _ _ _. ap is_unplug a.of_type;
           };
       spoils = λ a addr count first offset _ _. asks_none w _ _ refl;
-      ends-at-once = λ a r. asks_none w _ _ refl;
-      asks-first = λ a block offset host r at.
+      ends_at_once = λ a r. asks_none w _ _ refl;
+      asks_first = λ a block offset host r at.
           record {
-            is-pending = λ call e. discard-asked _ block 1 offset host call at.offset-is at.host-is e;
-            by-unplug = λ _ _ _ _. ap is_unplug a.of-type;
+            is_pending = λ call e. discard_asked _ block 1 offset host call at.offset_is at.host_is e;
+            by_unplug = λ _ _ _ _. ap is_unplug a.of_type;
           };
-      stops-at-once = λ a. asks_none w _ _ refl;
+      stops_at_once = λ a. asks_none w _ _ refl;
       maps = λ i last a. asks_none w _ _ refl;
-      create-fails = λ i last a. asks_none w _ _ refl;
-      unplugs-range = λ first count status a. asks_none w _ _ refl;
-      discard-fails = λ first count status a. asks_none w _ _ refl;
-      ends-all = λ j status a r. asks_none w _ _ refl;
-      asks-next = λ j status a block offset host r at.
+      create_fails_lem = λ i last a. asks_none w _ _ refl;
+      unplugs_range = λ first count status a. asks_none w _ _ refl;
+      discard_fails = λ first count status a. asks_none w _ _ refl;
+      ends_all_lem = λ j status a r. asks_none w _ _ refl;
+      asks_next = λ j status a block offset host r at.
           record {
-            is-pending = λ call e. discard-asked _ block 1 offset host call at.offset-is at.host-is e;
-            by-unplug = λ _ _ _ _. ap (λ p. is_unplug_all (open_of p)) a.waits;
+            is_pending = λ call e. discard_asked _ block 1 offset host call at.offset_is at.host_is e;
+            by_unplug = λ _ _ _ _. ap (λ p. is_unplug_all (open_of p)) a.waits;
           };
-      stops-after = λ j status a. asks_none w _ _ refl;
-      one-fails = λ j status a. asks_none w _ _ refl;
+      stops_after = λ j status a. asks_none w _ _ refl;
+      one_fails = λ j status a. asks_none w _ _ refl;
       resizes = λ a. asks_none w _ _ refl;
-      resize-asks = λ a i last size g. asks-creation w _ _ _ _ _ refl (λ call e. creation-asked _ i last size call (several-due (several w) w.device.placed _ _ _ _ i last size g) e);
+      resize_asks = λ a i last size g. asks_creation w _ _ _ _ _ refl (λ call e. creation_asked _ i last size call (several_due (several w) w.device.placed _ _ _ _ i last size g) e);
       places = λ a. asks_none w _ _ refl;
-      place-asks = λ a i last size g. asks-creation w _ _ _ _ _ refl (λ call e. creation-asked _ i last size call (several-due (several w) w.device.placed _ _ _ _ i last size g) e);
-      place-asks-whole = λ a single. asks-creation w _ _ _ _ _ refl (λ call e. creation-asked _ 0 0 (region w) call (rw (single, a.not-placed)) e);
+      place_asks = λ a i last size g. asks_creation w _ _ _ _ _ refl (λ call e. creation_asked _ i last size call (several_due (several w) w.device.placed _ _ _ _ i last size g) e);
+      place_asks_whole = λ a single. asks_creation w _ _ _ _ _ refl (λ call e. creation_asked _ 0 0 (region w) call (rw (single, a.not_placed_lem)) e);
     }
 
-pub asks-for-pending : FromEveryWorld AsksForPending
-asks-for-pending w c = (each-call w (IsQuestion w) (questions w) c).is-pending
+pub asks_for_pending : FromEveryWorld AsksForPending
+asks_for_pending w c = (each_call w (IsQuestion w) (questions w) c).is_pending
 
-pub only-unplugs-discard : FromEveryWorld OnlyUnplugsDiscard
-only-unplugs-discard w c = (each-call w (IsQuestion w) (questions w) c).by-unplug
+pub only_unplugs_discard : FromEveryWorld OnlyUnplugsDiscard
+only_unplugs_discard w c = (each_call w (IsQuestion w) (questions w) c).by_unplug
 
-pub only-open-unplugs-discard : FromEveryGood OnlyOpenUnplugsDiscard
-only-open-unplugs-discard s g c = rw g.opened at (only-unplugs-discard s.world c)
+pub only_open_unplugs_discard : FromEveryGood OnlyOpenUnplugsDiscard
+only_open_unplugs_discard s g c = rw g.opened at (only_unplugs_discard s.world c)
 
 -- ---- the calls that discard nothing
 never : (w : World) (c : Call) → may_discard (open_of w.device.pending) c ≡ false → DiscardsNothing w c
-never w c no-discard offset size host e = clash (only-unplugs-discard w c offset size host e) no-discard
+never w c no-discard offset size host e = clash (only_unplugs_discard w c offset size host e) no-discard
 
-pub size-change-discards-nothing : SizeChangeDiscardsNothing
+pub size_change_discards_nothing : SizeChangeDiscardsNothing
 unfolding may_discard
-size-change-discards-nothing w mib = never w _ refl
+size_change_discards_nothing w mib = never w _ refl
 
-pub others-discard-nothing : (w : World) → OthersDiscardNothing w
+pub others_discard_nothing : (w : World) → OthersDiscardNothing w
 unfolding may_discard
-others-discard-nothing w =
+others_discard_nothing w =
     record {
       placing = λ at size slots bs rows. never w _ refl;
       reading = λ offset buffer. never w _ refl;

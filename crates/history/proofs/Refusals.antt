@@ -7,26 +7,26 @@ use mathlib.Core.List.{List, []}
 use native.Mathlib.Omega.{arith}
 use lib.ListN.{length}
 use borrow.Author.Tests.{le-leb}
-use Rattle.bitmap.proofs.Laws.{fill-length}
+use Rattle.bitmap.proofs.Laws.{fill_length}
 use Rattle.rows.specs.declared.MapRow.{MapRow}
-use Rattle.rows.proofs.Laws.{laid-length}
+use Rattle.rows.proofs.Laws.{laid_length}
 use Rattle.record.specs.declared.Pending.TheVariants.{Nothing}
 use Rattle.record.specs.Changes.{pending_to}
 use Rattle.record.specs.Shape.{shaped_of, is_idle, start_ok}
-use Rattle.record.proofs.Laws.{Parts, whole as shaped-when, start-keeps}
+use Rattle.record.proofs.Laws.{Parts, whole as shaped-when, start_keeps}
 use Rattle.step.specs.declared.Answer.TheVariants.{Refused, Wants, Sized}
 use Rattle.step.specs.Answers.{question, refusal}
 use Rattle.step.specs.World.{World, Guest, Call, Place, SetRequestedSize, Request, HostAnswer, ReadConfig, WriteConfig, Outcome}
 use Rattle.step.specs.Step.{region, several, region_blocks, region_rows, device_of, asks_create, create_fails, placed, tables_fit, unplaced_refusal, range_refusal, unless, place, host_answer, step}
-use Rattle.step.proofs.Entry.{waits-when}
+use Rattle.step.proofs.Entry.{waits_when}
 use Rattle.history.specs.History.{Event}
 use Rattle.history.specs.History.{present}
 use Rattle.history.specs.Rules.{FromEveryWorld, is_place}
 use Rattle.history.specs.Refusals.{lent_bytes, RefusedChangesNothing, TenIsCreationFailed, SizeChangeFailed, TenInSizeChange, PlacingFailed, TenInPlacing}
-use Rattle.history.proofs.Shaped.{clash, idle-nothing}
-use Rattle.history.proofs.Cases.{on-ready, on-unplaced, size-cases, resized-cases, place-cases, placing-cases}
-use Rattle.history.proofs.Calls.{Resizing, resized_by, Placing, placed_by, Endings, each-call}
-use Rattle.history.proofs.KeepsShape.{stays-shaped}
+use Rattle.history.proofs.Shaped.{clash, idle_nothing}
+use Rattle.history.proofs.Cases.{on_ready, on_unplaced, size_cases, resized_cases, place_cases, placing_cases}
+use Rattle.history.proofs.Calls.{Resizing, resized_by, Placing, placed_by, Endings, each_call}
+use Rattle.history.proofs.KeepsShape.{stays_shaped}
 use Rattle.history.proofs.Questions.{silent}
 
 -- ---- one call
@@ -51,121 +51,121 @@ left w =
       writes = λ offset buffer. done w _ _ refl;
       unserves = λ a reason. done w _ _ refl;
       responds = λ a resp. done w _ _ refl;
-      plugs-range = λ a addr count first offset _ _. done w _ _ refl;
-      asks-range = λ a addr count first offset host _ _ _. done w _ _ refl;
+      plugs_range = λ a addr count first offset _ _. done w _ _ refl;
+      asks_range = λ a addr count first offset host _ _ _. done w _ _ refl;
       spoils = λ a addr count first offset _ _. record { same = λ m e _. (refl, refl); ten = λ e. let ten : ◌≡◌ {A = ℕ} 12 10 = cc in absurd (omega arith) };
-      ends-at-once = λ a r. done w _ _ refl;
-      asks-first = λ a block offset host r _. done w _ _ refl;
-      stops-at-once = λ a. done w _ _ refl;
+      ends_at_once = λ a r. done w _ _ refl;
+      asks_first = λ a block offset host r _. done w _ _ refl;
+      stops_at_once = λ a. done w _ _ refl;
       maps = λ i last a. done w _ _ refl;
-      create-fails = λ i last a.
+      create_fails_lem = λ i last a.
           record {
             same = λ n e not-ten. let ten : n ≡ 10 = cc in absurd (not-ten ten);
             ten = λ _.
                 record {
                   first = i;
                   last = last;
-                  was-pending = a.waits;
+                  was_pending = a.waits;
                   guest = a.guest;
                   host = a.host;
-                  host-said-no = refl;
-                  nothing-pending = refl;
+                  host_said_no = refl;
+                  nothing_pending = refl;
                   same_bytes = refl;
                 };
           };
-      unplugs-range = λ first count status a. done w _ _ refl;
-      discard-fails = λ first count status a. done w _ _ refl;
-      ends-all = λ j status a r. done w _ _ refl;
-      asks-next = λ j status a block offset host r _. done w _ _ refl;
-      stops-after = λ j status a. done w _ _ refl;
-      one-fails = λ j status a. done w _ _ refl;
+      unplugs_range = λ first count status a. done w _ _ refl;
+      discard_fails = λ first count status a. done w _ _ refl;
+      ends_all_lem = λ j status a r. done w _ _ refl;
+      asks_next = λ j status a block offset host r _. done w _ _ refl;
+      stops_after = λ j status a. done w _ _ refl;
+      one_fails = λ j status a. done w _ _ refl;
       resizes = λ a. done w _ _ refl;
-      resize-asks = λ a i last size _. done w _ _ refl;
+      resize_asks = λ a i last size _. done w _ _ refl;
       places = λ a. done w _ _ refl;
-      place-asks = λ a i last size _. done w _ _ refl;
-      place-asks-whole = λ a _. done w _ _ refl;
+      place_asks = λ a i last size _. done w _ _ refl;
+      place_asks_whole = λ a _. done w _ _ refl;
     }
 
-pub refused-changes-nothing : FromEveryWorld RefusedChangesNothing
-refused-changes-nothing w c = (each-call w (IsLeft w) (left w) c).same
+pub refused_changes_nothing : FromEveryWorld RefusedChangesNothing
+refused_changes_nothing w c = (each_call w (IsLeft w) (left w) c).same
 
-pub ten-is-creation-failed : FromEveryWorld TenIsCreationFailed
-ten-is-creation-failed w c = (each-call w (IsLeft w) (left w) c).ten
+pub ten_is_creation_failed : FromEveryWorld TenIsCreationFailed
+ten_is_creation_failed w c = (each_call w (IsLeft w) (left w) c).ten
 
 -- ---- a creation that was asked for, and the host's no
 module _ (w : World) (i last size : ℕ) (g : Guest) (host : ℕ) where
-  answers-10 : Parts (asks_create w i last size).world.device → region_blocks w ≤ length w.blocks → region_rows w ≤ length w.rows
+  answers_10 : Parts (asks_create w i last size).world.device → region_blocks w ≤ length w.blocks → region_rows w ≤ length w.rows
       → step (asks_create w i last size).world (HostAnswer g false host) ≡ create_fails w g.mem
   unfolding step unless host_answer tables_fit
-  answers-10 s long rows =
-      rw (waits-when (asks_create w i last size).world.device (length w.blocks) (length w.rows) (record { shaped = shaped-when _ s; not-idle = refl; fits = rw (le-leb _ _ long) (le-leb _ _ rows) }))
+  answers_10 s long rows =
+      rw (waits_when (asks_create w i last size).world.device (length w.blocks) (length w.rows) (record { shaped = shaped-when _ s; not_idle = refl; fits = rw (le-leb _ _ long) (le-leb _ _ rows) }))
 
 -- nothing was pending before the question either
-idle-again : (w : World) → is_idle w.device.pending ≡ true → device_of (pending_to Nothing w.device) w ≡ w
-idle-again w e = ap (λ p. device_of (pending_to p w.device) w) (idle-nothing w.device.pending e)
+idle_again : (w : World) → is_idle w.device.pending ≡ true → device_of (pending_to Nothing w.device) w ≡ w
+idle_again w e = ap (λ p. device_of (pending_to p w.device) w) (idle_nothing w.device.pending e)
 
-pub ten-in-size-change : TenInSizeChange
+pub ten_in_size_change : TenInSizeChange
 unfolding step question
-ten-in-size-change w mib call asked g host =
+ten_in_size_change w mib call asked g host =
     let P : Outcome → Type 0 = λ o. o.answer ≡ Wants call → SizeChangeFailed w mib (step o.world (HostAnswer g false host)) in
-    on-ready P w [] _ (λ n _ _ e. silent (Refused n) call refl e) (length w.blocks) (length w.rows)
-    (λ p entry. size-cases P w mib (λ e. silent (Refused 1) call refl e)
+    on_ready P w [] _ (λ n _ _ e. silent (Refused n) call refl e) (length w.blocks) (length w.rows)
+    (λ p entry. size_cases P w mib (λ e. silent (Refused 1) call refl e)
     (λ q r.
-    let a : Resizing w = record { mib = mib; is-placed = p; entry = entry; in-region = q; whole = r } in
-    resized-cases P (resized_by a) (λ e. silent Sized call refl e)
+    let a : Resizing w = record { mib = mib; is_placed = p; entry = entry; in_region = q; whole = r } in
+    resized_cases P (resized_by a) (λ e. silent Sized call refl e)
     (λ i last size grows _.
-    rw (answers-10 (resized_by a) i last size g host ((stays-shaped w entry.is-shaped).resize-asks a i last size grows) entry.is-long entry.has-rows)
-    (record { gives-10 = refl; requested-stands = idle-again (resized_by a) entry.is-idle }))))
+    rw (answers_10 (resized_by a) i last size g host ((stays_shaped w entry.is_shaped).resize_asks a i last size grows) entry.is_long entry.has_rows)
+    (record { gives_10 = refl; requested_stands = idle_again (resized_by a) entry.pending_is_idle }))))
     asked
 
 -- ---- placing, tried again
-answer-of : (t : Bool) (o p : Outcome) → (cond t o p).answer ≡ cond t o.answer p.answer
-answer-of true o p = refl
-answer-of false o p = refl
+answer_of_lem : (t : Bool) (o p : Outcome) → (cond t o p).answer ≡ cond t o.answer p.answer
+answer_of_lem true o p = refl
+answer_of_lem false o p = refl
 
 module _ (w : World) (at : ℕ) (slots : List ℕ) (bs : List Bool) (rows : List MapRow) (s : shaped_of w.device ≡ true) (fits : start_ok at (region w) (several w) w.device.alignment ≡ true) where
   abbrev tried : World
   tried = placed w at slots bs rows
 
-  same-refusal : (n m : ℕ) → unplaced_refusal tried.device n m ≡ unplaced_refusal w.device n m
+  same_refusal : (n m : ℕ) → unplaced_refusal tried.device n m ≡ unplaced_refusal w.device n m
   unfolding unplaced_refusal tables_fit
-  same-refusal n m = rw (s, start-keeps w.device s at fits)
+  same_refusal n m = rw (s, start_keeps w.device s at fits)
 
-  placing-again : (c : Call) → is_place c ≡ true → (step tried c).answer ≡ (step w c).answer
+  placing_again : (c : Call) → is_place c ≡ true → (step tried c).answer ≡ (step w c).answer
   unfolding step unless place range_refusal is_place
-  placing-again (Place at' size' slots' bs' rows') e = simp (same-refusal (length bs') (length rows'), answer-of)
-  placing-again (SetRequestedSize mib) e = clash e refl
-  placing-again (Request guest descriptors head) e = clash e refl
-  placing-again (HostAnswer guest ok host) e = clash e refl
-  placing-again (ReadConfig offset buffer) e = clash e refl
-  placing-again (WriteConfig offset buffer) e = clash e refl
+  placing_again (Place at' size' slots' bs' rows') e = simp (same_refusal (length bs') (length rows'), answer_of_lem)
+  placing_again (SetRequestedSize mib) e = clash e refl
+  placing_again (Request guest descriptors head) e = clash e refl
+  placing_again (HostAnswer guest ok host) e = clash e refl
+  placing_again (ReadConfig offset buffer) e = clash e refl
+  placing_again (WriteConfig offset buffer) e = clash e refl
 
 -- the host's no to what placing has asked for
 failed : (w : World) (a : Placing w) (i last size : ℕ) (g : Guest) (host : ℕ) → Parts (asks_create (placed_by a) i last size).world.device
     → PlacingFailed w a.at a.slots a.bits a.table (step (asks_create (placed_by a) i last size).world (HostAnswer g false host))
 failed w a i last size g host s =
     let e = a.entry in
-    let long = fill-length a.bits 0 (region_blocks w) false in
-    let rows = laid-length a.table a.slots in
-    let written = idle-again (placed_by a) e.is-idle in
-    rw (answers-10 (placed_by a) i last size g host s (rw long e.is-long) (rw rows e.has-rows))
+    let long = fill_length a.bits 0 (region_blocks w) false in
+    let rows = laid_length a.table a.slots in
+    let written = idle_again (placed_by a) e.pending_is_idle in
+    rw (answers_10 (placed_by a) i last size g host s (rw long e.is_long) (rw rows e.has_rows))
     (record {
-      gives-10 = refl;
-      unplaced = a.not-placed;
+      gives_10 = refl;
+      unplaced = a.not_placed_lem;
       as_written = written;
-      tried-again = rw written (placing-again w a.at a.slots a.bits a.table (shaped-when _ e.is-shaped) a.start_fits);
+      tried_again = rw written (placing_again w a.at a.slots a.bits a.table (shaped-when _ e.is_shaped) a.start_fits);
     })
 
-pub ten-in-placing : TenInPlacing
+pub ten_in_placing : TenInPlacing
 unfolding step question
-ten-in-placing w at size slots bs rows call asked g host =
+ten_in_placing w at size slots bs rows call asked g host =
     let P : Outcome → Type 0 = λ o. o.answer ≡ Wants call → PlacingFailed w at slots bs rows (step o.world (HostAnswer g false host)) in
-    on-unplaced P w [] _ (λ n _ _ e. silent (Refused n) call refl e) (length bs) (length rows)
-    (λ p entry. place-cases P w at size slots bs rows (λ e. silent (Refused 3) call refl e) (λ e. silent (Refused 4) call refl e)
+    on_unplaced P w [] _ (λ n _ _ e. silent (Refused n) call refl e) (length bs) (length rows)
+    (λ p entry. place_cases P w at size slots bs rows (λ e. silent (Refused 3) call refl e) (λ e. silent (Refused 4) call refl e)
     (λ n f.
-    let a : Placing w = record { at = at; size = size; slots = slots; bits = bs; table = rows; not-placed = p; entry = entry; slots-fit = n; start_fits = f } in
-    let shaped = stays-shaped w entry.is-shaped in
-    placing-cases P (placed_by a) (λ e. silent Sized call refl e)
-    (λ i last m grows _. failed w a i last m g host (shaped.place-asks a i last m grows))
-    (λ single _. failed w a 0 0 (region w) g host (shaped.place-asks-whole a single))))
+    let a : Placing w = record { at = at; size = size; slots = slots; bits = bs; table = rows; not_placed_lem = p; entry = entry; slots_fit = n; start_fits = f } in
+    let shaped = stays_shaped w entry.is_shaped in
+    placing_cases P (placed_by a) (λ e. silent Sized call refl e)
+    (λ i last m grows _. failed w a i last m g host (shaped.place_asks a i last m grows))
+    (λ single _. failed w a 0 0 (region w) g host (shaped.place_asks_whole a single))))
     asked

@@ -15,7 +15,7 @@ use Rattle.step.specs.Step.{cleared}
 use Rattle.record.specs.declared.Pending.TheVariants.{Nothing, Create, Discard, DiscardOne}
 use Rattle.record.specs.Changes.{config_with, device_with, pending_to}
 use Rattle.record.specs.Shape.{is_idle, size_ok, start_ok, pending_ok}
-use Rattle.record.proofs.Laws.{Parts, parts, whole, block-less-keeps}
+use Rattle.record.proofs.Laws.{Parts, parts, whole, block_less_keeps}
 
 abbrev pub sizes_ok : VirtioMemConfig → ℕ → Bool
 sizes_ok c size = size_ok c.block_size size c.region_size
@@ -26,20 +26,20 @@ clash p q = let z : ◌≡◌ {A = ℕ} 0 1 = cc in absurd (omega arith)
 
 -- a size of the shape: whole blocks, at most the region
 module _ (b size region : ℕ) where
-  pub size-whole : size_ok b size region ≡ true → size % b ≡ 0
+  pub size_whole : size_ok b size region ≡ true → size % b ≡ 0
   unfolding size_ok
-  size-whole e = eqb-true (size % b) 0 (and_left _ _ e)
+  size_whole e = eqb-true (size % b) 0 (and_left _ _ e)
 
-  pub size-within : size_ok b size region ≡ true → size ≤ region
+  pub size_within : size_ok b size region ≡ true → size ≤ region
   unfolding size_ok
-  size-within e = leb-true size region (and_right (eqb (size % b) 0) (leb size region) e)
+  size_within e = leb-true size region (and_right (eqb (size % b) 0) (leb size region) e)
 
   pub size_ok_lem : size % b ≡ 0 → size ≤ region → size_ok b size region ≡ true
   unfolding size_ok
   size_ok_lem p q = rw (eq-eqb (size % b) 0 p, le-leb size region q)
 
-pub block-is : (d : Device) → Parts d → d.config.block_size ≡ 4194304
-block-is d s = eqb-true d.config.block_size 4194304 s.block
+pub block_is : (d : Device) → Parts d → d.config.block_size ≡ 4194304
+block_is d s = eqb-true d.config.block_size 4194304 s.block
 
 -- another start, other sizes and another pending call, each of the shape
 module _ (d : Device) (s : Parts d) where
@@ -65,20 +65,20 @@ module _ (d : Device) (s : Parts d) where
   awaiting p p-fits = reshaped _ _ _ _ d.placed p s.start s.usable s.plugged s.requested p-fits
 
 -- idle is: nothing is pending
-pub idle-nothing : (p : Pending) → is_idle p ≡ true → Nothing ≡ p
-idle-nothing Nothing e = refl
-idle-nothing (Create first last) e = clash e refl
-idle-nothing (Discard first count status) e = clash e refl
-idle-nothing (DiscardOne block status) e = clash e refl
+pub idle_nothing : (p : Pending) → is_idle p ≡ true → Nothing ≡ p
+idle_nothing Nothing e = refl
+idle_nothing (Create first last) e = clash e refl
+idle_nothing (Discard first count status) e = clash e refl
+idle_nothing (DiscardOne block status) e = clash e refl
 
 -- nothing pending is always of the shape
-pub idle-ok : (p : Pending) (b region : ℕ) (several : Bool) (plugged : ℕ) → is_idle p ≡ true → pending_ok p b region several plugged ≡ true
+pub idle_ok : (p : Pending) (b region : ℕ) (several : Bool) (plugged : ℕ) → is_idle p ≡ true → pending_ok p b region several plugged ≡ true
 unfolding pending_ok
-idle-ok Nothing b region several plugged e = refl
-idle-ok (Create first last) b region several plugged e = clash e refl
-idle-ok (Discard first count status) b region several plugged e = clash e refl
-idle-ok (DiscardOne block status) b region several plugged e = clash e refl
+idle_ok Nothing b region several plugged e = refl
+idle_ok (Create first last) b region several plugged e = clash e refl
+idle_ok (Discard first count status) b region several plugged e = clash e refl
+idle_ok (DiscardOne block status) b region several plugged e = clash e refl
 
 -- one block less, and nothing pending: the shape stays
-pub cleared-shaped : (w : World) (j : ℕ) → Parts w.device → Parts (cleared w j).device
-cleared-shaped w j s = parts (cleared w j).device (block-less-keeps w.device (whole w.device s))
+pub cleared_shaped : (w : World) (j : ℕ) → Parts w.device → Parts (cleared w j).device
+cleared_shaped w j s = parts (cleared w j).device (block_less_keeps w.device (whole w.device s))

@@ -16,10 +16,10 @@ use Rattle.history.specs.Promises.{Moves, MovesSizes}
 use Rattle.history.specs.Rules.{FromEveryGood, FromEveryWorld, Never12, DiscardIsCounted, UsableNeverShrinks, is_size_change, OnlySizeChangeMovesRequested, PlugWithinRequested}
 use Rattle.record.proofs.Laws.{Parts, whole as shaped-when}
 use Rattle.history.proofs.Shaped.{clash}
-use Rattle.history.proofs.Invariant.{Asked, Inv, used-unplugged, used-one}
-use Rattle.history.proofs.Calls.{Endings, each-call}
+use Rattle.history.proofs.Invariant.{Asked, Inv, used_unplugged, used_one}
+use Rattle.history.proofs.Calls.{Endings, each_call}
 use Rattle.history.proofs.Good.{invariant}
-use Rattle.history.proofs.KeepsShape.{is-shaped}
+use Rattle.history.proofs.KeepsShape.{is_shaped}
 
 -- ---- 12 never appears
 abbrev is12 : Option ℕ → Bool
@@ -30,54 +30,54 @@ abbrev Not12 : Call → Outcome → List Event → Type 0
 Not12 c o new = is12 (refusal o.answer) ≡ false
 
 -- blocks that are plugged are counted in the plugged size
-are-counted : (b s c a n : ℕ) → n + c ≡ a → s ≡ a * b → c * b ≤ s
-are-counted b s c a n p q = rw (q, ← p) (omega arith)
+are_counted : (b s c a n : ℕ) → n + c ≡ a → s ≡ a * b → c * b ≤ s
+are_counted b s c a n p q = rw (q, ← p) (omega arith)
 
 module _ (w : World) (s : Parts w.device) (es : List Event) (h : Inv w es) where
-  not-12 : Endings w Not12
+  not_12 : Endings w Not12
   unfolding refusal
-  not-12 =
+  not_12 =
       record {
         refuses = λ c n _ spoilt. ne_eqb n 12 (λ e. clash (shaped-when w.device s) (spoilt e));
         reads = λ offset buffer bytes. refl;
         writes = λ offset buffer. refl;
         unserves = λ a reason. refl;
         responds = λ a resp. refl;
-        plugs-range = λ a addr count first offset _ _. refl;
-        asks-range = λ a addr count first offset host _ _ _. refl;
+        plugs_range = λ a addr count first offset _ _. refl;
+        asks_range = λ a addr count first offset host _ _ _. refl;
         spoils = λ a addr count first offset less l.
-            let fewer = used-unplugged (region_blocks w) w.blocks a.entry.is-long first count l.ends l.state in
-            let enough = are-counted (block_size w) (plugged w) count _ _ fewer h.told.count in
+            let fewer = used_unplugged (region_blocks w) w.blocks a.entry.is_long first count l.ends l.state in
+            let enough = are_counted (block_size w) (plugged w) count _ _ fewer h.told.count in
             absurd (omega arith);
-        ends-at-once = λ a r. refl;
-        asks-first = λ a block offset host r _. refl;
-        stops-at-once = λ a. refl;
+        ends_at_once = λ a r. refl;
+        asks_first = λ a block offset host r _. refl;
+        stops_at_once = λ a. refl;
         maps = λ i last a. refl;
-        create-fails = λ i last a. refl;
-        unplugs-range = λ first count status a. refl;
-        discard-fails = λ first count status a. refl;
-        ends-all = λ j status a r. refl;
-        asks-next = λ j status a block offset host r _. refl;
-        stops-after = λ j status a. refl;
-        one-fails = λ j status a. refl;
+        create_fails_lem = λ i last a. refl;
+        unplugs_range = λ first count status a. refl;
+        discard_fails = λ first count status a. refl;
+        ends_all_lem = λ j status a r. refl;
+        asks_next = λ j status a block offset host r _. refl;
+        stops_after = λ j status a. refl;
+        one_fails = λ j status a. refl;
         resizes = λ a. refl;
-        resize-asks = λ a i last size _. refl;
+        resize_asks = λ a i last size _. refl;
         places = λ a. refl;
-        place-asks = λ a i last size _. refl;
-        place-asks-whole = λ a _. refl;
+        place_asks = λ a i last size _. refl;
+        place_asks_whole = λ a _. refl;
       }
 
-pub never-12 : FromEveryGood Never12
+pub never_12 : FromEveryGood Never12
 unfolding refusal
-never-12 s r c e = clash (ap (λ a. is12 (refusal a)) e) (each-call s.world Not12 (not-12 s.world (is-shaped s r) s.events (invariant s r)) c)
+never_12 s r c e = clash (ap (λ a. is12 (refusal a)) e) (each_call s.world Not12 (not_12 s.world (is_shaped s r) s.events (invariant s r)) c)
 
 -- ---- the block that an unplug-all waits for is counted
-pub discard-is-counted : FromEveryGood DiscardIsCounted
+pub discard_is_counted : FromEveryGood DiscardIsCounted
 unfolding Asked
-discard-is-counted s r c block status waits =
+discard_is_counted s r c block status waits =
     let w = s.world in
     let h = invariant s r in
-    let enough = are-counted (block_size w) (plugged w) 1 _ _ (used-one (region_blocks w) w.blocks block (rw waits at h.asked)) h.told.count in
+    let enough = are_counted (block_size w) (plugged w) 1 _ _ (used_one (region_blocks w) w.blocks block (rw waits at h.asked)) h.told.count in
     omega arith
 
 -- ---- the sizes, of any call from any world
@@ -87,7 +87,7 @@ IsMoved w c o new = Moves w c o.world
 -- an ending that plugs nothing and leaves the requested size as it is
 calm : (w : World) (c : Call) (w' : World) → usable w ≤ usable w' → plugged w' ≤ plugged w → requested w' ≡ requested w
     → block_size w' ≡ block_size w → region w' ≡ region w → (w.device.placed ≡ true → w'.device.placed ≡ true) → Moves w c w'
-calm w c w' u p r b n there = record { plugs-within = omega arith; requested-stays = λ _. r; usable-grows = u; same-block-size = b; same-region = n; stays-placed = there }
+calm w c w' u p r b n there = record { plugs_within = omega arith; requested_stays = λ _. r; usable_grows = u; same_block_size = b; same_region = n; stays_placed = there }
 
 moved : (w : World) → Endings w (IsMoved w)
 unfolding is_size_change
@@ -98,35 +98,35 @@ moved w =
       writes = λ offset buffer. calm w _ _ (omega arith) (omega arith) refl refl refl (λ p. p);
       unserves = λ a reason. calm w _ _ (omega arith) (omega arith) refl refl refl (λ p. p);
       responds = λ a resp. calm w _ _ (omega arith) (omega arith) refl refl refl (λ p. p);
-      plugs-range = λ a addr count first offset fits _. record { plugs-within = omega arith; requested-stays = λ _. refl; usable-grows = omega arith; same-block-size = refl; same-region = refl; stays-placed = λ p. p };
-      asks-range = λ a addr count first offset host _ _ _. calm w _ _ (omega arith) (omega arith) refl refl refl (λ p. p);
+      plugs_range = λ a addr count first offset fits _. record { plugs_within = omega arith; requested_stays = λ _. refl; usable_grows = omega arith; same_block_size = refl; same_region = refl; stays_placed = λ p. p };
+      asks_range = λ a addr count first offset host _ _ _. calm w _ _ (omega arith) (omega arith) refl refl refl (λ p. p);
       spoils = λ a addr count first offset _ _. calm w _ _ (omega arith) (omega arith) refl refl refl (λ p. p);
-      ends-at-once = λ a r. calm w _ _ (omega arith) (omega arith) refl refl refl (λ p. p);
-      asks-first = λ a block offset host r _. calm w _ _ (omega arith) (omega arith) refl refl refl (λ p. p);
-      stops-at-once = λ a. calm w _ _ (omega arith) (omega arith) refl refl refl (λ p. p);
+      ends_at_once = λ a r. calm w _ _ (omega arith) (omega arith) refl refl refl (λ p. p);
+      asks_first = λ a block offset host r _. calm w _ _ (omega arith) (omega arith) refl refl refl (λ p. p);
+      stops_at_once = λ a. calm w _ _ (omega arith) (omega arith) refl refl refl (λ p. p);
       maps = λ i last a. calm w _ _ (omega arith) (omega arith) refl refl refl (λ _. refl);
-      create-fails = λ i last a. calm w _ _ (omega arith) (omega arith) refl refl refl (λ p. p);
-      unplugs-range = λ first count status a. calm w _ _ (omega arith) (omega arith) refl refl refl (λ p. p);
-      discard-fails = λ first count status a. calm w _ _ (omega arith) (omega arith) refl refl refl (λ p. p);
-      ends-all = λ j status a r. calm w _ _ (omega arith) (omega arith) refl refl refl (λ p. p);
-      asks-next = λ j status a block offset host r _. calm w _ _ (omega arith) (omega arith) refl refl refl (λ p. p);
-      stops-after = λ j status a. calm w _ _ (omega arith) (omega arith) refl refl refl (λ p. p);
-      one-fails = λ j status a. calm w _ _ (omega arith) (omega arith) refl refl refl (λ p. p);
-      resizes = λ a. record { plugs-within = omega arith; requested-stays = λ e. clash refl e; usable-grows = omega arith; same-block-size = refl; same-region = refl; stays-placed = λ _. refl };
-      resize-asks = λ a i last size _. record { plugs-within = omega arith; requested-stays = λ e. clash refl e; usable-grows = omega arith; same-block-size = refl; same-region = refl; stays-placed = λ p. p };
+      create_fails_lem = λ i last a. calm w _ _ (omega arith) (omega arith) refl refl refl (λ p. p);
+      unplugs_range = λ first count status a. calm w _ _ (omega arith) (omega arith) refl refl refl (λ p. p);
+      discard_fails = λ first count status a. calm w _ _ (omega arith) (omega arith) refl refl refl (λ p. p);
+      ends_all_lem = λ j status a r. calm w _ _ (omega arith) (omega arith) refl refl refl (λ p. p);
+      asks_next = λ j status a block offset host r _. calm w _ _ (omega arith) (omega arith) refl refl refl (λ p. p);
+      stops_after = λ j status a. calm w _ _ (omega arith) (omega arith) refl refl refl (λ p. p);
+      one_fails = λ j status a. calm w _ _ (omega arith) (omega arith) refl refl refl (λ p. p);
+      resizes = λ a. record { plugs_within = omega arith; requested_stays = λ e. clash refl e; usable_grows = omega arith; same_block_size = refl; same_region = refl; stays_placed = λ _. refl };
+      resize_asks = λ a i last size _. record { plugs_within = omega arith; requested_stays = λ e. clash refl e; usable_grows = omega arith; same_block_size = refl; same_region = refl; stays_placed = λ p. p };
       places = λ a. calm w _ _ (omega arith) (omega arith) refl refl refl (λ _. refl);
-      place-asks = λ a i last size _. calm w _ _ (omega arith) (omega arith) refl refl refl (λ p. p);
-      place-asks-whole = λ a _. calm w _ _ (omega arith) (omega arith) refl refl refl (λ p. p);
+      place_asks = λ a i last size _. calm w _ _ (omega arith) (omega arith) refl refl refl (λ p. p);
+      place_asks_whole = λ a _. calm w _ _ (omega arith) (omega arith) refl refl refl (λ p. p);
     }
 
 pub moves : FromEveryWorld MovesSizes
-moves w c = each-call w (IsMoved w) (moved w) c
+moves w c = each_call w (IsMoved w) (moved w) c
 
-pub usable-never-shrinks : FromEveryWorld UsableNeverShrinks
-usable-never-shrinks w c = (moves w c).usable-grows
+pub usable_never_shrinks : FromEveryWorld UsableNeverShrinks
+usable_never_shrinks w c = (moves w c).usable_grows
 
-pub only-size-change-moves-requested : FromEveryWorld OnlySizeChangeMovesRequested
-only-size-change-moves-requested w c = (moves w c).requested-stays
+pub only_size_change_moves_requested : FromEveryWorld OnlySizeChangeMovesRequested
+only_size_change_moves_requested w c = (moves w c).requested_stays
 
-pub plug-within-requested : FromEveryWorld PlugWithinRequested
-plug-within-requested w c more = omega (arith, (moves w c).plugs-within)
+pub plug_within_requested : FromEveryWorld PlugWithinRequested
+plug_within_requested w c more = omega (arith, (moves w c).plugs_within)

@@ -8,7 +8,7 @@ use native.Mathlib.Omega.{arith}
 use borrow.Author.Tests.{le-leb}
 use Rattle.bitmap.specs.Blocks.{all_are, fill, next_set}
 use Rattle.bitmap.specs.declared.Found.TheVariants.{Nothing as NoneSet}
-use Rattle.bitmap.proofs.Laws.{next-nothing}
+use Rattle.bitmap.proofs.Laws.{next_nothing}
 use Rattle.step.specs.World.{World, Call, Outcome}
 use Rattle.step.specs.Step.{plugged, region_blocks}
 use Rattle.history.specs.History.{Event, PlugAck, UnplugAllAck, next}
@@ -16,25 +16,25 @@ use Rattle.history.specs.Reached.{marks, counts, could, marked, counted, all_cou
 use Rattle.history.specs.Rules.{FromEveryGood, Whole, is_place, WholeOrNotAtAll}
 use Rattle.history.proofs.Shaped.{clash}
 use Rattle.history.proofs.Invariant.{Inv, Asked, goes_on}
-use Rattle.history.proofs.Calls.{Endings, each-call}
-use Rattle.history.proofs.Keeps.{discard-ends}
-use Rattle.history.proofs.Due.{could-discard, could-unplug}
+use Rattle.history.proofs.Calls.{Endings, each_call}
+use Rattle.history.proofs.Keeps.{discard_ends}
+use Rattle.history.proofs.Due.{could_discard, could_unplug}
 use Rattle.history.proofs.Good.{invariant}
 
 -- ---- what each event finds
-could-plug : (n : ℕ) (bs : List Bool) (f c : ℕ) → f + c ≤ n → all_are bs f c false ≡ true → could (PlugAck f c) bs n ≡ true
+could_plug : (n : ℕ) (bs : List Bool) (f c : ℕ) → f + c ≤ n → all_are bs f c false ≡ true → could (PlugAck f c) bs n ≡ true
 unfolding could
-could-plug n bs f c p q = rw (le-leb (f + c) n p) q
+could_plug n bs f c p q = rw (le-leb (f + c) n p) q
 
-could-end : (n : ℕ) (bs : List Bool) → next_set bs 0 n ≡ NoneSet → could UnplugAllAck bs n ≡ true
+could_end : (n : ℕ) (bs : List Bool) → next_set bs 0 n ≡ NoneSet → could UnplugAllAck bs n ≡ true
 unfolding could
-could-end n bs e = let z : n - 0 ≡ n = omega arith in rw z at (next-nothing true bs 0 n e)
+could_end n bs e = let z : n - 0 ≡ n = omega arith in rw z at (next_nothing true bs 0 n e)
 
 -- ---- each ending
 -- no event, and nothing changed
 quiet : (w w' : World) → w'.blocks ≡ w.blocks → plugged w' ≡ plugged w → Whole w [] w'
 unfolding marked counted all_could
-quiet w w' p q = record { blocks-by = p; size-by = q; all-could = refl }
+quiet w w' p q = record { blocks_by = p; size_by = q; could_all = refl }
 
 abbrev IsWhole : World → Call → Outcome → List Event → Type 0
 IsWhole w c o new = is_place c ≡ false → Whole w new o.world
@@ -51,38 +51,38 @@ module _ (w : World) (es : List Event) (h : Inv w es) where
         writes = λ offset buffer _. quiet w _ refl refl;
         unserves = λ a reason _. quiet w _ refl refl;
         responds = λ a resp _. quiet w _ refl refl;
-        plugs-range = λ a addr count first offset _ l _. record { blocks-by = refl; size-by = refl; all-could = could-plug n bs first count l.ends l.state };
-        asks-range = λ a addr count first offset host _ _ _ _. quiet w _ refl refl;
+        plugs_range = λ a addr count first offset _ l _. record { blocks_by = refl; size_by = refl; could_all = could_plug n bs first count l.ends l.state };
+        asks_range = λ a addr count first offset host _ _ _ _. quiet w _ refl refl;
         spoils = λ a addr count first offset _ _ _. quiet w _ refl refl;
-        ends-at-once = λ a r _. record { blocks-by = refl; size-by = refl; all-could = could-end n bs r };
-        asks-first = λ a block offset host r _ _. quiet w _ refl refl;
-        stops-at-once = λ a _. quiet w _ refl refl;
+        ends_at_once = λ a r _. record { blocks_by = refl; size_by = refl; could_all = could_end n bs r };
+        asks_first = λ a block offset host r _ _. quiet w _ refl refl;
+        stops_at_once = λ a _. quiet w _ refl refl;
         maps = λ i last a _. quiet w _ refl refl;
-        create-fails = λ i last a _. quiet w _ refl refl;
-        unplugs-range = λ first count status a _.
+        create_fails_lem = λ i last a _. quiet w _ refl refl;
+        unplugs_range = λ first count status a _.
             record {
-              blocks-by = refl;
-              size-by = refl;
-              all-could = could-unplug n bs first count (discard-ends w first count status (rw a.waits at a.entry.is-shaped.pending)) (rw a.waits at h.asked);
+              blocks_by = refl;
+              size_by = refl;
+              could_all = could_unplug n bs first count (discard_ends w first count status (rw a.waits at a.entry.is_shaped.pending)) (rw a.waits at h.asked);
             };
-        discard-fails = λ first count status a _. quiet w _ refl refl;
-        ends-all = λ j status a r _.
+        discard_fails = λ first count status a _. quiet w _ refl refl;
+        ends_all_lem = λ j status a r _.
             let lowest = rw a.waits at h.asked in
             record {
-              blocks-by = refl;
-              size-by = refl;
-              all-could = rw (could-discard n bs j lowest) (could-end n (fill bs j 1 false) (sym (goes_on n bs j lowest) ∙ r));
+              blocks_by = refl;
+              size_by = refl;
+              could_all = rw (could_discard n bs j lowest) (could_end n (fill bs j 1 false) (sym (goes_on n bs j lowest) ∙ r));
             };
-        asks-next = λ j status a block offset host r _ _. record { blocks-by = refl; size-by = refl; all-could = could-discard n bs j (rw a.waits at h.asked) };
-        stops-after = λ j status a _. record { blocks-by = refl; size-by = refl; all-could = could-discard n bs j (rw a.waits at h.asked) };
-        one-fails = λ j status a _. quiet w _ refl refl;
+        asks_next = λ j status a block offset host r _ _. record { blocks_by = refl; size_by = refl; could_all = could_discard n bs j (rw a.waits at h.asked) };
+        stops_after = λ j status a _. record { blocks_by = refl; size_by = refl; could_all = could_discard n bs j (rw a.waits at h.asked) };
+        one_fails = λ j status a _. quiet w _ refl refl;
         resizes = λ a _. quiet w _ refl refl;
-        resize-asks = λ a i last size _ _. quiet w _ refl refl;
+        resize_asks = λ a i last size _ _. quiet w _ refl refl;
         places = λ a p. clash refl p;
-        place-asks = λ a i last size _ p. clash refl p;
-        place-asks-whole = λ a _ p. clash refl p;
+        place_asks = λ a i last size _ p. clash refl p;
+        place_asks_whole = λ a _ p. clash refl p;
       }
 
-pub whole-or-not-at-all : FromEveryGood WholeOrNotAtAll
+pub whole_or_not_at_all : FromEveryGood WholeOrNotAtAll
 unfolding next
-whole-or-not-at-all s g c = rw g.opened at (each-call s.world (IsWhole s.world) (whole s.world s.events (invariant s g)) c)
+whole_or_not_at_all s g c = rw g.opened at (each_call s.world (IsWhole s.world) (whole s.world s.events (invariant s g)) c)

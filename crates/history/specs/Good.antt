@@ -1,5 +1,5 @@
 -- SPDX-License-Identifier: Apache-2.0 AND BSD-3-Clause
--- A good story: what every run keeps, said of one point. A newly made device is one (`fresh-good`), so is a restored one (`good-restored`), and every call leaves one (`good-kept`); so whatever starts at a good story goes on as a run does.
+-- A good story: what every run keeps, said of one point. A newly made device is one (`fresh_good`), so is a restored one (`good_restored`), and every call leaves one (`good_kept`); so whatever starts at a good story goes on as a run does.
 use Rattle.std.specs.Prelude.{ℕ, ◌+◌, ◌*◌, ◌≤◌, ◌<◌, ◌≡◌, Bool, true, false, cond, List, [], eqb, length}
 use Rattle.units.specs.Numbers.{top, map_region, map_regions}
 use Rattle.bitmap.specs.Blocks.{block_at}
@@ -43,9 +43,9 @@ InMemory w = Memory (region w) (several w) (usable w) (new_usable w) w.device.pl
 
 -- ---- a device that is not placed: no event yet, nothing open, nothing plugged
 pub record Early (s : Story) : Type 0 where
-  pub no-event : s.events ≡ []
-  pub nothing-open : open_of s.world.device.pending ≡ NoRequest
-  pub nothing-plugged : plugged s.world ≡ 0
+  pub no_event : s.events ≡ []
+  pub nothing_open : open_of s.world.device.pending ≡ NoRequest
+  pub nothing_plugged : plugged s.world ≡ 0
 
 -- every plugged block begins in the usable size
 abbrev pub AllInside : World → Type 0
@@ -60,7 +60,7 @@ pub record Good (s : Story) : Type 0 where
   pub told : Demand3 s.world s.events
   -- what an observer of calls and answers holds open is what is pending
   pub opened : open_of s.world.device.pending ≡ s.«open»
-  pub is-due : due s.world.device.pending s.world.blocks s.world.rows (region_blocks s.world) ≡ true
+  pub is_due : due s.world.device.pending s.world.blocks s.world.rows (region_blocks s.world) ≡ true
   pub early : s.world.device.placed ≡ false → Early s
   pub fits : s.world.device.placed ≡ true → TablesFit s.world
   pub inside : AllInside s.world

@@ -166,9 +166,9 @@ after s (c ∷ cs) = after (next s c) cs
 pub record Fresh (d : Device) : Type 0 where
   pub shaped : shaped_of d ≡ true
   pub unplaced : d.placed ≡ false
-  pub waits-for-nothing : d.pending ≡ Nothing
-  pub nothing-plugged : d.config.plugged_size ≡ 0
-  pub nothing-usable : d.config.usable_region_size ≡ 0
+  pub waits_for_nothing : d.pending ≡ Nothing
+  pub nothing_plugged : d.config.plugged_size ≡ 0
+  pub nothing_usable : d.config.usable_region_size ≡ 0
 
 -- it has no tables yet: placing brings them
 abbrev pub begun : Device → Story

@@ -7,16 +7,16 @@ use Rattle.history.specs.Rules.{is_size_change}
 
 pub record Moves (w : World) (c : Call) (w' : World) : Type 0 where
   -- the plugged size grows to the requested size at most
-  pub plugs-within : plugged w' ≤ max (plugged w) (requested w)
+  pub plugs_within : plugged w' ≤ max (plugged w) (requested w)
   -- only a size change moves the requested size
-  pub requested-stays : is_size_change c ≡ false → requested w' ≡ requested w
+  pub requested_stays : is_size_change c ≡ false → requested w' ≡ requested w
   -- the usable size never shrinks
-  pub usable-grows : usable w ≤ usable w'
+  pub usable_grows : usable w ≤ usable w'
   -- the block size and the region are as they were made
-  pub same-block-size : block_size w' ≡ block_size w
-  pub same-region : region w' ≡ region w
+  pub same_block_size : block_size w' ≡ block_size w
+  pub same_region : region w' ≡ region w
   -- what is placed stays placed
-  pub stays-placed : w.device.placed ≡ true → w'.device.placed ≡ true
+  pub stays_placed : w.device.placed ≡ true → w'.device.placed ≡ true
 
 abbrev pub MovesSizes : World → Call → Outcome → Type 0
 MovesSizes w c o = Moves w c o.world

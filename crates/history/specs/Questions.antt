@@ -30,8 +30,8 @@ use Rattle.history.specs.Rules.{DiscardsNothing}
 -- the discard of `count` blocks from `first` on: their offset, their size, and the host address that the row of the map table gives
 pub record IsDiscard (w : World) (first count : ℕ) (call : HostCall) : Type 0 where
   pub host : HostAddr
-  pub host-is : host_of (several w) w.rows (bytes_of (block_size w) first) (bytes_of (block_size w) count) ≡ At host
-  pub call-is : call ≡ DiscardCall (record { 0 = bytes_of (block_size w) first }) (bytes_of (block_size w) count) host
+  pub host_is : host_of (several w) w.rows (bytes_of (block_size w) first) (bytes_of (block_size w) count) ≡ At host
+  pub call_is : call ≡ DiscardCall (record { 0 = bytes_of (block_size w) first }) (bytes_of (block_size w) count) host
 
 -- the creation that is due, its rows and its size: with several regions as R6.4 to R6.6 say; of a single region the whole, in placing (R5.3)
 abbrev pub creation_due : World → Growth
@@ -41,8 +41,8 @@ creation_due w =
 -- R6.6
 pub record IsCreation (w : World) (i last : ℕ) (call : HostCall) : Type 0 where
   pub size : ℕ
-  pub is-due : creation_due w ≡ Asks i last size
-  pub call-is : call ≡ CreateCall (record { 0 = start w + i * map_region }) size (row_at w.rows i).slot
+  pub is_due : creation_due w ≡ Asks i last size
+  pub call_is : call ≡ CreateCall (record { 0 = start w + i * map_region }) size (row_at w.rows i).slot
 
 -- the question that a pending call waits for
 unfoldable pub WaitsFor : World → Pending → HostCall → Type 0

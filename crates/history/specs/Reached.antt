@@ -53,14 +53,14 @@ all_plugs (e ∷ es) = was_plug (some e) && all_plugs es
 
 -- R15.13: it is laid on a placed device, with no bit set and plugged 0, that waits for nothing and has its bitmap; the requested size is of the record's shape, and the plugs, one for each run, could happen one after the other inside the usable size
 pub record CanRestore (w : World) (requested : ℕ) (plugs : List Event) : Type 0 where
-  pub is-placed : w.device.placed ≡ true
-  pub waits-for-nothing : w.device.pending ≡ Nothing
-  pub is-long : region_blocks w ≤ length w.blocks
-  pub none-set : all_are w.blocks 0 (region_blocks w) false ≡ true
-  pub nothing-plugged : plugged w ≡ 0
-  pub requested-fits : size_ok (block_size w) requested (region w) ≡ true
-  pub only-plugs : all_plugs plugs ≡ true
-  pub all-could : all_could plugs w.blocks (blocks_in (block_size w) (usable w)) ≡ true
+  pub is_placed : w.device.placed ≡ true
+  pub waits_for_nothing : w.device.pending ≡ Nothing
+  pub is_long : region_blocks w ≤ length w.blocks
+  pub none_set : all_are w.blocks 0 (region_blocks w) false ≡ true
+  pub nothing_plugged : plugged w ≡ 0
+  pub requested_fits : size_ok (block_size w) requested (region w) ≡ true
+  pub only_plugs : all_plugs plugs ≡ true
+  pub could_all : all_could plugs w.blocks (blocks_in (block_size w) (usable w)) ≡ true
 
 -- R15.14
 abbrev pub after_restore : World → (requested : ℕ) → (plugs : List Event) → World
@@ -78,12 +78,12 @@ restored w requested plugs = record { world = after_restore w requested plugs; �
 
 -- ---- every point of every run
 pub data Reached : Story → Type 0 where
-  from-making : {d : Device} → Fresh d → Reached (begun d)
+  from_making : {d : Device} → Fresh d → Reached (begun d)
   by_call : {s : Story} → Reached s → (c : Call) → Reached (next s c)
-  by-restore : {s : Story} {requested : ℕ} {plugs : List Event} → Reached s → CanRestore s.world requested plugs → Reached (restored s.world requested plugs)
+  by_restore : {s : Story} {requested : ℕ} {plugs : List Event} → Reached s → CanRestore s.world requested plugs → Reached (restored s.world requested plugs)
 
 -- the device as it was made
 unfoldable pub made_as : {s : Story} → Reached s → Device
-made_as (from-making {d} fresh) = d
+made_as (from_making {d} fresh) = d
 made_as (by_call r c) = made_as r
-made_as (by-restore r l) = made_as r
+made_as (by_restore r l) = made_as r

@@ -28,11 +28,11 @@ RefusedChangesNothing w c o = (n : ℕ) → o.answer ≡ Refused n → (n ≡ 10
 pub record CreationFailed (w : World) (c : Call) (o : Outcome) : Type 0 where
   pub first : ℕ
   pub last : ℕ
-  pub was-pending : w.device.pending ≡ Create first last
+  pub was_pending : w.device.pending ≡ Create first last
   pub guest : Guest
   pub host : ℕ
-  pub host-said-no : c ≡ HostAnswer guest false host
-  pub nothing-pending : o.world ≡ device_of (pending_to Nothing w.device) w
+  pub host_said_no : c ≡ HostAnswer guest false host
+  pub nothing_pending : o.world ≡ device_of (pending_to Nothing w.device) w
   pub same_bytes : o.bytes ≡ lent_bytes c
 
 abbrev pub TenIsCreationFailed : World → Call → Outcome → Type 0
@@ -44,8 +44,8 @@ then_no w c g host = step (step w c).world (HostAnswer g false host)
 
 -- R2.9
 pub record SizeChangeFailed (w : World) (mib : ℕ) (o : Outcome) : Type 0 where
-  pub gives-10 : o.answer ≡ Refused 10
-  pub requested-stands : o.world ≡ device_of (requested_to (mib * MiB) w.device) w
+  pub gives_10 : o.answer ≡ Refused 10
+  pub requested_stands : o.world ≡ device_of (requested_to (mib * MiB) w.device) w
 
 abbrev pub TenInSizeChange : Type 0
 TenInSizeChange = (w : World) (mib : ℕ) (call : HostCall) → (step w (SetRequestedSize mib)).answer ≡ Wants call
@@ -53,10 +53,10 @@ TenInSizeChange = (w : World) (mib : ℕ) (call : HostCall) → (step w (SetRequ
 
 -- R2.10
 pub record PlacingFailed (w : World) (at : ℕ) (slots : List ℕ) (bs : List Bool) (rows : List MapRow) (o : Outcome) : Type 0 where
-  pub gives-10 : o.answer ≡ Refused 10
+  pub gives_10 : o.answer ≡ Refused 10
   pub unplaced : o.world.device.placed ≡ false
   pub as_written : o.world ≡ placed w at slots bs rows
-  pub tried-again : (c : Call) → is_place c ≡ true → (step o.world c).answer ≡ (step w c).answer
+  pub tried_again : (c : Call) → is_place c ≡ true → (step o.world c).answer ≡ (step w c).answer
 
 abbrev pub TenInPlacing : Type 0
 TenInPlacing = (w : World) (at size : ℕ) (slots : List ℕ) (bs : List Bool) (rows : List MapRow) (call : HostCall) → (step w (Place at size slots bs rows)).answer ≡ Wants call

@@ -91,9 +91,9 @@ LoweringAsksNothing w c o = (mib : ℕ) → c ≡ SetRequestedSize mib → mib *
 
 -- ---- R18.8: every plug and unplug happens whole or not at all
 pub record Whole (w : World) (new : List Event) (w' : World) : Type 0 where
-  pub blocks-by : w'.blocks ≡ marked new w.blocks
-  pub size-by : plugged w' ≡ counted (block_size w) new (plugged w)
-  pub all-could : all_could new w.blocks (region_blocks w) ≡ true
+  pub blocks_by : w'.blocks ≡ marked new w.blocks
+  pub size_by : plugged w' ≡ counted (block_size w) new (plugged w)
+  pub could_all : all_could new w.blocks (region_blocks w) ≡ true
 
 -- placing alone brings another bitmap
 unfoldable pub is_place : Call → Bool

@@ -6,11 +6,11 @@ use Rattle.history.specs.Rules.{InEveryRun, KeepsShape, Never12, Never9Or10, Dis
 use Rattle.history.specs.Questions.{OnlyOpenUnplugsDiscard}
 
 pub record RulesInRuns : Type 0 where
-  pub demand-3 : (s : Story) → Reached s → Demand3 s.world s.events
-  pub keeps-shape : InEveryRun KeepsShape
-  pub never-12 : InEveryRun Never12
-  pub never-9-or-10 : InEveryRun Never9Or10
-  pub discard-is-counted : InEveryRun DiscardIsCounted
-  pub whole-or-not-at-all : InEveryRun WholeOrNotAtAll
-  pub asks-what-is-due : InEveryRun AsksWhatIsDue
-  pub only-open-unplugs-discard : InEveryRun OnlyOpenUnplugsDiscard
+  pub demand_3 : (s : Story) → Reached s → Demand3 s.world s.events
+  pub keeps_shape : InEveryRun KeepsShape
+  pub never_12 : InEveryRun Never12
+  pub never_9_or_10 : InEveryRun Never9Or10
+  pub discard_is_counted : InEveryRun DiscardIsCounted
+  pub whole_or_not_at_all : InEveryRun WholeOrNotAtAll
+  pub asks_what_is_due : InEveryRun AsksWhatIsDue
+  pub only_open_unplugs_discard : InEveryRun OnlyOpenUnplugsDiscard

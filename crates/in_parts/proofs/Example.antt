@@ -60,43 +60,43 @@ pub halves : List Piece
 halves = record { blocks = 1; call = plugs 0 1 } ∷ record { blocks = 1; call = plugs 1 1 } ∷ []
 
 asks : (g : Guest) (addr count : ℕ) → parsed g.mem g.base 0 0 ≡ Got (plug_request addr count) (record { 0 = 56 }) → Asks (Request g 0 0) addr count
-asks g addr count e = record { guest = g; descriptors = 0; head = 0; status = record { 0 = 56 }; is-request = refl; reads = e }
+asks g addr count e = record { guest = g; descriptors = 0; head = 0; status = record { 0 = 56 }; is_request = refl; reads = e }
 
-nack-no-ack : some VIRTIO_MEM_RESP_NACK ≡ some VIRTIO_MEM_RESP_ACK → ⊥
-nack-no-ack e = let z : ◌≡◌ {A = ℕ} 0 1 = cc in omega arith
+nack_no_ack : some VIRTIO_MEM_RESP_NACK ≡ some VIRTIO_MEM_RESP_ACK → ⊥
+nack_no_ack e = let z : ◌≡◌ {A = ℕ} 0 1 = cc in omega arith
 
 pub record Example : Type 0 where
   pub cut : InTwo 4194304 4294967296 4 1 (plugs 0 4) (plugs 0 1) (plugs 1 3)
   pub in_two : SameAs (device 16777216) (plugs 0 1 ∷ plugs 1 3 ∷ []) (plugs 0 4)
-  pub from-behind : SameAs (device 16777216) (plugs 3 1 ∷ plugs 1 2 ∷ plugs 0 1 ∷ []) (plugs 0 4)
+  pub from_behind : SameAs (device 16777216) (plugs 3 1 ∷ plugs 1 2 ∷ plugs 0 1 ∷ []) (plugs 0 4)
   -- each of two blocks alone is within the requested size, both are not: the first that is asked for is plugged
-  pub this-alone : Acknowledged (step (device 4194304) (plugs 0 1))
-  pub other-alone : Acknowledged (step (device 4194304) (plugs 1 1))
-  pub not-both : AllAcknowledged (device 4194304) (plugs 0 1 ∷ plugs 1 1 ∷ []) → ⊥
-  pub nor-so : AllAcknowledged (device 4194304) (plugs 1 1 ∷ plugs 0 1 ∷ []) → ⊥
-  pub this-first : take 2 (end_after (device 4194304) (plugs 0 1 ∷ plugs 1 1 ∷ [])).blocks ≡ true ∷ false ∷ []
-  pub other-first : take 2 (end_after (device 4194304) (plugs 1 1 ∷ plugs 0 1 ∷ [])).blocks ≡ false ∷ true ∷ []
+  pub this_alone : Acknowledged (step (device 4194304) (plugs 0 1))
+  pub other_alone : Acknowledged (step (device 4194304) (plugs 1 1))
+  pub not_both : AllAcknowledged (device 4194304) (plugs 0 1 ∷ plugs 1 1 ∷ []) → ⊥
+  pub nor_so : AllAcknowledged (device 4194304) (plugs 1 1 ∷ plugs 0 1 ∷ []) → ⊥
+  pub this_first : take 2 (end_after (device 4194304) (plugs 0 1 ∷ plugs 1 1 ∷ [])).blocks ≡ true ∷ false ∷ []
+  pub other_first : take 2 (end_after (device 4194304) (plugs 1 1 ∷ plugs 0 1 ∷ [])).blocks ≡ false ∷ true ∷ []
   -- blocks 511 and 512 of several regions, then 510 and 511; and of one region
   pub border : border_between true 4194304 2143289344 halves ≡ true
-  pub no-border : border_between true 4194304 2139095040 halves ≡ false
-  pub one-region : border_between false 4194304 2143289344 halves ≡ false
+  pub no_border : border_between true 4194304 2139095040 halves ≡ false
+  pub one_region : border_between false 4194304 2143289344 halves ≡ false
   pub raised : Raised 20971520 (device 16777216) (plugs 0 4)
 
 pub example : Example
 unfolding device plugs halves asking AllAcknowledged end_after border_between map_regions every fill value little_endian part put virtio_mem_req request_at response_bytes virtq_desc descriptor_at descriptor_addr inside link_at link_after with_second with_first parsed reaches delivered mapping_of alignment_ok region_ok size_ok span_of start_ok several_ok pending_ok shaped_of inside_of range_of host_sum host_in host_of legal_at change_in tables_fit ready_refusal unless plug_as plug serve request step response
 example =
     record {
-      cut = record { asks-whole = asks _ _ _ refl; asks-first = asks _ _ _ refl; asks-second = asks _ _ _ refl };
-      in_two = record { all-acknowledged = (refl, (refl, tt)); same_end = refl };
-      from-behind = record { all-acknowledged = (refl, (refl, (refl, tt))); same_end = refl };
-      this-alone = refl;
-      other-alone = refl;
-      not-both = λ all. nack-no-ack all.1.0;
-      nor-so = λ all. nack-no-ack all.1.0;
-      this-first = refl;
-      other-first = refl;
+      cut = record { asks_whole = asks _ _ _ refl; asks_first = asks _ _ _ refl; asks_second = asks _ _ _ refl };
+      in_two = record { all_acknowledged = (refl, (refl, tt)); same_end = refl };
+      from_behind = record { all_acknowledged = (refl, (refl, (refl, tt))); same_end = refl };
+      this_alone = refl;
+      other_alone = refl;
+      not_both = λ all. nack_no_ack all.1.0;
+      nor_so = λ all. nack_no_ack all.1.0;
+      this_first = refl;
+      other_first = refl;
       border = refl;
-      no-border = refl;
-      one-region = refl;
+      no_border = refl;
+      one_region = refl;
       raised = record { same_answer = refl; same_bytes = refl; same_end = refl };
     }

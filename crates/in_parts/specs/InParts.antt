@@ -24,7 +24,7 @@ pub record Asks (c : Call) (addr count : ℕ) : Type 0 where
   pub descriptors : ℕ
   pub head : ℕ
   pub status : GuestAddr
-  pub is-request : c ≡ Request guest descriptors head
+  pub is_request : c ≡ Request guest descriptors head
   pub reads : parsed guest.mem guest.base descriptors head ≡ Got (plug_request addr count) status
 
 -- R16.3: so many blocks a call can ask for, whatever the address, and no more in memory whose every byte is below 256
@@ -49,7 +49,7 @@ end_after w (c ∷ cs) = end_after (step w c).world cs
 
 -- the calls are acknowledged, and end where the one call ends: whatever is called next has the same outcome
 pub record SameAs (w : World) (cs : List Call) (whole : Call) : Type 0 where
-  pub all-acknowledged : AllAcknowledged w cs
+  pub all_acknowledged : AllAcknowledged w cs
   pub same_end : end_after w cs ≡ (step w whole).world
 
 -- ---- in two
@@ -59,9 +59,9 @@ on_border several offset = several && eqb (offset % map_region) 0
 
 -- the n blocks at addr, the first k of them, and the other n - k
 pub record InTwo (b addr n k : ℕ) (whole first second : Call) : Type 0 where
-  pub asks-whole : Asks whole addr n
-  pub asks-first : Asks first addr k
-  pub asks-second : Asks second (addr + bytes_of b k) (n - k)
+  pub asks_whole : Asks whole addr n
+  pub asks_first : Asks first addr k
+  pub asks_second : Asks second (addr + bytes_of b k) (n - k)
 
 -- R16.1
 abbrev pub OneThenTwo : Type 0

@@ -9,7 +9,7 @@ use lib.Seq.{drop-length}
 use borrow.Author.Tests.{le-leb, lt-leb}
 use Rattle.rows.proofs.Words.{whole}
 use Rattle.little_endian.specs.Bytes.{put}
-use Rattle.little_endian.proofs.Laws.{put-fits}
+use Rattle.little_endian.proofs.Laws.{put_fits}
 use Rattle.record.specs.declared.Device.{Device}
 use Rattle.rings.specs.declared.Queue.{Queue}
 use Rattle.record.specs.declared.HostCall.TheVariants.{Create, Discard}
@@ -26,11 +26,11 @@ use Rattle.queue.specs.Queue.{ending_of, queue_by, unmoved, aside, about, Settle
 use Rattle.words.specs.declared.Decoded.{Decoded}
 use Rattle.words.specs.declared.Decoded.TheVariants.{Is, NoRecord}
 use Rattle.words.specs.Record.{decoded_of}
-use Rattle.words.proofs.Laws.{decoded-encodes}
+use Rattle.words.proofs.Laws.{decoded_encodes}
 use Rattle.queue_words.specs.declared.DecodedQueue.{DecodedQueue}
 use Rattle.queue_words.specs.declared.DecodedQueue.TheVariants.{Is as IsQueue, NoQueue}
 use Rattle.queue_words.specs.Words.{queue_words, decoded_queue_of, ending_words}
-use Rattle.queue_words.proofs.Laws.{decoded-long as queue_long, decoded-encodes as queue-encodes, ending-told}
+use Rattle.queue_words.proofs.Laws.{decoded_long as queue_long, decoded_encodes as queue-encodes, ending_told_lem}
 use Rattle.jambcopper.specs.Exports.{handed, Told, Called, Exported}
 use Rattle.jambcopper.specs.Queue.{QueueMadeIn, queue_handed, QueueStep, QueueCalled, QueueExported}
 
@@ -49,30 +49,30 @@ put_whole : (xs ys : List ℕ) → length xs ≡ length ys → put xs 0 ys ≡ y
 put_whole xs ys e =
     let none : drop (length ys) xs ≡ [] = rw (← e) (drop-length xs) in
     let sum : 0 + length ys ≡ length ys = omega arith in
-    put-fits xs 0 ys (omega arith) ∙ rw (sum, none) (append-nil ys)
+    put_fits xs 0 ys (omega arith) ∙ rw (sum, none) (append-nil ys)
 
 module _ (call : QueueStep) (words queue : List ℕ) (r : Decoded) (e : r ≡ decoded_of words) (d : Device) (f : r ≡ Is d)
     (x : DecodedQueue) (h : x ≡ decoded_queue_of queue) (q : Queue) (i : x ≡ IsQueue q) where
   is : decoded_of words ≡ Is d
   is = sym e ∙ f
 
-  is-queue : decoded_queue_of queue ≡ IsQueue q
-  is-queue = sym h ∙ i
+  is_queue_lem : decoded_queue_of queue ≡ IsQueue q
+  is_queue_lem = sym h ∙ i
 
   -- a call that takes no head and changes nothing: only the answer is written
-  pub unmoved-told : (t : QueueAnswer) (answer answer' : List ℕ) (l : Lent) (number : ℕ)
+  pub unmoved_told : (t : QueueAnswer) (answer answer' : List ℕ) (l : Lent) (number : ℕ)
       → call l (on d l) q ≡ unmoved t (on d l) q l.bytes
       → (number ≡ queue_number_of t) × (answer' ≡ put answer 0 (queue_answer_words t))
       → QueueExported call (queue_handed queue (handed words answer l)) (queue_handed queue (handed words answer' l)) number
   unfolding QueueCalled
-  unmoved-told t answer answer' l number same told =
-      rw (is, is-queue, same)
+  unmoved_told t answer answer' l number same told =
+      rw (is, is_queue_lem, same)
       (record {
         numbered = told.0;
-        recorded = sym (decoded-encodes words d is);
+        recorded = sym (decoded_encodes words d is);
         decodes = is;
-        queued = sym (queue-encodes queue q is-queue);
-        queue-decodes = is-queue;
+        queued = sym (queue-encodes queue q is_queue_lem);
+        queue_decodes = is_queue_lem;
         told = told.1;
         leaves = record { marked = refl; mapped = sym (whole l.table); left = refl };
       })
@@ -92,13 +92,13 @@ module _ (call : QueueStep) (words queue : List ℕ) (r : Decoded) (e : r ≡ de
         → QueueExported call (queue_handed queue (handed words told before)) (queue_handed queue (handed words' told' after)) number
     unfolding QueueCalled
     aside-told same =
-        rw (is, is-queue, same)
+        rw (is, is_queue_lem, same)
         (record {
           numbered = tells.numbered;
           recorded = tells.recorded;
           decodes = tells.decodes;
-          queued = sym (queue-encodes queue q is-queue);
-          queue-decodes = is-queue;
+          queued = sym (queue-encodes queue q is_queue_lem);
+          queue_decodes = is_queue_lem;
           told = tells.told;
           leaves = record { marked = tells.leaves.marked; mapped = tells.leaves.mapped; left = tells.leaves.left };
         })
@@ -113,15 +113,15 @@ module _ (call : QueueStep) (words queue : List ℕ) (r : Decoded) (e : r ≡ de
     about-told room short head base was out same ending ending-is now queue' answer answer' bytes' settled written passed =
         let a = outcome.answer in
         let said : told' ≡ answer_words a = tells.told ∙ put_whole told (answer_words a) (room ∙ sym (nine a)) in
-        let ends : ending ≡ ending_of a = ending-is ∙ ap ending_words said ∙ ending-told a short in
+        let ends : ending ≡ ending_of a = ending-is ∙ ap ending_words said ∙ ending_told_lem a short in
         let now-is : now ≡ queue_by (ending_of a) was out = rw ends at settled.queued in
-        rw (is, is-queue, same)
+        rw (is, is_queue_lem, same)
         (record {
           numbered = tells.numbered;
           recorded = tells.recorded;
           decodes = tells.decodes;
           queued = written.0 ∙ ap (λ (k : Queue). put queue 0 (queue_words k)) now-is;
-          queue-decodes = written.1 (queue_long queue q is-queue) ∙ ap IsQueue now-is;
+          queue_decodes = written.1 (queue_long queue q is_queue_lem) ∙ ap IsQueue now-is;
           told = passed ∙ ap (put answer 0) said;
           leaves = record { marked = tells.leaves.marked; mapped = tells.leaves.mapped; left = rw (ends, tells.leaves.left) at settled.left };
         })
@@ -137,20 +137,20 @@ no_record call words queue r e f answer answer' l number t =
     rw is (record { others = record { numbered = t.0; told = t.1; recorded = refl; untouched = refl }; queued = refl })
 
 -- a record and no queue: so too
-pub no-queue : (call : QueueStep) (words queue : List ℕ) (r : Decoded) → r ≡ decoded_of words → (d : Device) → r ≡ Is d
+pub no_queue : (call : QueueStep) (words queue : List ℕ) (r : Decoded) → r ≡ decoded_of words → (d : Device) → r ≡ Is d
     → (x : DecodedQueue) → x ≡ decoded_queue_of queue → x ≡ NoQueue
     → (answer answer' : List ℕ) (l : Lent) (number : ℕ)
     → (number ≡ 12) × (answer' ≡ put answer 0 (answer_words (Refused 12)))
     → QueueExported call (queue_handed queue (handed words answer l)) (queue_handed queue (handed words answer' l)) number
 unfolding QueueCalled
-no-queue call words queue r e d f x h i answer answer' l number t =
+no_queue call words queue r e d f x h i answer answer' l number t =
     let is : decoded_of words ≡ Is d = sym e ∙ f in
     let is_none : decoded_queue_of queue ≡ NoQueue = sym h ∙ i in
     rw (is, is_none) (record { others = record { numbered = t.0; told = t.1; recorded = refl; untouched = refl }; queued = refl })
 
 -- ---- making
-pub no-queue-room : (words : List ℕ) (q : Queue) → length words < 6 → QueueMadeIn words q 12 words
-no-queue-room words q h = record { numbered = simp (lt-leb _ _ h); queued = simp (lt-leb _ _ h) }
+pub no_queue_room : (words : List ℕ) (q : Queue) → length words < 6 → QueueMadeIn words q 12 words
+no_queue_room words q h = record { numbered = simp (lt-leb _ _ h); queued = simp (lt-leb _ _ h) }
 
-pub queue-made : (words words' : List ℕ) (q : Queue) → 6 ≤ length words → words' ≡ put words 0 (queue_words q) → QueueMadeIn words q 0 words'
-queue-made words words' q h w = record { numbered = simp (le-leb _ _ h); queued = simp (le-leb _ _ h) w }
+pub queue_made : (words words' : List ℕ) (q : Queue) → 6 ≤ length words → words' ≡ put words 0 (queue_words q) → QueueMadeIn words q 0 words'
+queue_made words words' q h w = record { numbered = simp (le-leb _ _ h); queued = simp (le-leb _ _ h) w }

@@ -6,9 +6,9 @@ use mathlib.Core.List.{List, []}
 use native.Mathlib.Omega.{arith}
 use lib.ListN.{length}
 use borrow.Author.Tests.{le-leb, lt-leb}
-use Rattle.units.proofs.Tests.{by-test}
+use Rattle.units.proofs.Tests.{by_test}
 use Rattle.little_endian.specs.Bytes.{put}
-use Rattle.little_endian.proofs.Laws.{put-past}
+use Rattle.little_endian.proofs.Laws.{put_past}
 use Rattle.record.specs.declared.Device.{Device}
 use Rattle.step.specs.declared.Answered.{Answered}
 use Rattle.step.specs.declared.Answer.{Answer}
@@ -24,7 +24,7 @@ use Rattle.words.specs.declared.Decoded.{Decoded}
 use Rattle.words.specs.declared.Decoded.TheVariants.{Is, NoRecord}
 use Rattle.words.specs.Record.{words_of, decoded_of, after_request, after_answer}
 use Rattle.step.specs.Answers.{answer_words, number_of}
-use Rattle.words.proofs.Laws.{decoded-encodes, decoded-long, request-encodes, answer-encodes}
+use Rattle.words.proofs.Laws.{decoded_encodes, decoded_long, request_encodes, answer_encodes}
 use Rattle.making.specs.Made.{made_number}
 use Rattle.jambcopper.specs.Exports.{made_words, MadeIn, handed, Called, Exported}
 
@@ -38,7 +38,7 @@ pub served : (call : Lent → Call) (words : List ℕ) (r : Decoded) → r ≡ d
 unfolding Called
 served call words r e d f s words' answer answer' before after number m w t =
     let is : decoded_of words ≡ Is d = sym e ∙ f in
-    let long = decoded-long words d is in
+    let long = decoded_long words d is in
     rw is
     (record {
       numbered = t.0 ∙ ap number_of m.answered;
@@ -63,15 +63,15 @@ pub unwritten : (words : List ℕ) (r : Decoded) → r ≡ decoded_of words → 
     → (words ≡ put words 0 (words_of d')) × (15 ≤ length words → decoded_of words ≡ Is d')
 unwritten words r e d f d' same =
     let is : decoded_of words ≡ Is d = sym e ∙ f in (
-      sym (ap (λ (d : Device). put words 0 (words_of d)) same ∙ decoded-encodes words d is),
+      sym (ap (λ (d : Device). put words 0 (words_of d)) same ∙ decoded_encodes words d is),
       λ long. is ∙ sym (ap Is same),
     )
 
 -- a call that may change a part of the record need write only that
-in-part : (words words' : List ℕ) (part : Device → List ℕ) (d' o : Device) → d' ≡ o
+in_part : (words words' : List ℕ) (part : Device → List ℕ) (d' o : Device) → d' ≡ o
     → (part o ≡ put words 0 (words_of o)) × (decoded_of (part o) ≡ Is o) → words' ≡ part d'
     → (words' ≡ put words 0 (words_of d')) × (15 ≤ length words → decoded_of words' ≡ Is d')
-in-part words words' part d' o same whole w =
+in_part words words' part d' o same whole w =
     let at-o : words' ≡ part o = w ∙ ap part same in (
       at-o ∙ whole.0 ∙ sym (ap (λ (d : Device). put words 0 (words_of d)) same),
       λ long. ap decoded_of at-o ∙ whole.1 ∙ sym (ap Is same),
@@ -79,22 +79,22 @@ in-part words words' part d' o same whole w =
 
 -- d is the record that the words mean, o the outcome's, and d' what is written
 module _ (words : List ℕ) (r : Decoded) (e : r ≡ decoded_of words) (d : Device) (f : r ≡ Is d) (o d' : Device) (same : d' ≡ o) (words' : List ℕ) where
-  pub request-written : o ≡ pending_to o.pending (plugged_to o.config.plugged_size d) → words' ≡ after_request words d'
+  pub request_written : o ≡ pending_to o.pending (plugged_to o.config.plugged_size d) → words' ≡ after_request words d'
       → (words' ≡ put words 0 (words_of d')) × (15 ≤ length words → decoded_of words' ≡ Is d')
-  request-written k =
-      in-part words words' (after_request words) d' _ (same ∙ k)
-      (request-encodes words d (sym e ∙ f) o.config.plugged_size o.pending)
+  request_written k =
+      in_part words words' (after_request words) d' _ (same ∙ k)
+      (request_encodes words d (sym e ∙ f) o.config.plugged_size o.pending)
 
-  pub answer-written : o ≡ pending_to o.pending (placed_to o.placed (plugged_to o.config.plugged_size (usable_to o.config.usable_region_size d)))
+  pub answer_written : o ≡ pending_to o.pending (placed_to o.placed (plugged_to o.config.plugged_size (usable_to o.config.usable_region_size d)))
       → words' ≡ after_answer words d'
       → (words' ≡ put words 0 (words_of d')) × (15 ≤ length words → decoded_of words' ≡ Is d')
-  answer-written k =
-      in-part words words' (after_answer words) d' _ (same ∙ k)
-      (answer-encodes words d (sym e ∙ f) o.config.usable_region_size o.config.plugged_size o.placed o.pending)
+  answer_written k =
+      in_part words words' (after_answer words) d' _ (same ∙ k)
+      (answer_encodes words d (sym e ∙ f) o.config.usable_region_size o.config.plugged_size o.placed o.pending)
 
 -- where no answer slice is lent, none is written
 pub untold : (answer : Answer) → [] ≡ put [] 0 (answer_words answer)
-untold answer = sym (put-past [] 0 (answer_words answer) (omega arith))
+untold answer = sym (put_past [] 0 (answer_words answer) (omega arith))
 
 -- no record, and no answer slice
 pub unserved : (call : Lent → Call) (words : List ℕ) (r : Decoded) → r ≡ decoded_of words → r ≡ NoRecord
@@ -104,26 +104,26 @@ unserved call words r e f bytes = foreign call words r e f [] [] (lent [] [] byt
 -- the config's calls leave the record as it is
 pub read_keeps : (d : Device) (offset : ℕ) (buffer : List ℕ) → (step (world_of d [] []) (ReadConfig offset buffer)).world.device ≡ d
 unfolding step read_config
-read_keeps d offset buffer = by-test (shaped_of d) (λ t. simp t) (λ t. simp t)
+read_keeps d offset buffer = by_test (shaped_of d) (λ t. simp t) (λ t. simp t)
 
 pub write_keeps : (d : Device) (offset : ℕ) (buffer : List ℕ) → (step (world_of d [] []) (WriteConfig offset buffer)).world.device ≡ d
 unfolding step write_config
-write_keeps d offset buffer = by-test (shaped_of d) (λ t. simp t) (λ t. simp t)
+write_keeps d offset buffer = by_test (shaped_of d) (λ t. simp t) (λ t. simp t)
 
 -- ---- making
 pub no_room : (words : List ℕ) (m : Made) → length words < 15 → MadeIn words m 12 words
 no_room words m h = record { numbered = simp (lt-leb _ _ h); recorded = simp (lt-leb _ _ h) }
 
-pub made-refused : (words : List ℕ) (m : Made) (number : ℕ) → 15 ≤ length words → (r : Made) → r ≡ m → r ≡ MadeRefused number
+pub made_refused : (words : List ℕ) (m : Made) (number : ℕ) → 15 ≤ length words → (r : Made) → r ≡ m → r ≡ MadeRefused number
     → MadeIn words m number words
 unfolding made_number made_words
-made-refused words m number h r e f =
+made_refused words m number h r e f =
     let is : m ≡ MadeRefused number = sym e ∙ f in
     rw is (record { numbered = simp (le-leb _ _ h); recorded = simp (le-leb _ _ h) })
 
-pub made-device : (words : List ℕ) (m : Made) (d : Device) → 15 ≤ length words → (r : Made) → r ≡ m → r ≡ MadeDevice d
+pub made_device : (words : List ℕ) (m : Made) (d : Device) → 15 ≤ length words → (r : Made) → r ≡ m → r ≡ MadeDevice d
     → (words' : List ℕ) → words' ≡ put words 0 (words_of d) → MadeIn words m 0 words'
 unfolding made_number made_words
-made-device words m d h r e f words' w =
+made_device words m d h r e f words' w =
     let is : m ≡ MadeDevice d = sym e ∙ f in
     rw is (record { numbered = simp (le-leb _ _ h); recorded = simp (le-leb _ _ h) w })

@@ -58,7 +58,7 @@ pub record QueueTold (o : QueueOutcome) (entry exit : QueueHanded) (number : ℕ
   pub recorded : exit.others.words ≡ put entry.others.words 0 (words_of o.world.device)
   pub decodes : decoded_of exit.others.words ≡ Is o.world.device
   pub queued : exit.queue ≡ put entry.queue 0 (queue_words o.queue)
-  pub queue-decodes : decoded_queue_of exit.queue ≡ IsQueue o.queue
+  pub queue_decodes : decoded_queue_of exit.queue ≡ IsQueue o.queue
   pub told : exit.others.answer ≡ put entry.others.answer 0 (queue_answer_words o.answer)
   pub leaves : Leaves (left_by_queue o) entry.others.slices exit.others.slices
 

@@ -24,11 +24,11 @@ use Rattle.jambcopper.proofs.jambcopper_write_config.Reads.{Learnt as Write-lear
 use Rattle.linked.specs.Runs.{jambcopper_place, jambcopper_set_requested_size, jambcopper_request, jambcopper_host_answer, jambcopper_read_config, jambcopper_write_config, call_by, Promised}
 
 -- a are the arguments, in their order; e are the lent slices afterwards; z is what is returned
-pub make-promises : (κs : Lfts 1) (a : Dens κs make-ps) (z : (res_t make-r κs).Denot) (e : AtExit (ended_of 1 make-ps make-r) κs) → Make-learnt κs a z e
+pub make_promises : (κs : Lfts 1) (a : Dens κs make-ps) (z : (res_t make-r κs).Denot) (e : AtExit (ended_of 1 make-ps make-r) κs) → Make-learnt κs a z e
     → MadeIn a.0.now (made a.1.0 a.1.1.0 a.1.1.1.0 (node_of a.1.1.1.1.0 a.1.1.1.1.1.0) a.1.1.1.1.1.1.0) z e.0.now
-make-promises κs a z e p = p
+make_promises κs a z e p = p
 
-pub place-promises : (κs : Lfts 5) (a : Dens κs place-ps) (z : (res_t place-r κs).Denot) (e : AtExit (ended_of 5 place-ps place-r) κs) → Place-learnt κs a z e
+pub place_promises : (κs : Lfts 5) (a : Dens κs place-ps) (z : (res_t place-r κs).Denot) (e : AtExit (ended_of 5 place-ps place-r) κs) → Place-learnt κs a z e
     → Promised
     (record {
       function = jambcopper_place a.1.1.1.0 a.1.1.1.1.0 a.1.1.1.1.1.0.now;
@@ -37,9 +37,9 @@ pub place-promises : (κs : Lfts 5) (a : Dens κs place-ps) (z : (res_t place-r 
       number = z;
     })
 unfolding call_by
-place-promises κs a z e p = p
+place_promises κs a z e p = p
 
-pub size-promises : (κs : Lfts 4) (a : Dens κs size-ps) (z : (res_t size-r κs).Denot) (e : AtExit (ended_of 4 size-ps size-r) κs) → Size-learnt κs a z e
+pub size_promises : (κs : Lfts 4) (a : Dens κs size-ps) (z : (res_t size-r κs).Denot) (e : AtExit (ended_of 4 size-ps size-r) κs) → Size-learnt κs a z e
     → Promised
     (record {
       function = jambcopper_set_requested_size a.1.1.1.0;
@@ -48,9 +48,9 @@ pub size-promises : (κs : Lfts 4) (a : Dens κs size-ps) (z : (res_t size-r κs
       number = z;
     })
 unfolding call_by
-size-promises κs a z e p = p
+size_promises κs a z e p = p
 
-pub request-promises : (κs : Lfts 5) (a : Dens κs request-ps) (z : (res_t request-r κs).Denot) (e : AtExit (ended_of 5 request-ps request-r) κs) → Request-learnt κs a z e
+pub request_promises : (κs : Lfts 5) (a : Dens κs request-ps) (z : (res_t request-r κs).Denot) (e : AtExit (ended_of 5 request-ps request-r) κs) → Request-learnt κs a z e
     → Promised
     (record {
       function = jambcopper_request a.1.1.1.1.0 a.1.1.1.1.1.0 a.1.1.1.1.1.1.0;
@@ -59,9 +59,9 @@ pub request-promises : (κs : Lfts 5) (a : Dens κs request-ps) (z : (res_t requ
       number = z;
     })
 unfolding call_by
-request-promises κs a z e p = p
+request_promises κs a z e p = p
 
-pub answer-promises : (κs : Lfts 5) (a : Dens κs answer-ps) (z : (res_t answer-r κs).Denot) (e : AtExit (ended_of 5 answer-ps answer-r) κs) → Answer-learnt κs a z e
+pub answer_promises : (κs : Lfts 5) (a : Dens κs answer-ps) (z : (res_t answer-r κs).Denot) (e : AtExit (ended_of 5 answer-ps answer-r) κs) → Answer-learnt κs a z e
     → Promised
     (record {
       function = jambcopper_host_answer a.1.1.1.1.0 a.1.1.1.1.1.0 a.1.1.1.1.1.1.0;
@@ -70,10 +70,10 @@ pub answer-promises : (κs : Lfts 5) (a : Dens κs answer-ps) (z : (res_t answer
       number = z;
     })
 unfolding call_by
-answer-promises κs a z e p = p
+answer_promises κs a z e p = p
 
 -- the config's calls: no tables and no answer slice
-pub read-promises : (κs : Lfts 2) (a : Dens κs read-ps) (z : (res_t read-r κs).Denot) (e : AtExit (ended_of 2 read-ps read-r) κs) → Read-learnt κs a z e
+pub read_promises : (κs : Lfts 2) (a : Dens κs read-ps) (z : (res_t read-r κs).Denot) (e : AtExit (ended_of 2 read-ps read-r) κs) → Read-learnt κs a z e
     → Promised
     (record {
       function = jambcopper_read_config a.1.0;
@@ -82,9 +82,9 @@ pub read-promises : (κs : Lfts 2) (a : Dens κs read-ps) (z : (res_t read-r κs
       number = z;
     })
 unfolding call_by
-read-promises κs a z e p = p
+read_promises κs a z e p = p
 
-pub write-promises : (κs : Lfts 2) (a : Dens κs write-ps) (z : (res_t write-r κs).Denot) (e : AtExit (ended_of 2 write-ps write-r) κs) → Write-learnt κs a z e
+pub write_promises : (κs : Lfts 2) (a : Dens κs write-ps) (z : (res_t write-r κs).Denot) (e : AtExit (ended_of 2 write-ps write-r) κs) → Write-learnt κs a z e
     → Promised
     (record {
       function = jambcopper_write_config a.1.0;
@@ -93,4 +93,4 @@ pub write-promises : (κs : Lfts 2) (a : Dens κs write-ps) (z : (res_t write-r 
       number = z;
     })
 unfolding call_by
-write-promises κs a z e p = p
+write_promises κs a z e p = p

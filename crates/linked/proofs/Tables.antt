@@ -6,10 +6,10 @@ use mathlib.Core.Bool.{Bool, true, false, cond, not}
 use mathlib.Core.List.{List, []}
 use lib.Dec.{eqb}
 use lib.ListN.{length}
-use Rattle.units.proofs.Tests.{by-test}
-use Rattle.bitmap.proofs.Laws.{fill-length as fill-blocks}
+use Rattle.units.proofs.Tests.{by_test}
+use Rattle.bitmap.proofs.Laws.{fill_length as fill-blocks}
 use Rattle.rows.specs.declared.MapRow.{MapRow}
-use Rattle.rows.proofs.Laws.{fill-length, laid-length}
+use Rattle.rows.proofs.Laws.{fill_length, laid_length}
 use Rattle.record.specs.declared.Device.{Device}
 use Rattle.record.specs.Shape.{shaped_of, is_idle}
 use Rattle.step.specs.World.{World, Guest, Call, Place, SetRequestedSize, Request, HostAnswer, ReadConfig, WriteConfig, Outcome}
@@ -18,8 +18,8 @@ use Rattle.step.specs.Answers.{number_of}
 use Rattle.history.specs.History.{Event}
 use Rattle.history.specs.Rules.{is_place}
 use Rattle.history.proofs.Shaped.{clash}
-use Rattle.history.proofs.Cases.{by_cond, placing-cases}
-use Rattle.history.proofs.Calls.{Endings, each-call}
+use Rattle.history.proofs.Cases.{by_cond, placing_cases}
+use Rattle.history.proofs.Calls.{Endings, each_call}
 
 -- ---- how many rows and blocks there are
 pub record SameLengths (w w' : World) : Type 0 where
@@ -39,29 +39,29 @@ keeps w =
       writes = λ offset buffer _. same;
       unserves = λ a reason _. same;
       responds = λ a resp _. same;
-      plugs-range = λ a addr count first offset _ _ _. record { same_rows = refl; same_blocks = fill-blocks w.blocks first count true };
-      asks-range = λ a addr count first offset host _ _ _ _. record { same_rows = refl; same_blocks = refl };
+      plugs_range = λ a addr count first offset _ _ _. record { same_rows = refl; same_blocks = fill-blocks w.blocks first count true };
+      asks_range = λ a addr count first offset host _ _ _ _. record { same_rows = refl; same_blocks = refl };
       spoils = λ a addr count first offset _ _ _. same;
-      ends-at-once = λ a r _. record { same_rows = refl; same_blocks = refl };
-      asks-first = λ a block offset host r _ _. record { same_rows = refl; same_blocks = refl };
-      stops-at-once = λ a _. record { same_rows = refl; same_blocks = refl };
-      maps = λ i last a _. record { same_rows = fill-length w.rows i _ a.host; same_blocks = refl };
-      create-fails = λ i last a _. record { same_rows = refl; same_blocks = refl };
-      unplugs-range = λ first count status a _. record { same_rows = refl; same_blocks = fill-blocks w.blocks first count false };
-      discard-fails = λ first count status a _. record { same_rows = refl; same_blocks = refl };
-      ends-all = λ j status a r _. record { same_rows = refl; same_blocks = fill-blocks w.blocks j 1 false };
-      asks-next = λ j status a block offset host r _ _. record { same_rows = refl; same_blocks = fill-blocks w.blocks j 1 false };
-      stops-after = λ j status a _. record { same_rows = refl; same_blocks = fill-blocks w.blocks j 1 false };
-      one-fails = λ j status a _. record { same_rows = refl; same_blocks = refl };
+      ends_at_once = λ a r _. record { same_rows = refl; same_blocks = refl };
+      asks_first = λ a block offset host r _ _. record { same_rows = refl; same_blocks = refl };
+      stops_at_once = λ a _. record { same_rows = refl; same_blocks = refl };
+      maps = λ i last a _. record { same_rows = fill_length w.rows i _ a.host; same_blocks = refl };
+      create_fails_lem = λ i last a _. record { same_rows = refl; same_blocks = refl };
+      unplugs_range = λ first count status a _. record { same_rows = refl; same_blocks = fill-blocks w.blocks first count false };
+      discard_fails = λ first count status a _. record { same_rows = refl; same_blocks = refl };
+      ends_all_lem = λ j status a r _. record { same_rows = refl; same_blocks = fill-blocks w.blocks j 1 false };
+      asks_next = λ j status a block offset host r _ _. record { same_rows = refl; same_blocks = fill-blocks w.blocks j 1 false };
+      stops_after = λ j status a _. record { same_rows = refl; same_blocks = fill-blocks w.blocks j 1 false };
+      one_fails = λ j status a _. record { same_rows = refl; same_blocks = refl };
       resizes = λ a _. record { same_rows = refl; same_blocks = refl };
-      resize-asks = λ a i last size _ _. record { same_rows = refl; same_blocks = refl };
+      resize_asks = λ a i last size _ _. record { same_rows = refl; same_blocks = refl };
       places = λ a p. clash refl p;
-      place-asks = λ a i last size _ p. clash refl p;
-      place-asks-whole = λ a _ p. clash refl p;
+      place_asks = λ a i last size _ p. clash refl p;
+      place_asks_whole = λ a _ p. clash refl p;
     }
 
-pub lengths-kept : (w : World) (c : Call) → is_place c ≡ false → SameLengths w (step w c).world
-lengths-kept w c = each-call w (Keeps w) (keeps w) c
+pub lengths_kept : (w : World) (c : Call) → is_place c ≡ false → SameLengths w (step w c).world
+lengths_kept w c = each_call w (Keeps w) (keeps w) c
 
 -- ---- two worlds with one record and any tables
 abbrev pub with : Device → List Bool → List MapRow → World
@@ -75,57 +75,57 @@ pub record Stay (w w' : World) (o o' : Outcome) : Type 0 where
   pub stays' : o'.world ≡ w'
 
 module _ (d : Device) (bs bs' : List Bool) (rows rows' : List MapRow) where
-  refuse-both : (n : ℕ) (bytes : List ℕ) → Stay (with d bs rows) (with d bs' rows') (refused n (with d bs rows) bytes) (refused n (with d bs' rows') bytes)
-  refuse-both n bytes = record { same_answer = refl; same_bytes = refl; stays = refl; stays' = refl }
+  refuse_both : (n : ℕ) (bytes : List ℕ) → Stay (with d bs rows) (with d bs' rows') (refused n (with d bs rows) bytes) (refused n (with d bs' rows') bytes)
+  refuse_both n bytes = record { same_answer = refl; same_bytes = refl; stays = refl; stays' = refl }
 
   -- the config's calls look at the record alone
   pub read_stays : (offset : ℕ) (buffer : List ℕ) → Stay (with d bs rows) (with d bs' rows') (step (with d bs rows) (ReadConfig offset buffer)) (step (with d bs' rows') (ReadConfig offset buffer))
   unfolding step read_config
   read_stays offset buffer =
-      by-test (shaped_of d) (λ t. rw t (record { same_answer = refl; same_bytes = refl; stays = refl; stays' = refl })) (λ t. rw t (refuse-both 12 buffer))
+      by_test (shaped_of d) (λ t. rw t (record { same_answer = refl; same_bytes = refl; stays = refl; stays' = refl })) (λ t. rw t (refuse_both 12 buffer))
 
-  pub write-stays : (offset : ℕ) (buffer : List ℕ) → Stay (with d bs rows) (with d bs' rows') (step (with d bs rows) (WriteConfig offset buffer)) (step (with d bs' rows') (WriteConfig offset buffer))
+  pub write_stays : (offset : ℕ) (buffer : List ℕ) → Stay (with d bs rows) (with d bs' rows') (step (with d bs rows) (WriteConfig offset buffer)) (step (with d bs' rows') (WriteConfig offset buffer))
   unfolding step write_config
-  write-stays offset buffer =
-      by-test (shaped_of d) (λ t. rw t (record { same_answer = refl; same_bytes = refl; stays = refl; stays' = refl })) (λ t. rw t (refuse-both 12 buffer))
+  write_stays offset buffer =
+      by_test (shaped_of d) (λ t. rw t (record { same_answer = refl; same_bytes = refl; stays = refl; stays' = refl })) (λ t. rw t (refuse_both 12 buffer))
 
   -- a device that is not placed and waits for nothing: 12 or 5, and 12 or 8 for a host answer
-  refuse-early : (n n' m : ℕ) (bytes : List ℕ) (o o' : Outcome) → n ≡ m → n' ≡ m → eqb m 0 ≡ false
+  refuse_early : (n n' m : ℕ) (bytes : List ℕ) (o o' : Outcome) → n ≡ m → n' ≡ m → eqb m 0 ≡ false
       → Stay (with d bs rows) (with d bs' rows') (unless n (with d bs rows) bytes o) (unless n' (with d bs' rows') bytes o')
   unfolding unless
-  refuse-early n n' m bytes o o' p q e = rw (p, q, e) (refuse-both m bytes)
+  refuse_early n n' m bytes o o' p q e = rw (p, q, e) (refuse_both m bytes)
 
   module _ (unplaced : d.placed ≡ false) (idle : is_idle d.pending ≡ true) where
-    pub not-ready : (b r : ℕ) → ready_refusal d b r ≡ cond (not (shaped_of d)) 12 5
+    pub not_ready : (b r : ℕ) → ready_refusal d b r ≡ cond (not (shaped_of d)) 12 5
     unfolding ready_refusal
-    not-ready b r = simp (idle, unplaced)
+    not_ready b r = simp (idle, unplaced)
 
-    not-pending : (b r : ℕ) → pending_refusal d b r ≡ cond (not (shaped_of d)) 12 8
+    not_pending : (b r : ℕ) → pending_refusal d b r ≡ cond (not (shaped_of d)) 12 8
     unfolding pending_refusal
-    not-pending b r = simp idle
+    not_pending b r = simp idle
 
     pub not-0 : (t : Bool) (n : ℕ) → eqb n 0 ≡ false → eqb (cond (not t) 12 n) 0 ≡ false
     not-0 true n e = e
     not-0 false n e = refl
 
-    pub size-early : (mib : ℕ) → Stay (with d bs rows) (with d bs' rows') (step (with d bs rows) (SetRequestedSize mib)) (step (with d bs' rows') (SetRequestedSize mib))
+    pub size_early : (mib : ℕ) → Stay (with d bs rows) (with d bs' rows') (step (with d bs rows) (SetRequestedSize mib)) (step (with d bs' rows') (SetRequestedSize mib))
     unfolding step
-    size-early mib = refuse-early _ _ _ [] _ _ (not-ready _ _) (not-ready _ _) (not-0 (shaped_of d) 5 refl)
+    size_early mib = refuse_early _ _ _ [] _ _ (not_ready _ _) (not_ready _ _) (not-0 (shaped_of d) 5 refl)
 
-    pub request-early : (g : Guest) (descriptors head : ℕ) → Stay (with d bs rows) (with d bs' rows') (step (with d bs rows) (Request g descriptors head)) (step (with d bs' rows') (Request g descriptors head))
+    pub request_early : (g : Guest) (descriptors head : ℕ) → Stay (with d bs rows) (with d bs' rows') (step (with d bs rows) (Request g descriptors head)) (step (with d bs' rows') (Request g descriptors head))
     unfolding step
-    request-early g descriptors head = refuse-early _ _ _ g.mem _ _ (not-ready _ _) (not-ready _ _) (not-0 (shaped_of d) 5 refl)
+    request_early g descriptors head = refuse_early _ _ _ g.mem _ _ (not_ready _ _) (not_ready _ _) (not-0 (shaped_of d) 5 refl)
 
-    pub answer-early : (g : Guest) (ok : Bool) (host : ℕ) → Stay (with d bs rows) (with d bs' rows') (step (with d bs rows) (HostAnswer g ok host)) (step (with d bs' rows') (HostAnswer g ok host))
+    pub answer_early : (g : Guest) (ok : Bool) (host : ℕ) → Stay (with d bs rows) (with d bs' rows') (step (with d bs rows) (HostAnswer g ok host)) (step (with d bs' rows') (HostAnswer g ok host))
     unfolding step
-    answer-early g ok host = refuse-early _ _ _ g.mem _ _ (not-pending _ _) (not-pending _ _) (not-0 (shaped_of d) 8 refl)
+    answer_early g ok host = refuse_early _ _ _ g.mem _ _ (not_pending _ _) (not_pending _ _) (not-0 (shaped_of d) 8 refl)
 
 -- ---- placing brings its own
 -- both placings tell the same. One that is refused leaves its world; one that is not leaves one world, with as many rows as it was lent
 pub record Alike (w w' : World) (lent : List MapRow) (o o' : Outcome) : Type 0 where
   pub same_answer : o'.answer ≡ o.answer
   pub same_bytes : o'.bytes ≡ o.bytes
-  pub same-device : o'.world.device ≡ o.world.device
+  pub same_device : o'.world.device ≡ o.world.device
   pub refuses : eqb (number_of o.answer) 0 ≡ false → (o.world ≡ w) × (o'.world ≡ w')
   pub takes : eqb (number_of o.answer) 0 ≡ true → (o'.world ≡ o.world) × (length o.world.rows ≡ length lent)
 
@@ -135,46 +135,46 @@ both_ways Q false a b a' b' f g = g refl
 
 -- a placing that is taken
 pub record Taken (lent : List MapRow) (o : Outcome) : Type 0 where
-  pub number-0 : number_of o.answer ≡ 0
+  pub number_0 : number_of o.answer ≡ 0
   pub same_rows : length o.world.rows ≡ length lent
 
 module _ (d : Device) (bs bs' : List Bool) (rows rows' : List MapRow) (at size : ℕ) (slots : List ℕ) (bits : List Bool) (lent : List MapRow) where
   abbrev Both : Outcome → Outcome → Type 0
   Both o o' = Alike (with d bs rows) (with d bs' rows') lent o o'
 
-  refused-alike : (n : ℕ) → eqb n 0 ≡ false → Both (refused n (with d bs rows) []) (refused n (with d bs' rows') [])
-  refused-alike n e = record { same_answer = refl; same_bytes = refl; same-device = refl; refuses = λ _. (refl, refl); takes = λ f. clash f e }
+  refused_alike : (n : ℕ) → eqb n 0 ≡ false → Both (refused n (with d bs rows) []) (refused n (with d bs' rows') [])
+  refused_alike n e = record { same_answer = refl; same_bytes = refl; same_device = refl; refuses = λ _. (refl, refl); takes = λ f. clash f e }
 
-  taken-alike : (o : Outcome) → Taken lent o → Both o o
-  taken-alike o t =
+  taken_alike : (o : Outcome) → Taken lent o → Both o o
+  taken_alike o t =
       record {
         same_answer = refl;
         same_bytes = refl;
-        same-device = refl;
-        refuses = λ e. clash {t = eqb (number_of o.answer) 0} (rw t.number-0) e;
+        same_device = refl;
+        refuses = λ e. clash {t = eqb (number_of o.answer) 0} (rw t.number_0) e;
         takes = λ _. (refl, t.same_rows);
       }
 
-  placing-taken : (w : World) → length w.rows ≡ length lent → Taken lent (placing w)
-  placing-taken w l =
-      placing-cases (Taken lent) w (record { number-0 = refl; same_rows = l }) (λ i last n _. record { number-0 = refl; same_rows = l }) (λ _. record { number-0 = refl; same_rows = l })
+  placing_taken : (w : World) → length w.rows ≡ length lent → Taken lent (placing w)
+  placing_taken w l =
+      placing_cases (Taken lent) w (record { number_0 = refl; same_rows = l }) (λ i last n _. record { number_0 = refl; same_rows = l }) (λ _. record { number_0 = refl; same_rows = l })
 
-  place-alike : Both (place (with d bs rows) at size slots bits lent) (place (with d bs' rows') at size slots bits lent)
+  place_alike : Both (place (with d bs rows) at size slots bits lent) (place (with d bs' rows') at size slots bits lent)
   unfolding place unless
-  place-alike =
+  place_alike =
       let w = with d bs rows in
       let n = range_refusal d at size (length slots) in
       both_ways Both (eqb n 0) _ _ _ _
-      (λ _. taken-alike (placing (placed w at slots bits lent)) (placing-taken (placed w at slots bits lent) (laid-length lent slots)))
-      (λ e. refused-alike n e)
+      (λ _. taken_alike (placing (placed w at slots bits lent)) (placing_taken (placed w at slots bits lent) (laid_length lent slots)))
+      (λ e. refused_alike n e)
 
   abbrev Given : ℕ → Type 0
   Given n = Both (unless n (with d bs rows) [] (place (with d bs rows) at size slots bits lent)) (unless n (with d bs' rows') [] (place (with d bs' rows') at size slots bits lent))
 
-  pub places-alike : Both (step (with d bs rows) (Place at size slots bits lent)) (step (with d bs' rows') (Place at size slots bits lent))
+  pub places_alike : Both (step (with d bs rows) (Place at size slots bits lent)) (step (with d bs' rows') (Place at size slots bits lent))
   unfolding step unplaced_refusal unless
-  places-alike =
-      by_cond Given (not (shaped_of d)) _ _ (λ _. refused-alike 12 refl)
-      (λ _. by_cond Given (not (is_idle d.pending)) _ _ (λ _. refused-alike 7 refl)
-      (λ _. by_cond Given d.placed _ _ (λ _. refused-alike 6 refl)
-      (λ _. by_cond Given (not (tables_fit d (length bits) (length lent))) _ _ (λ _. refused-alike 11 refl) (λ _. place-alike))))
+  places_alike =
+      by_cond Given (not (shaped_of d)) _ _ (λ _. refused_alike 12 refl)
+      (λ _. by_cond Given (not (is_idle d.pending)) _ _ (λ _. refused_alike 7 refl)
+      (λ _. by_cond Given d.placed _ _ (λ _. refused_alike 6 refl)
+      (λ _. by_cond Given (not (tables_fit d (length bits) (length lent))) _ _ (λ _. refused_alike 11 refl) (λ _. place_alike))))

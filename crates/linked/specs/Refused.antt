@@ -17,9 +17,9 @@ lends_bytes (jambcopper_read_config offset) = true
 lends_bytes (jambcopper_write_config offset) = true
 
 pub record UseUntouched (u : Use) : Type 0 where
-  pub same-words : u.after.words ≡ u.before.words
-  pub same-bitmap : u.after.slices.bitmap ≡ u.before.slices.bitmap
-  pub same-table : u.after.slices.table ≡ u.before.slices.table
+  pub same_words : u.after.words ≡ u.before.words
+  pub same_bitmap : u.after.slices.bitmap ≡ u.before.slices.bitmap
+  pub same_table : u.after.slices.table ≡ u.before.slices.table
   pub same_bytes : lends_bytes u.function ≡ true → u.after.slices.bytes ≡ u.before.slices.bytes
 
 abbrev pub RefusedExportChangesNothing : Type 0

@@ -32,26 +32,26 @@ AfterEveryRun P = (m : Making) (words' : List ℕ) → Makes m words' → (d : D
 -- R18.12: each sentence as `history` has it
 pub record RulesInHand : Type 0 where
   -- the requested size is the only lever: a plug never goes past it,
-  pub only-size-change-moves-requested : OfEveryCall OnlySizeChangeMovesRequested
-  pub plug-within-requested : OfEveryCall PlugWithinRequested
+  pub only_size_change_moves_requested : OfEveryCall OnlySizeChangeMovesRequested
+  pub plug_within_requested : OfEveryCall PlugWithinRequested
   -- lowering it takes nothing away by force,
-  pub size-change-touches-nothing : OfEveryCall SizeChangeTouchesNothing
-  pub lowering-asks-nothing : OfEveryCall LoweringAsksNothing
-  pub only-unplugs-discard : OfEveryCall OnlyUnplugsDiscard
-  pub only-open-unplugs-discard : AfterEveryRun OnlyOpenUnplugsDiscard
+  pub size_change_touches_nothing : OfEveryCall SizeChangeTouchesNothing
+  pub lowering_asks_nothing : OfEveryCall LoweringAsksNothing
+  pub only_unplugs_discard : OfEveryCall OnlyUnplugsDiscard
+  pub only_open_unplugs_discard : AfterEveryRun OnlyOpenUnplugsDiscard
   -- and each plug or unplug happens whole or not at all
-  pub whole-or-not-at-all : AfterEveryRun WholeOrNotAtAll
+  pub whole_or_not_at_all : AfterEveryRun WholeOrNotAtAll
   -- a refused call changes nothing
-  pub refused-changes-nothing : OfEveryCall RefusedChangesNothing
-  pub ten-is-creation-failed : OfEveryCall TenIsCreationFailed
+  pub refused_changes_nothing : OfEveryCall RefusedChangesNothing
+  pub ten_is_creation_failed : OfEveryCall TenIsCreationFailed
   -- the record
-  pub keeps-shape : AfterEveryRun KeepsShape
-  pub never-12 : AfterEveryRun Never12
-  pub usable-never-shrinks : OfEveryCall UsableNeverShrinks
-  pub discard-is-counted : AfterEveryRun DiscardIsCounted
+  pub keeps_shape : AfterEveryRun KeepsShape
+  pub never_12 : AfterEveryRun Never12
+  pub usable_never_shrinks : OfEveryCall UsableNeverShrinks
+  pub discard_is_counted : AfterEveryRun DiscardIsCounted
   -- the host is asked for what is pending and due, and nothing is asked twice or left unanswered
-  pub asks-for-pending : OfEveryCall AsksForPending
-  pub asks-what-is-due : AfterEveryRun AsksWhatIsDue
-  pub pending-stays : OfEveryCall PendingStays
-  pub each-asked-answered : (m : Making) (words' : List ℕ) → Makes m words' → (d : Device) → made_by m ≡ MadeDevice d → (us : List Use) → Run (first words') us
+  pub asks_for_pending : OfEveryCall AsksForPending
+  pub asks_what_is_due : AfterEveryRun AsksWhatIsDue
+  pub pending_stays : OfEveryCall PendingStays
+  pub each_asked_answered : (m : Making) (words' : List ℕ) → Makes m words' → (d : Device) → made_by m ≡ MadeDevice d → (us : List Use) → Run (first words') us
       → asked_in (begun d).world (calls_of us) ≡ taken_in (begun d).world (calls_of us) + waits (in_hand (held_after (first words') us)).device.pending

@@ -73,9 +73,9 @@ on_tables (jambcopper_write_config offset) = false
 
 -- the call is lent what is held: always the record, and the tables while they are in use. Before placing, and after a placing that failed (10), any tables may be lent. Guest memory, buffers, answer slices and all other arguments are free
 pub record Lends (h : Held) (u : Use) : Type 0 where
-  pub same-words : u.before.words ≡ h.words
-  pub same-bitmap : on_tables u.function ≡ true → in_use h ≡ true → u.before.slices.bitmap ≡ h.bitmap
-  pub same-table : on_tables u.function ≡ true → in_use h ≡ true → u.before.slices.table ≡ h.table
+  pub same_words : u.before.words ≡ h.words
+  pub same_bitmap : on_tables u.function ≡ true → in_use h ≡ true → u.before.slices.bitmap ≡ h.bitmap
+  pub same_table : on_tables u.function ≡ true → in_use h ≡ true → u.before.slices.table ≡ h.table
 
 -- whether the tables that the call leaves are those to hold now: those of a placing that has returned 0, and of each call on tables in use
 unfoldable pub new_tables : Function → (used : Bool) (number : ℕ) → Bool
@@ -128,7 +128,7 @@ made_by m = made m.capacity m.requested m.several (node_of m.given m.node) m.boo
 -- it has returned 0 and left words'; a node has 16 bits, as its type says
 pub record Makes (m : Making) (words' : List ℕ) : Type 0 where
   pub promised : MadeIn m.words (made_by m) 0 words'
-  pub node-fits : m.node ≤ 65535
+  pub node_fits : m.node ≤ 65535
 
 -- what is held then: the words, and no tables yet
 abbrev pub first : (words : List ℕ) → Held
@@ -159,7 +159,7 @@ pub record Follows (h : Held) (s : Story) : Type 0 where
   -- and any further call is its next step
   pub steps : (us : List Use) → Run h us → (u : Use) → One (held_after h us) u → UseSteps (held_after h us) u
   -- demand 3 holds of the world that is held, and of the events of the definition's run
-  pub demand-3 : (us : List Use) → Run h us → Demand3 (in_hand (held_after h us)) (after s (calls_of us)).events
+  pub demand_3 : (us : List Use) → Run h us → Demand3 (in_hand (held_after h us)) (after s (calls_of us)).events
 
 -- the theorem: a device was made, and over any run from then on
 pub record Linked (m : Making) (words' : List ℕ) : Type 0 where

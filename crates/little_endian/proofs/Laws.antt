@@ -11,8 +11,8 @@ use Rattle.little_endian.specs.Bytes.{value, little_endian, part, put}
 
 -- ---- numbers as bytes
 
-mod-split : (v m : ℕ) → 0 < m → v % (256 * m) ≡ v % 256 + 256 * (v / 256 % m)
-mod-split v m h =
+mod_split : (v m : ℕ) → 0 < m → v % (256 * m) ≡ v % 256 + 256 * (v / 256 % m)
+mod_split v m h =
     let x : ℕ = v % 256 + 256 * (v / 256 % m) in
     let b : v / 256 % m < m = mod-lt (v / 256) h in
     let e : v ≡ x + 256 * m * (v / 256 / m) =
@@ -30,23 +30,23 @@ pub value-little_endian : (n v : ℕ) → value (little_endian n v) ≡ v % 256 
 unfolding value little_endian
 value-little_endian zero v = sym (mod-one v)
 value-little_endian (suc n) v =
-    rw (value-little_endian n (v / 256), pow-succ') (sym (mod-split v (256 ^ n) (one-le-pow n 256 (omega arith))))
+    rw (value-little_endian n (v / 256), pow-succ') (sym (mod_split v (256 ^ n) (one-le-pow n 256 (omega arith))))
 
 -- and v itself where it fits
-pub value-fits : (n v : ℕ) → v < 256 ^ n → value (little_endian n v) ≡ v
-value-fits n v h = value-little_endian n v ∙ mod-eq_of_lt h
+pub value_fits : (n v : ℕ) → v < 256 ^ n → value (little_endian n v) ≡ v
+value_fits n v h = value-little_endian n v ∙ mod-eq_of_lt h
 
 -- the number of two parts, one behind the other
-value-append : (xs ys : List ℕ) → value (xs ++ ys) ≡ value xs + 256 ^ length xs * value ys
+value_append : (xs ys : List ℕ) → value (xs ++ ys) ≡ value xs + 256 ^ length xs * value ys
 unfolding value
-value-append [] ys = omega arith
-value-append (x ∷ xs) ys = rw (value-append xs ys, pow-succ', mul_assoc) (omega arith)
+value_append [] ys = omega arith
+value_append (x ∷ xs) ys = rw (value_append xs ys, pow-succ', mul_assoc) (omega arith)
 
 -- a number of a + b bytes is its a lowest bytes and the b above them
-little_endian-append : (a b v : ℕ) → little_endian (a + b) v ≡ little_endian a v ++ little_endian b (v / 256 ^ a)
+little_endian_append : (a b v : ℕ) → little_endian (a + b) v ≡ little_endian a v ++ little_endian b (v / 256 ^ a)
 unfolding little_endian
-little_endian-append zero b v = rw (zero-add, div-one)
-little_endian-append (suc a) b v = rw (suc-add, pow-succ', ← div-div-eq-div-mul v 256 (256 ^ a), ← little_endian-append a b (v / 256))
+little_endian_append zero b v = rw (zero-add, div-one)
+little_endian_append (suc a) b v = rw (suc-add, pow-succ', ← div-div-eq-div-mul v 256 (256 ^ a), ← little_endian_append a b (v / 256))
 
 -- ---- bytes written at a place
 
@@ -56,27 +56,27 @@ length-put xs at [] = refl
 length-put xs at (y ∷ ys) = length-put (set xs at y) (suc at) ys ∙ length-set xs at y
 
 -- past the end nothing is written
-pub put-past : (xs : List ℕ) (at : ℕ) (ys : List ℕ) → length xs ≤ at → put xs at ys ≡ xs
+pub put_past : (xs : List ℕ) (at : ℕ) (ys : List ℕ) → length xs ≤ at → put xs at ys ≡ xs
 unfolding put
-put-past xs at [] h = refl
-put-past xs at (y ∷ ys) h =
+put_past xs at [] h = refl
+put_past xs at (y ∷ ys) h =
     let e : set xs at y ≡ xs = set_out xs at y h in
-    rw e (put-past xs (suc at) ys (omega arith))
+    rw e (put_past xs (suc at) ys (omega arith))
 
 -- two parts are written one after the other
-pub put-append : (xs : List ℕ) (at : ℕ) (ys zs : List ℕ) → put xs at (ys ++ zs) ≡ put (put xs at ys) (at + length ys) zs
+pub put_append : (xs : List ℕ) (at : ℕ) (ys zs : List ℕ) → put xs at (ys ++ zs) ≡ put (put xs at ys) (at + length ys) zs
 unfolding put
-put-append xs at [] zs = let e : at + 0 ≡ at = omega arith in rw e
-put-append xs at (y ∷ ys) zs =
+put_append xs at [] zs = let e : at + 0 ≡ at = omega arith in rw e
+put_append xs at (y ∷ ys) zs =
     let e : at + suc (length ys) ≡ suc at + length ys = omega arith in
-    rw e (put-append (set xs at y) (suc at) ys zs)
+    rw e (put_append (set xs at y) (suc at) ys zs)
 
 -- so are the two halves of a number
-pub put-halves : (xs : List ℕ) (at a b v : ℕ) {ys zs : List ℕ} → ys ≡ put xs at (little_endian a v)
+pub put_halves : (xs : List ℕ) (at a b v : ℕ) {ys zs : List ℕ} → ys ≡ put xs at (little_endian a v)
     → zs ≡ put ys (at + a) (little_endian b (v / 256 ^ a)) → zs ≡ put xs at (little_endian (a + b) v)
-put-halves xs at a b v e f =
+put_halves xs at a b v e f =
     let n : length (little_endian a v) ≡ a = length-little_endian a v in
-    rw (little_endian-append a b v, put-append, n, ← e) f
+    rw (little_endian_append a b v, put_append, n, ← e) f
 
 -- the bytes behind what is written stay
 pub drop-put : (n : ℕ) (xs : List ℕ) (at : ℕ) (ys : List ℕ) → at + length ys ≤ n → drop n (put xs at ys) ≡ drop n xs
@@ -91,9 +91,9 @@ unfolding put
 put-sets xs at [] = refl
 put-sets xs at (y ∷ ys) = put-sets (set xs at y) (suc at) ys
 
-pub put-fits : (xs : List ℕ) (at : ℕ) (ys : List ℕ) → at + length ys ≤ length xs
+pub put_fits : (xs : List ℕ) (at : ℕ) (ys : List ℕ) → at + length ys ≤ length xs
     → put xs at ys ≡ take at xs ++ ys ++ drop (at + length ys) xs
-put-fits xs at ys h = put-sets xs at ys ∙ sets-eq ys xs at h
+put_fits xs at ys h = put-sets xs at ys ∙ sets-eq ys xs at h
 
 -- ---- parts
 
@@ -109,51 +109,51 @@ unfolding part
 part-drop xs at k n = ap (take n) (drop-drop k at xs)
 
 -- a number is read by its two halves
-pub value-halves : (xs : List ℕ) (at a b : ℕ) {low high : ℕ} → at + a ≤ length xs → low ≡ value (part xs at a)
+pub value_halves : (xs : List ℕ) (at a b : ℕ) {low high : ℕ} → at + a ≤ length xs → low ≡ value (part xs at a)
     → high ≡ value (part xs (at + a) b) → low + high * 256 ^ a ≡ value (part xs at (a + b))
 unfolding part
-value-halves xs at a b {low} {high} h e f =
+value_halves xs at a b {low} {high} h e f =
     let n : length (take a (drop at xs)) ≡ a = simp (length-take, length-drop) (omega arith) in
-    rw (take-add a b (drop at xs), value-append, n, drop-drop a at xs, ← e, ← f) (omega (arith, mul_comm high (256 ^ a)))
+    rw (take-add a b (drop at xs), value_append, n, drop-drop a at xs, ← e, ← f) (omega (arith, mul_comm high (256 ^ a)))
 
 -- n bytes mean a number below 256 to the n
-pub value-below : (xs : List ℕ) → ((i : ℕ) → get_or xs i 0 < 256) → (at n : ℕ) → value (part xs at n) < 256 ^ n
+pub value_below : (xs : List ℕ) → ((i : ℕ) → get_or xs i 0 < 256) → (at n : ℕ) → value (part xs at n) < 256 ^ n
 unfolding value part
-value-below [] h at n = rw (drop-nil at, take-nil n) (one-le-pow n 256 (omega arith))
-value-below (x ∷ xs) h zero zero = omega arith
-value-below (x ∷ xs) h zero (suc n) =
+value_below [] h at n = rw (drop-nil at, take-nil n) (one-le-pow n 256 (omega arith))
+value_below (x ∷ xs) h zero zero = omega arith
+value_below (x ∷ xs) h zero (suc n) =
     let here : x < 256 = h 0 in
-    let there : value (take n xs) < 256 ^ n = value-below xs (λ i. h (suc i)) 0 n in
+    let there : value (take n xs) < 256 ^ n = value_below xs (λ i. h (suc i)) 0 n in
     rw (pow-succ' 256 n) (omega arith)
-value-below (x ∷ xs) h (suc at) n = value-below xs (λ i. h (suc i)) at n
+value_below (x ∷ xs) h (suc at) n = value_below xs (λ i. h (suc i)) at n
 
 drop-replicate : (n m a : ℕ) → drop n (replicate m a) ≡ replicate (m - n) a
 drop-replicate zero m a = rw sub-zero
 drop-replicate (suc n) zero a = rw zero-sub
 drop-replicate (suc n) (suc m) a = rw suc-sub-suc (drop-replicate n m a)
 
-value-zeros : (n m : ℕ) → value (take n (replicate m 0)) ≡ 0
+value_zeros : (n m : ℕ) → value (take n (replicate m 0)) ≡ 0
 unfolding value
-value-zeros zero m = refl
-value-zeros (suc n) zero = refl
-value-zeros (suc n) (suc m) = rw (value-zeros n m)
+value_zeros zero m = refl
+value_zeros (suc n) zero = refl
+value_zeros (suc n) (suc m) = rw (value_zeros n m)
 
-value-behind : (xs : List ℕ) (m k n : ℕ) → value (part (xs ++ replicate m 0) k n) ≡ value (part xs k n)
+value_behind : (xs : List ℕ) (m k n : ℕ) → value (part (xs ++ replicate m 0) k n) ≡ value (part xs k n)
 unfolding value part
-value-behind [] m k n = rw (drop-replicate k m 0, value-zeros n (m - k), drop-nil k, take-nil n)
-value-behind (x ∷ xs) m zero zero = refl
-value-behind (x ∷ xs) m zero (suc n) = rw (value-behind xs m 0 n)
-value-behind (x ∷ xs) m (suc k) n = value-behind xs m k n
+value_behind [] m k n = rw (drop-replicate k m 0, value_zeros n (m - k), drop-nil k, take-nil n)
+value_behind (x ∷ xs) m zero zero = refl
+value_behind (x ∷ xs) m zero (suc n) = rw (value_behind xs m 0 n)
+value_behind (x ∷ xs) m (suc k) n = value_behind xs m k n
 
 -- zeros behind the bytes that are there change no number
-pub value-padded : (xs : List ℕ) (m at k n : ℕ) → length xs ≤ at + m
+pub value_padded : (xs : List ℕ) (m at k n : ℕ) → length xs ≤ at + m
     → value (part (put (replicate m 0) 0 (drop at xs)) k n) ≡ value (part xs (at + k) n)
-value-padded xs m at k n h =
+value_padded xs m at k n h =
     let ys : List ℕ = drop at xs in
     let zeros : List ℕ = replicate m 0 in
     let l : 0 + length ys ≤ length zeros = simp (length-replicate, length-drop) (omega arith) in
-    rw (put-fits zeros 0 ys l, zero-add, drop-replicate (length ys) m 0)
-    (value-behind ys (m - length ys) k n ∙ ap value (part-drop xs at k n))
+    rw (put_fits zeros 0 ys l, zero-add, drop-replicate (length ys) m 0)
+    (value_behind ys (m - length ys) k n ∙ ap value (part-drop xs at k n))
 
 -- a part of a part
 pub part-part : (xs : List ℕ) (at m k n : ℕ) → k + n ≤ m → part (part xs at m) k n ≡ part xs (at + k) n
@@ -168,32 +168,32 @@ pub part-put : (xs : List ℕ) (at : ℕ) (ys : List ℕ) → at + length ys ≤
 unfolding part
 part-put xs at ys h =
     let n : length (take at xs) ≡ at = length-take-le at xs (omega arith) in
-    rw (put-fits xs at ys h, append_assoc, drop_at (take at xs) (ys ++ drop (at + length ys) xs) at n)
+    rw (put_fits xs at ys h, append_assoc, drop_at (take at xs) (ys ++ drop (at + length ys) xs) at n)
     (take_at ys (drop (at + length ys) xs) (length ys) refl)
 
 -- and so does each part of it
-pub part-put-inside : (xs : List ℕ) (at : ℕ) (ys : List ℕ) (k n : ℕ) → at + length ys ≤ length xs → k + n ≤ length ys
+pub part-put_inside : (xs : List ℕ) (at : ℕ) (ys : List ℕ) (k n : ℕ) → at + length ys ≤ length xs → k + n ≤ length ys
     → part (put xs at ys) (at + k) n ≡ part ys k n
-part-put-inside xs at ys k n h i =
+part-put_inside xs at ys k n h i =
     sym (part-part (put xs at ys) at (length ys) k n i) ∙ ap (λ (l : List ℕ). part l k n) (part-put xs at ys h)
 
-part-set-before : (xs : List ℕ) (at y i n : ℕ) → i + n ≤ at → part (set xs at y) i n ≡ part xs i n
+part-set_before : (xs : List ℕ) (at y i n : ℕ) → i + n ≤ at → part (set xs at y) i n ≡ part xs i n
 unfolding part
-part-set-before xs at y i n h =
+part-set_before xs at y i n h =
     let e : i + (at - i) ≡ at = omega arith in
     let d : drop i (set xs at y) ≡ set (drop i xs) (at - i) y = rw e at (drop-set-add i xs (at - i) y) in
     let k : n ≤ at - i = omega arith in
     rw (d, take-set-le n (drop i xs) (at - i) y k)
 
 -- a part before what is written stays
-pub part-put-before : (xs : List ℕ) (at : ℕ) (ys : List ℕ) (i n : ℕ) → i + n ≤ at → part (put xs at ys) i n ≡ part xs i n
+pub part-put_before : (xs : List ℕ) (at : ℕ) (ys : List ℕ) (i n : ℕ) → i + n ≤ at → part (put xs at ys) i n ≡ part xs i n
 unfolding put part
-part-put-before xs at [] i n h = refl
-part-put-before xs at (y ∷ ys) i n h =
-    part-put-before (set xs at y) (suc at) ys i n (omega arith)
-    ∙ part-set-before xs at y i n h
+part-put_before xs at [] i n h = refl
+part-put_before xs at (y ∷ ys) i n h =
+    part-put_before (set xs at y) (suc at) ys i n (omega arith)
+    ∙ part-set_before xs at y i n h
 
 -- a part behind what is written stays
-pub part-put-behind : (xs : List ℕ) (at : ℕ) (ys : List ℕ) (i n : ℕ) → at + length ys ≤ i → part (put xs at ys) i n ≡ part xs i n
+pub part-put_behind : (xs : List ℕ) (at : ℕ) (ys : List ℕ) (i n : ℕ) → at + length ys ≤ i → part (put xs at ys) i n ≡ part xs i n
 unfolding part
-part-put-behind xs at ys i n h = ap (take n) (drop-put i xs at ys h)
+part-put_behind xs at ys i n h = ap (take n) (drop-put i xs at ys h)

@@ -18,54 +18,54 @@ use Rattle.save.specs.declared.Got.TheVariants as got
 use Rattle.save.specs.Text.{state_text, shape_ok, all_of, valid_of, IsState, Says}
 use Rattle.save.specs.Writing.{written_on}
 use Rattle.save.specs.Reading.{no_room}
-use Rattle.save.proofs.Text.{valid-shape, one-text}
+use Rattle.save.proofs.Text.{valid_shape, one_text}
 use Rattle.old_form.specs.Old.{old_of, is_old, bits_of}
 use Rattle.old_form.specs.Moves.{old_ok, new_text, moved_of, ToNew, ToOld}
 
 -- ---- bytes and blocks
 
-pub bits-old : (bs : List Bool) → bits_of (old_of bs) ≡ bs
+pub bits_old : (bs : List Bool) → bits_of (old_of bs) ≡ bs
 unfolding bits_of old_of
-bits-old [] = refl
-bits-old (true ∷ bs) = ap (λ (l : List Bool). true ∷ l) (bits-old bs)
-bits-old (false ∷ bs) = ap (λ (l : List Bool). false ∷ l) (bits-old bs)
+bits_old [] = refl
+bits_old (true ∷ bs) = ap (λ (l : List Bool). true ∷ l) (bits_old bs)
+bits_old (false ∷ bs) = ap (λ (l : List Bool). false ∷ l) (bits_old bs)
 
-byte-bit : (x : ℕ) → x ≤ 1 → cond (eqb x 1) 1 0 ≡ x
-byte-bit zero h = refl
-byte-bit (suc zero) h = refl
-byte-bit (suc (suc x)) h = absurd (omega arith)
+byte_bit : (x : ℕ) → x ≤ 1 → cond (eqb x 1) 1 0 ≡ x
+byte_bit zero h = refl
+byte_bit (suc zero) h = refl
+byte_bit (suc (suc x)) h = absurd (omega arith)
 
-pub old-bits : (old : List ℕ) → is_old old ≡ true → old_of (bits_of old) ≡ old
+pub old_bits : (old : List ℕ) → is_old old ≡ true → old_of (bits_of old) ≡ old
 unfolding bits_of old_of is_old
-old-bits [] e = refl
-old-bits (x ∷ xs) e =
-    let h = byte-bit x (leb-true x 1 (and_left (leb x 1) _ e)) in
-    let t = old-bits xs (and_right (leb x 1) _ e) in
+old_bits [] e = refl
+old_bits (x ∷ xs) e =
+    let h = byte_bit x (leb-true x 1 (and_left (leb x 1) _ e)) in
+    let t = old_bits xs (and_right (leb x 1) _ e) in
     rw (h, t)
 
-pub is-old : (bs : List Bool) → is_old (old_of bs) ≡ true
+pub is_old_lem : (bs : List Bool) → is_old (old_of bs) ≡ true
 unfolding is_old old_of
-is-old [] = refl
-is-old (true ∷ bs) = is-old bs
-is-old (false ∷ bs) = is-old bs
+is_old_lem [] = refl
+is_old_lem (true ∷ bs) = is_old_lem bs
+is_old_lem (false ∷ bs) = is_old_lem bs
 
-pub old-length : (bs : List Bool) → length (old_of bs) ≡ length bs
+pub old_length : (bs : List Bool) → length (old_of bs) ≡ length bs
 unfolding old_of
-old-length [] = refl
-old-length (b ∷ bs) = ap suc (old-length bs)
+old_length [] = refl
+old_length (b ∷ bs) = ap suc (old_length bs)
 
-pub bits-length : (old : List ℕ) → length (bits_of old) ≡ length old
+pub bits_length : (old : List ℕ) → length (bits_of old) ≡ length old
 unfolding bits_of
-bits-length [] = refl
-bits-length (x ∷ xs) = ap suc (bits-length xs)
+bits_length [] = refl
+bits_length (x ∷ xs) = ap suc (bits_length xs)
 
 -- ---- the forms say the same: old bytes of a state, and its text
 
 -- what is moved to new is a state
-pub moved-state : (f : Fields) (old scratch : List ℕ) (room n : ℕ) → Text n ≡ moved_of f old scratch room
+pub moved_state : (f : Fields) (old scratch : List ℕ) (room n : ℕ) → Text n ≡ moved_of f old scratch room
     → (is_old old ≡ true) × IsState f (bits_of old) × (n ≡ length (new_text f old)) × (n ≤ room)
 unfolding moved_of old_ok
-moved-state f old scratch room n e = go (no_room scratch) refl
+moved_state f old scratch room n e = go (no_room scratch) refl
   where
     good : (b : Bool) → (old_ok f old && (valid_of f (bits_of old) && leb (length (new_text f old)) room)) ≡ b → Text n ≡ cond b (Text (length (new_text f old))) (Refused 18)
         → (is_old old ≡ true) × IsState f (bits_of old) × (n ≡ length (new_text f old)) × (n ≤ room)
@@ -77,7 +77,7 @@ moved-state f old scratch room n e = go (no_room scratch) refl
         let same : n ≡ length (new_text f old) = cc in
         let fits = leb-true (length (new_text f old)) room (and_right (valid_of f (bits_of old)) _ v) in (
           and_right (eqb (length old) (all_of f)) _ l,
-          record { all = bits-length old ∙ len; valid = and_left (valid_of f (bits_of old)) _ v },
+          record { all = bits_length old ∙ len; valid = and_left (valid_of f (bits_of old)) _ v },
           same,
           omega arith,
         )
@@ -88,26 +88,26 @@ moved-state f old scratch room n e = go (no_room scratch) refl
     go false p = good _ refl (e ∙ rw p)
 
 -- a state's old bytes are moved to its text, where there is room
-pub state-moved : (f : Fields) (bs : List Bool) (scratch : List ℕ) (room : ℕ) → IsState f bs → no_room scratch ≡ false → length (state_text 2 f bs) ≤ room
+pub state_moved : (f : Fields) (bs : List Bool) (scratch : List ℕ) (room : ℕ) → IsState f bs → no_room scratch ≡ false → length (state_text 2 f bs) ≤ room
     → moved_of f (old_of bs) scratch room ≡ Text (length (state_text 2 f bs))
 unfolding moved_of old_ok
-state-moved f bs scratch room st long fits =
-    let b = bits-old bs in
-    let s = valid-shape st in
-    let l : length (old_of bs) ≡ all_of f = old-length bs ∙ st.all in
+state_moved f bs scratch room st long fits =
+    let b = bits_old bs in
+    let s = valid_shape st in
+    let l : length (old_of bs) ≡ all_of f = old_length bs ∙ st.all in
     let v = st.valid in
-    rw (long, b, s, eq-eqb (length (old_of bs)) (all_of f) l, is-old bs, v, le-leb (length (state_text 2 f bs)) room fits)
+    rw (long, b, s, eq-eqb (length (old_of bs)) (all_of f) l, is_old_lem bs, v, le-leb (length (state_text 2 f bs)) room fits)
 
 -- the text that stands first in a buffer
 pub first_of : (text out : List ℕ) → length text ≤ length out → take (length text) (sets out 0 text) ≡ text
 first_of text out h = ap (take (length text)) (sets-eq text out 0 (omega arith)) ∙ take_at text (drop (0 + length text) out) (length text) refl
 
 -- R15.10: from whatever was written, with any scratch, into any buffer with room
-pub old-new-old : {f : Fields} {old scratch scratch' out out' : List ℕ} {n : ℕ} → ToNew f old scratch scratch' out out' (Text n)
+pub old_new_old : {f : Fields} {old scratch scratch' out out' : List ℕ} {n : ℕ} → ToNew f old scratch scratch' out out' (Text n)
     → (work work' into into' : List ℕ) (r : Got) → no_room work ≡ false → length old ≤ length into → ToOld (take n out') work work' into into' r
     → (r ≡ got.Fields f) × (take (length old) into' ≡ old)
-old-new-old {f} {old} {scratch} {scratch'} {out} {out'} {n} m work work' into into' r long room o =
-    let k = moved-state f old scratch (length out) n m.answer in
+old_new_old {f} {old} {scratch} {scratch'} {out} {out'} {n} m work work' into into' r long room o =
+    let k = moved_state f old scratch (length out) n m.answer in
     let len = k.2 in
     let fits = k.3 in
     let text : take n out' ≡ new_text f old = ap (take n) m.buffer ∙ ap (λ (x : ℕ). take x (sets out 0 (new_text f old))) len ∙ first_of (new_text f old) out (omega arith) in
@@ -116,24 +116,24 @@ old-new-old {f} {old} {scratch} {scratch'} {out} {out'} {n} m work work' into in
   where
     go : (r : Got) → ToOld (take n out') work work' into into' r → Says (take n out') f (bits_of old) → is_old old ≡ true → (r ≡ got.Fields f) × (take (length old) into' ≡ old)
     go (got.Fields g) o says is =
-        let same = one-text (take n out') g f o.0 (bits_of old) o.1.says says in
-        let b = old-bits old is in
+        let same = one_text (take n out') g f o.0 (bits_of old) o.1.says says in
+        let b = old_bits old is in
         let bytes : old_of o.0 ≡ old = ap old_of same.1 ∙ b in
         (ap got.Fields same.0, ap (take (length old)) o.3 ∙ take_at (old_of o.0) (drop (length o.0) into) (length old) (ap length bytes) ∙ bytes)
     go (got.Refused q) o says is =
-        let b = bits-length old in
+        let b = bits_length old in
         absurd (o.0.none f (bits_of old) (record { long = long; says = says; fits = omega arith }))
 
 -- R15.10
-pub new-old-new : (s scratch scratch' old old' : List ℕ) (f : Fields) (o : ToOld s scratch scratch' old old' (got.Fields f))
+pub new_old_new : (s scratch scratch' old old' : List ℕ) (f : Fields) (o : ToOld s scratch scratch' old old' (got.Fields f))
     → (work work' out out' : List ℕ) (r : Wrote) → no_room work ≡ false → length s ≤ length out → ToNew f (take (all_of f) old') work work' out out' r
     → (r ≡ Text (length s)) × (take (length s) out' ≡ s)
-new-old-new s scratch scratch' old old' f o work work' out out' r long room m =
+new_old_new s scratch scratch' old old' f o work work' out out' r long room m =
     let st = o.1.says.state in
     let text = o.1.says.text in
-    let bytes : take (all_of f) old' ≡ old_of o.0 = ap (take (all_of f)) o.3 ∙ take_at (old_of o.0) (drop (length o.0) old) (all_of f) (old-length o.0 ∙ st.all) in
+    let bytes : take (all_of f) old' ≡ old_of o.0 = ap (take (all_of f)) o.3 ∙ take_at (old_of o.0) (drop (length o.0) old) (all_of f) (old_length o.0 ∙ st.all) in
     let same : length (state_text 2 f o.0) ≡ length s = ap length text in
-    let answer : r ≡ Text (length s) = m.answer ∙ ap (λ (x : List ℕ). moved_of f x work (length out)) bytes ∙ state-moved f o.0 work (length out) st long (omega arith) ∙ ap Text same in
-    let new : new_text f (take (all_of f) old') ≡ s = ap (new_text f) bytes ∙ ap (state_text 2 f) (bits-old o.0) ∙ text in
+    let answer : r ≡ Text (length s) = m.answer ∙ ap (λ (x : List ℕ). moved_of f x work (length out)) bytes ∙ state_moved f o.0 work (length out) st long (omega arith) ∙ ap Text same in
+    let new : new_text f (take (all_of f) old') ≡ s = ap (new_text f) bytes ∙ ap (state_text 2 f) (bits_old o.0) ∙ text in
     let put : out' ≡ sets out 0 s = m.buffer ∙ ap (λ (x : Wrote). written_on x (new_text f (take (all_of f) old')) out) answer ∙ ap (sets out 0) new in
     (answer, ap (take (length s)) put ∙ first_of s out room)

@@ -12,7 +12,7 @@ use lib.ListN.{length, set, take, drop, get_or, length-take, length-drop, length
 use lib.Seq.{take-suc, take-length, drop-cons, set_at, take_at}
 use Rattle.units.proofs.Tests.{refused, passed}
 use Rattle.bitmap.specs.Blocks.{blocks, block_at, fill, Outside, Filled}
-use Rattle.bitmap.proofs.Laws.{blocks-length, fill-right, fill_none}
+use Rattle.bitmap.proofs.Laws.{blocks-length, fill_right, fill_none}
 use Rattle.save.specs.declared.Fields.{Fields}
 use Rattle.save.specs.declared.Wrote.{Wrote}
 use Rattle.save.specs.declared.Wrote.TheVariants.{Refused}
@@ -24,68 +24,68 @@ use Rattle.save.specs.Reading.{HoldsBlocks, no_room, ReadsState}
 use Rattle.save.proofs.Text.{in_blocks, shape_is}
 use Rattle.old_form.specs.Old.{old_of, is_old, bits_of}
 use Rattle.old_form.specs.Moves.{old_ok, moved_of, ToNew, ToOld}
-use Rattle.old_form.proofs.Laws.{old-length, bits-length}
+use Rattle.old_form.proofs.Laws.{old_length, bits_length}
 
 -- ---- `is_old`
 
-pub byte-bad : (old : List ℕ) (i x : ℕ) → i < length old → x ≡ get_or old i 0 → 1 < x → is_old old ≡ is_old (drop i old) → false ≡ is_old old
+pub byte_bad : (old : List ℕ) (i x : ℕ) → i < length old → x ≡ get_or old i 0 → 1 < x → is_old old ≡ is_old (drop i old) → false ≡ is_old old
 unfolding is_old
-byte-bad old i x h e b o =
+byte_bad old i x h e b o =
     let d = drop-cons old i 0 h in
     let l = lt-leb x 1 b in
     sym (o ∙ rw (d, ← e, l))
 
-pub byte-good : (old : List ℕ) (i x : ℕ) → i < length old → x ≡ get_or old i 0 → x ≤ 1 → is_old old ≡ is_old (drop i old) → is_old old ≡ is_old (drop (i + 1) old)
+pub byte_good : (old : List ℕ) (i x : ℕ) → i < length old → x ≡ get_or old i 0 → x ≤ 1 → is_old old ≡ is_old (drop i old) → is_old old ≡ is_old (drop (i + 1) old)
 unfolding is_old
-byte-good old i x h e b o =
+byte_good old i x h e b o =
     let d = drop-cons old i 0 h in
     let l = le-leb x 1 b in
     rw (add-one i) (o ∙ rw (d, ← e, l))
 
-pub bytes-end : (old : List ℕ) (i : ℕ) → length old ≤ i → is_old old ≡ is_old (drop i old) → true ≡ is_old old
+pub bytes_end : (old : List ℕ) (i : ℕ) → length old ≤ i → is_old old ≡ is_old (drop i old) → true ≡ is_old old
 unfolding is_old
-bytes-end old i h o = let d = drop_of_length-le old {i = i} h in sym (o ∙ rw d)
+bytes_end old i h o = let d = drop_of_length-le old {i = i} h in sym (o ∙ rw d)
 
 -- ---- `pack`
 
 -- the first i bytes are packed
 pub record Packing (old entry : List ℕ) (i : ℕ) (cur : List ℕ) : Type 0 where
-  pub as-blocks : blocks cur ≡ bits_of (take i old) ++ drop i (blocks entry)
+  pub as_blocks : blocks cur ≡ bits_of (take i old) ++ drop i (blocks entry)
   pub outside : Outside entry cur 0 i
 
-pub pack-start : (old entry : List ℕ) → Packing old entry 0 entry
+pub pack_start : (old entry : List ℕ) → Packing old entry 0 entry
 unfolding bits_of
-pack-start old entry = record { as-blocks = refl; outside = record { same_length = refl; same-before = λ n h. refl; same-past = λ n h. refl } }
+pack_start old entry = record { as_blocks = refl; outside = record { same_length = refl; same_before = λ n h. refl; same_past = λ n h. refl } }
 
-bits-append : (xs ys : List ℕ) → bits_of (xs ++ ys) ≡ bits_of xs ++ bits_of ys
+bits_append : (xs ys : List ℕ) → bits_of (xs ++ ys) ≡ bits_of xs ++ bits_of ys
 unfolding bits_of
-bits-append [] ys = refl
-bits-append (x ∷ xs) ys = ap (λ (l : List Bool). eqb x 1 ∷ l) (bits-append xs ys)
+bits_append [] ys = refl
+bits_append (x ∷ xs) ys = ap (λ (l : List Bool). eqb x 1 ∷ l) (bits_append xs ys)
 
 fill_one : (b : Bool) (ys : List Bool) (v : Bool) → fill (b ∷ ys) 0 1 v ≡ v ∷ ys
 unfolding fill
 fill_one b ys v = ap (λ (l : List Bool). v ∷ l) (fill_none ys 0 v)
 
 module _ {old entry : List ℕ} {i : ℕ} {cur : List ℕ} (o : Packing old entry i cur) (room : length old ≤ length (blocks entry)) where
-  pub pack-turn : (cur' : List ℕ) (x : ℕ) → i < length old → x ≡ get_or old i 0 → Filled cur cur' i 1 (eqb x 1) → Packing old entry (i + 1) cur'
+  pub pack_turn : (cur' : List ℕ) (x : ℕ) → i < length old → x ≡ get_or old i 0 → Filled cur cur' i 1 (eqb x 1) → Packing old entry (i + 1) cur'
   unfolding bits_of
-  pack-turn cur' x h e d =
+  pack_turn cur' x h e d =
       let xs = bits_of (take i old) in
       let bs = blocks entry in
       let t = length-take i old in
-      let len : length xs ≡ i = bits-length (take i old) ∙ omega arith in
+      let len : length xs ≡ i = bits_length (take i old) ∙ omega arith in
       let z : i ≡ length xs + 0 = omega arith in
       let c = drop-cons bs i false (omega arith) in
       let one : bits_of (take (suc i) old) ≡ xs ++ (eqb x 1 ∷ []) =
-      ap bits_of (take-suc old i 0 h) ∙ bits-append (take i old) (get_or old i 0 ∷ []) ∙ rw (← e) in
+      ap bits_of (take-suc old i 0 h) ∙ bits_append (take i old) (get_or old i 0 ∷ []) ∙ rw (← e) in
       let p = o.outside in
       let q = d.outside in
       record {
-        as-blocks =
-            d.as-blocks
-            ∙ ap (λ (l : List Bool). fill l i 1 (eqb x 1)) o.as-blocks
+        as_blocks =
+            d.as_blocks
+            ∙ ap (λ (l : List Bool). fill l i 1 (eqb x 1)) o.as_blocks
             ∙ ap (λ (n : ℕ). fill (xs ++ drop i bs) n 1 (eqb x 1)) z
-            ∙ fill-right xs (drop i bs) 0 1 (eqb x 1)
+            ∙ fill_right xs (drop i bs) 0 1 (eqb x 1)
             ∙ ap (λ (l : List Bool). xs ++ fill l 0 1 (eqb x 1)) c
             ∙ ap (λ (l : List Bool). xs ++ l) (fill_one (get_or bs i false) (drop (suc i) bs) (eqb x 1))
             ∙ sym (append_assoc xs (eqb x 1 ∷ []) (drop (suc i) bs))
@@ -93,73 +93,73 @@ module _ {old entry : List ℕ} {i : ℕ} {cur : List ℕ} (o : Packing old entr
             ∙ rw (add-one i);
         outside = record {
           same_length = q.same_length ∙ p.same_length;
-          same-before = λ n k. q.same-before n (omega arith) ∙ p.same-before n k;
-          same-past = λ n k. q.same-past n k ∙ p.same-past n (omega arith);
+          same_before = λ n k. q.same_before n (omega arith) ∙ p.same_before n k;
+          same_past = λ n k. q.same_past n k ∙ p.same_past n (omega arith);
         };
       }
 
-  pub pack-end : length old ≤ i → i ≤ length old → HoldsBlocks (bits_of old) entry cur
-  pack-end h k =
+  pub pack_end : length old ≤ i → i ≤ length old → HoldsBlocks (bits_of old) entry cur
+  pack_end h k =
       let e : i ≡ length old = omega arith in
-      let w : i ≡ length (bits_of old) = e ∙ sym (bits-length old) in
+      let w : i ≡ length (bits_of old) = e ∙ sym (bits_length old) in
       let t : take i old ≡ old = ap (λ (n : ℕ). take n old) e ∙ take-length old in
       record {
-        as-blocks = o.as-blocks ∙ ap (λ (l : List ℕ). bits_of l ++ drop i (blocks entry)) t ∙ ap (λ (n : ℕ). bits_of old ++ drop n (blocks entry)) w;
+        as_blocks = o.as_blocks ∙ ap (λ (l : List ℕ). bits_of l ++ drop i (blocks entry)) t ∙ ap (λ (n : ℕ). bits_of old ++ drop n (blocks entry)) w;
         outside = rw (← w) o.outside;
       }
 
 -- ---- `unpack`
 
-old-append : (xs ys : List Bool) → old_of (xs ++ ys) ≡ old_of xs ++ old_of ys
+old_append : (xs ys : List Bool) → old_of (xs ++ ys) ≡ old_of xs ++ old_of ys
 unfolding old_of
-old-append [] ys = refl
-old-append (x ∷ xs) ys = ap (λ (l : List ℕ). cond x 1 0 ∷ l) (old-append xs ys)
+old_append [] ys = refl
+old_append (x ∷ xs) ys = ap (λ (l : List ℕ). cond x 1 0 ∷ l) (old_append xs ys)
 
 -- the first i bytes are those of the first i blocks
 pub record Unpacking (bs : List Bool) (entry : List ℕ) (i : ℕ) (cur : List ℕ) : Type 0 where
   pub is : cur ≡ old_of (take i bs) ++ drop i entry
 
-pub unpack-start : (bs : List Bool) (entry : List ℕ) → Unpacking bs entry 0 entry
+pub unpack_start : (bs : List Bool) (entry : List ℕ) → Unpacking bs entry 0 entry
 unfolding old_of
-unpack-start bs entry = record { is = refl }
+unpack_start bs entry = record { is = refl }
 
-first-i : (bs : List Bool) (i : ℕ) → i ≤ length bs → length (old_of (take i bs)) ≡ i
-first-i bs i h = let t = length-take i bs in old-length (take i bs) ∙ omega arith
+first_i : (bs : List Bool) (i : ℕ) → i ≤ length bs → length (old_of (take i bs)) ≡ i
+first_i bs i h = let t = length-take i bs in old_length (take i bs) ∙ omega arith
 
 module _ {bs : List Bool} {entry : List ℕ} {i : ℕ} {cur : List ℕ} (o : Unpacking bs entry i cur) where
-  pub unpack-long : i ≤ length bs → i ≤ length entry → length cur ≡ length entry
-  unpack-long h k =
+  pub unpack_long : i ≤ length bs → i ≤ length entry → length cur ≡ length entry
+  unpack_long h k =
       let e = ap length o.is in
       let a = length-append (old_of (take i bs)) (drop i entry) in
-      let b = first-i bs i h in
+      let b = first_i bs i h in
       let c = length-drop i entry in
       omega arith
 
-  pub unpack-turn : (b : Bool) (x : ℕ) → i < length bs → i < length entry → b ≡ block_at bs i → x ≡ cond b 1 0 → Unpacking bs entry (i + 1) (set cur i x)
+  pub unpack_turn : (b : Bool) (x : ℕ) → i < length bs → i < length entry → b ≡ block_at bs i → x ≡ cond b 1 0 → Unpacking bs entry (i + 1) (set cur i x)
   unfolding old_of
-  unpack-turn b x h k e v =
+  unpack_turn b x h k e v =
       let xs = old_of (take i bs) in
       let c = drop-cons entry i 0 k in
       let one : old_of (take (suc i) bs) ≡ xs ++ (x ∷ []) =
-      ap old_of (take-suc bs i false h) ∙ old-append (take i bs) (get_or bs i false ∷ []) ∙ rw (← e, ← v) in
+      ap old_of (take-suc bs i false h) ∙ old_append (take i bs) (get_or bs i false ∷ []) ∙ rw (← e, ← v) in
       record {
         is =
             ap (λ (l : List ℕ). set l i x) (o.is ∙ ap (λ (l : List ℕ). xs ++ l) c)
-            ∙ set_at xs (get_or entry i 0) (drop (suc i) entry) x i (first-i bs i (omega arith))
+            ∙ set_at xs (get_or entry i 0) (drop (suc i) entry) x i (first_i bs i (omega arith))
             ∙ sym (append_assoc xs (x ∷ []) (drop (suc i) entry))
             ∙ ap (λ (l : List ℕ). l ++ drop (suc i) entry) (sym one)
             ∙ rw (add-one i);
       }
 
-  pub unpack-end : (n : ℕ) → n ≤ i → i ≤ n → cur ≡ old_of (take n bs) ++ drop n entry
-  unpack-end n h k = let e : i ≡ n = omega arith in rw (← e) o.is
+  pub unpack_end : (n : ℕ) → n ≤ i → i ≤ n → cur ≡ old_of (take n bs) ++ drop n entry
+  unpack_end n h k = let e : i ≡ n = omega arith in rw (← e) o.is
 
 -- ---- `to_new`
 
 module _ (f : Fields) (old scratch out : List ℕ) where
-  pub no-scratch : length scratch < 32768 → ToNew f old scratch scratch out out (Refused 11)
+  pub no_scratch : length scratch < 32768 → ToNew f old scratch scratch out out (Refused 11)
   unfolding moved_of
-  no-scratch h =
+  no_scratch h =
       let e : no_room scratch ≡ true = lt-ltb (length scratch) 32768 h in
       record {
         answer = rw e;
@@ -172,9 +172,9 @@ module _ (f : Fields) (old scratch out : List ℕ) where
     there : no_room scratch ≡ false
     there = le-ltb (length scratch) 32768 long
 
-    not-old : old_ok f old ≡ false → ToNew f old scratch scratch out out (Refused 18)
+    not_old : old_ok f old ≡ false → ToNew f old scratch scratch out out (Refused 18)
     unfolding moved_of
-    not-old e =
+    not_old e =
         let l = there in
         record {
           answer = rw (l, e);
@@ -183,25 +183,25 @@ module _ (f : Fields) (old scratch out : List ℕ) where
           untouched = λ p. refl;
         }
 
-    pub no-shape : (r : Bool) → r ≡ shape_ok f → not r ≡ true → ToNew f old scratch scratch out out (Refused 18)
+    pub no_shape_lem : (r : Bool) → r ≡ shape_ok f → not r ≡ true → ToNew f old scratch scratch out out (Refused 18)
     unfolding old_ok
-    no-shape r p q = let s = refused (shape_ok f) r p q in not-old (rw s)
+    no_shape_lem r p q = let s = refused (shape_ok f) r p q in not_old (rw s)
 
     module _ (r : Bool) (p : r ≡ shape_ok f) (q : not r ≡ false) (all : ℕ) (a : all ≡ all_of f) where
       shape : shape_ok f ≡ true
       shape = passed (shape_ok f) r p q
 
-      pub wrong-number : (length old ≡ all → ⊥) → ToNew f old scratch scratch out out (Refused 18)
+      pub wrong_number : (length old ≡ all → ⊥) → ToNew f old scratch scratch out out (Refused 18)
       unfolding old_ok
-      wrong-number n = let s = shape in let e = ne_eqb (length old) all n in not-old (rw (s, ← a, e))
+      wrong_number n = let s = shape in let e = ne_eqb (length old) all n in not_old (rw (s, ← a, e))
 
       module _ (n : length old ≡ all) (t : Bool) (o : t ≡ is_old old) where
         pub wrong_byte : not t ≡ true → ToNew f old scratch scratch out out (Refused 18)
         unfolding old_ok
-        wrong_byte w = let s = shape in let e = eq-eqb (length old) all n in let z = refused (is_old old) t o w in not-old (rw (s, ← a, e, z))
+        wrong_byte w = let s = shape in let e = eq-eqb (length old) all n in let z = refused (is_old old) t o w in not_old (rw (s, ← a, e, z))
 
         few : all ≤ 262144
-        few = let h = (shape_is f shape).region-top in let b = in_blocks f shape f.region in omega arith
+        few = let h = (shape_is f shape).region_top in let b = in_blocks f shape f.region in omega arith
 
         pub has_room : length old ≤ length (blocks scratch)
         has_room = let x = few in let b = blocks-length scratch in omega arith
@@ -216,8 +216,8 @@ module _ (f : Fields) (old scratch out : List ℕ) where
           moved scratch' out' x h y =
               let l = there in
               let k = old_ok_lem in
-              let len : length (bits_of old) ≡ all_of f = bits-length old ∙ n ∙ a in
-              let bits : blocks_for f scratch' ≡ bits_of old = ap (take (all_of f)) h.as-blocks ∙ take_at (bits_of old) (drop (length (bits_of old)) (blocks scratch)) (all_of f) len in
+              let len : length (bits_of old) ≡ all_of f = bits_length old ∙ n ∙ a in
+              let bits : blocks_for f scratch' ≡ bits_of old = ap (take (all_of f)) h.as_blocks ∙ take_at (bits_of old) (drop (length (bits_of old)) (blocks scratch)) (all_of f) len in
               let same = h.outside.same_length in
               let c = few in
               let short : is_short f scratch' ≡ false = le-ltb (length scratch') ((all_of f + 7) / 8) (omega arith) in
@@ -238,21 +238,21 @@ pub number_at : (s before after : List ℕ) (most : ℕ) (r : Got) → ReadsStat
 number_at s before after most r h k e = let g : ReadsState s most before after (got.Refused k) = rw e at h in g
 
 module _ (s scratch scratch' old : List ℕ) (r : Got) (h : ReadsState s (length old) scratch scratch' r) (f : Fields) (e : r ≡ got.Fields f) (all : ℕ) (a : all ≡ all_of f) where
-  got-it : ReadsState s (length old) scratch scratch' (got.Fields f)
-  got-it = fields_at s scratch scratch' (length old) r h f e
+  got_it : ReadsState s (length old) scratch scratch' (got.Fields f)
+  got_it = fields_at s scratch scratch' (length old) r h f e
 
   pub fits_both : (all ≤ length (blocks scratch')) × (all ≤ length old)
   fits_both =
-      let g = got-it in
+      let g = got_it in
       let len = g.1.says.state.all in
       let fits = g.1.fits in
-      let b = ap length g.2.as-blocks in
+      let b = ap length g.2.as_blocks in
       let c = length-append g.0 (drop (length g.0) (blocks scratch)) in
       (omega arith, omega arith)
 
   pub unpacked : (old' : List ℕ) → old' ≡ old_of (take all (blocks scratch')) ++ drop all old → ToOld s scratch scratch' old old' (got.Fields f)
   unpacked old' q =
-      let g = got-it in
+      let g = got_it in
       let len : all ≡ length g.0 = a ∙ sym g.1.says.state.all in
-      let bits : take all (blocks scratch') ≡ g.0 = ap (take all) g.2.as-blocks ∙ take_at g.0 (drop (length g.0) (blocks scratch)) all (sym len) in
+      let bits : take all (blocks scratch') ≡ g.0 = ap (take all) g.2.as_blocks ∙ take_at g.0 (drop (length g.0) (blocks scratch)) all (sym len) in
       (g.0, g.1, g.2, q ∙ ap (λ (l : List Bool). old_of l ++ drop all old) bits ∙ ap (λ (n : ℕ). old_of g.0 ++ drop n old) len)

@@ -7,10 +7,10 @@ use mathlib.Core.List.{List, []}
 use native.Mathlib.Omega.{arith}
 use lib.Dec.{eqb}
 use Rattle.units.specs.Numbers.{blocks_in, map_regions}
-use Rattle.units.proofs.Tests.{by-test}
+use Rattle.units.proofs.Tests.{by_test}
 use Rattle.bitmap.specs.Blocks.{blocks, Filled}
 use Rattle.rows.specs.Rows.{rows_of, written, rows_laid}
-use Rattle.rows.proofs.Laws.{laid-length}
+use Rattle.rows.proofs.Laws.{laid_length}
 use Rattle.rows.proofs.Words.{read_back}
 use Rattle.record.specs.declared.Device.{Device}
 use Rattle.record.specs.Changes.{start_to}
@@ -19,28 +19,28 @@ use Rattle.step.specs.declared.Answered.{Answered}
 use Rattle.step.specs.World.{World, answered_by, world_of}
 use Rattle.step.specs.Step.{range_refusal, placed, placing}
 use Rattle.step.specs.Promise.{Lent, on, Gives}
-use Rattle.placing.proofs.Laws.{resizes_gives, placing-several, placing-single}
-use Rattle.step.proofs.Giving.{as-answered}
+use Rattle.placing.proofs.Laws.{resizes_gives, placing-several, placing_single}
+use Rattle.step.proofs.Giving.{as_answered}
 
-pub start-good : (d : Device) (start size n : ℕ) → range_refusal d start size n ≡ 0 → start_ok start d.config.region_size d.several d.alignment ≡ true
+pub start_good : (d : Device) (start size n : ℕ) → range_refusal d start size n ≡ 0 → start_ok start d.config.region_size d.several d.alignment ≡ true
 unfolding range_refusal
-start-good d start size n e =
+start_good d start size n e =
     let region = d.config.region_size in
-    by-test (start_ok start region d.several d.alignment) (λ u. u)
-    (λ u. by-test (eqb n (map_regions region d.several) && eqb size region)
+    by_test (start_ok start region d.several d.alignment) (λ u. u)
+    (λ u. by_test (eqb n (map_regions region d.several) && eqb size region)
     (λ t. let z : 4 ≡ 0 = rw (t, u) at e in absurd (omega arith))
     (λ t. let z : 3 ≡ 0 = rw t at e in absurd (omega arith)))
 
 module _ (d : Device) (before : Lent) (start : ℕ) (slots : List ℕ) where
-  pub placed-gives : (after : Lent) (s : Answered) → Filled before.bitmap after.bitmap 0 (blocks_in d.config.block_size d.config.region_size) false → after.table ≡ written before.table (rows_laid (rows_of before.table) slots) → after.bytes ≡ [] → s ≡ answered_by (placing (world_of (start_to start d) [] after.table)) → Gives (placing (placed (on d before) start slots (blocks before.bitmap) (rows_of before.table))) before after s
-  placed-gives after s f m b a =
+  pub placed_gives : (after : Lent) (s : Answered) → Filled before.bitmap after.bitmap 0 (blocks_in d.config.block_size d.config.region_size) false → after.table ≡ written before.table (rows_laid (rows_of before.table) slots) → after.bytes ≡ [] → s ≡ answered_by (placing (world_of (start_to start d) [] after.table)) → Gives (placing (placed (on d before) start slots (blocks before.bitmap) (rows_of before.table))) before after s
+  placed_gives after s f m b a =
       let rows = rows_laid (rows_of before.table) slots in
       let w = placed (on d before) start slots (blocks before.bitmap) (rows_of before.table) in
       let w0 : World = record { device = start_to start d; blocks = blocks []; rows = rows } in
-      let back : rows_of after.table ≡ rows = rw m (read_back before.table rows (laid-length (rows_of before.table) slots)) in
+      let back : rows_of after.table ≡ rows = rw m (read_back before.table rows (laid_length (rows_of before.table) slots)) in
       let told : s ≡ answered_by (placing w0) = rw back at a in
-      by-test d.several
-      (λ t. rw (placing-several w t) (resizes_gives _ w before after s (told ∙ ap answered_by (placing-several w0 t)) f.as-blocks m b))
+      by_test d.several
+      (λ t. rw (placing-several w t) (resizes_gives _ w before after s (told ∙ ap answered_by (placing-several w0 t)) f.as_blocks m b))
       (λ t.
-      rw (placing-single w t)
-      (as-answered _ before after s (told ∙ ap answered_by (placing-single w0 t)) (record { marked = f.as-blocks; mapped = m; left = b })))
+      rw (placing_single w t)
+      (as_answered _ before after s (told ∙ ap answered_by (placing_single w0 t)) (record { marked = f.as_blocks; mapped = m; left = b })))

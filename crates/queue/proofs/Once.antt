@@ -6,7 +6,7 @@ use lib.ListN.{get_or}
 use Rattle.record.specs.declared.Device.{Device}
 use Rattle.rings.specs.declared.Queue.{Queue}
 use Rattle.step.specs.Promise.{Lent}
-use Rattle.step.proofs.Once.{leaves-once}
+use Rattle.step.proofs.Once.{leaves_once}
 use Rattle.queue.specs.declared.QueueAnswer.{QueueAnswer}
 use Rattle.queue.specs.declared.Turn.{Turn}
 use Rattle.queue.specs.Queue.{QueueOutcome, turned, left_by_queue, GivesTurn}
@@ -18,10 +18,10 @@ same_turn s s' p q r =
     ∙ ap (λ (a : QueueAnswer). turned s'.device s'.queue a) r
 
 -- a bitmap's bytes are below 256, as its type says
-pub turn-once : (o : QueueOutcome) (before after after' : Lent) (s s' : Turn)
+pub turn_once : (o : QueueOutcome) (before after after' : Lent) (s s' : Turn)
     → ((i : ℕ) → get_or after.bitmap i 0 < 256) → ((i : ℕ) → get_or after'.bitmap i 0 < 256)
     → GivesTurn o before after s → GivesTurn o before after' s' → (s ≡ s') × (after ≡ after')
-turn-once o before after after' s s' b b' m m' = (
+turn_once o before after after' s s' b b' m m' = (
   same_turn s s' (m.recorded ∙ sym m'.recorded) (m.queued ∙ sym m'.queued) (m.answered ∙ sym m'.answered),
-  leaves-once (left_by_queue o) before after after' b b' m.leaves m'.leaves,
+  leaves_once (left_by_queue o) before after after' b b' m.leaves m'.leaves,
 )

@@ -7,7 +7,7 @@ use mathlib.Core.List.{List}
 use native.Mathlib.Omega.{arith}
 use lib.Dec.{eqb}
 use lib.ListN.{length}
-use Rattle.units.proofs.Tests.{by-test}
+use Rattle.units.proofs.Tests.{by_test}
 use Rattle.bitmap.proofs.Laws.{blocks-length}
 use Rattle.rows.specs.Rows.{rows_in}
 use Rattle.rows.proofs.Words.{count, whole}
@@ -40,8 +40,8 @@ clash p q = let z : ◌≡◌ {A = ℕ} 0 1 = cc in absurd (omega arith)
 -- ---- how an outcome is met
 -- a call of the device, and what its answer means for the head that it is about
 module _ {o : Outcome} {s : Answered} {t : Turn} {before after : Lent} (m : Gives o before after s) where
-  pub about-met : {bytes : List ℕ} (head base : ℕ) (was out q : Queue) (e : Ending) → e ≡ ending_of s.answer → Settles e head base was out after.bytes q bytes → t ≡ turned s.device q (Of s.answer) → GivesTurn (about head base was out o) before (lent after.bitmap after.table bytes) t
-  about-met head base was out q e ending k is =
+  pub about_met : {bytes : List ℕ} (head base : ℕ) (was out q : Queue) (e : Ending) → e ≡ ending_of s.answer → Settles e head base was out after.bytes q bytes → t ≡ turned s.device q (Of s.answer) → GivesTurn (about head base was out o) before (lent after.bitmap after.table bytes) t
+  about_met head base was out q e ending k is =
       let same = ending ∙ ap ending_of m.answered in
       record {
         answered = rw is (ap Of m.answered);
@@ -51,8 +51,8 @@ module _ {o : Outcome} {s : Answered} {t : Turn} {before after : Lent} (m : Give
         leaves = record { marked = m.leaves.marked; mapped = m.leaves.mapped; left = rw (same, m.leaves.left) at k.left };
       }
 
-  pub aside-met : (q : Queue) → t ≡ turned s.device q (Of s.answer) → GivesTurn (aside q o) before after t
-  aside-met q is =
+  pub aside_met : (q : Queue) → t ≡ turned s.device q (Of s.answer) → GivesTurn (aside q o) before after t
+  aside_met q is =
       record {
         answered = rw is (ap Of m.answered);
         told = rw is m.told;
@@ -66,15 +66,15 @@ module _ (w : World) (q : Queue) (g : Guest) where
   -- with what stands next, and the device's number n
   stands : (n : ℕ) → n ≡ ready_refusal w.device (length w.blocks) (length w.rows) → (x : Next) → takes (next_unless n x) w q g ≡ walks (standing x n) w q g
   unfolding next_unless takes none_told standing walks step unless queue_by bytes_by
-  stands n e HasNone = by-test (eqb n 0) (λ t. rw t) (λ t. rw t)
-  stands n e (HasRefused m) = by-test (eqb n 0) (λ t. rw t) (λ t. rw t)
-  stands n e (HasHead head) = by-test (eqb n 0) (λ t. rw t) (λ t. rw (t, ← e, t))
+  stands n e HasNone = by_test (eqb n 0) (λ t. rw t) (λ t. rw t)
+  stands n e (HasRefused m) = by_test (eqb n 0) (λ t. rw t) (λ t. rw t)
+  stands n e (HasHead head) = by_test (eqb n 0) (λ t. rw t) (λ t. rw (t, ← e, t))
 
   -- R13.9: where the device refuses, the head stays
-  pub by-taking : serve_next w q g ≡ walks (taking_of w.device q (length w.blocks) (length w.rows) g.mem g.base) w q g
+  pub by_taking : serve_next w q g ≡ walks (taking_of w.device q (length w.blocks) (length w.rows) g.mem g.base) w q g
   unfolding taking_refusal taking_of next_unless takes walks
-  by-taking =
-      by-test (queue_ok q.taken w.device.pending)
+  by_taking =
+      by_test (queue_ok q.taken w.device.pending)
       (λ t. rw t (stands (ready_refusal w.device (length w.blocks) (length w.rows)) refl (next_head g.mem g.base q)))
       (λ t. rw t)
 
@@ -85,7 +85,7 @@ module _ (w : World) (q : Queue) (g : Guest) where
   unfolding can_report out_refusal unless_refused answers step unless queue_by bytes_by
   heard Nothing ok host e = refl
   heard (Head head) ok host e =
-      by-test (eqb (pending_refusal w.device (length w.blocks) (length w.rows)) 0) (λ t. rw (e, t)) (λ t. rw (t, t))
+      by_test (eqb (pending_refusal w.device (length w.blocks) (length w.rows)) 0) (λ t. rw (e, t)) (λ t. rw (t, t))
 
   -- and where it cannot: a discard is pending, and 14 comes last
   busy : (p : Pending) → discarding p ≡ true → is_idle p ≡ false
@@ -100,23 +100,23 @@ module _ (w : World) (q : Queue) (g : Guest) where
   outside Nothing n m k e = clash refl e
   outside (Head head) n m k e =
       let d = w.device in
-      by-test (shaped_of d)
-      (λ s. by-test (tables_fit d n m) (λ t. rw (e, s, busy d.pending k, t)) (λ t. rw (e, s, busy d.pending k, t)))
+      by_test (shaped_of d)
+      (λ s. by_test (tables_fit d n m) (λ t. rw (e, s, busy d.pending k, t)) (λ t. rw (e, s, busy d.pending k, t)))
       (λ s. rw (e, s))
 
   alike : (taken : Taken) (ok : Bool) (host : ℕ) → queue_ok taken w.device.pending ≡ true → let n = outside_refusal w.device (length w.blocks) (length w.rows) in let o = answers taken q g.base (step w (HostAnswer g ok host)) in
       unless_refused (out_refusal taken w.device q (length w.blocks) (length w.rows) g) w q g.mem o ≡ unless_refused (cond (can_report taken (length g.mem) g.base q) 0 n) w q g.mem o
   unfolding unless_refused
   alike taken ok host k =
-      by-test (can_report taken (length g.mem) g.base q)
+      by_test (can_report taken (length g.mem) g.base q)
       (λ t. rw t (heard taken ok host t))
       (λ t. rw (t, outside taken (length w.blocks) (length w.rows) k t))
 
-  pub by-refusal : (ok : Bool) (host : ℕ) → host_answers w q g ok host
+  pub by_refusal : (ok : Bool) (host : ℕ) → host_answers w q g ok host
       ≡ unless_refused (queue_refusal w.device q (length w.blocks) (length w.rows) (length g.mem) g.base) w q g.mem (answers q.taken q g.base (step w (HostAnswer g ok host)))
   unfolding answer_refusal queue_refusal
-  by-refusal ok host =
-      by-test (queue_ok q.taken w.device.pending) (λ t. rw t (alike q.taken ok host t)) (λ t. rw t)
+  by_refusal ok host =
+      by_test (queue_ok q.taken w.device.pending) (λ t. rw t (alike q.taken ok host t)) (λ t. rw t)
 
 module _ (d : Device) (bitmap table : List ℕ) (q : Queue) (g : Guest) where
   -- a call that changes nothing
@@ -133,34 +133,34 @@ module _ (d : Device) (bitmap table : List ℕ) (q : Queue) (g : Guest) where
   -- ---- taking the next head
   module _ (x : Taking) (x-is : x ≡ taking_of d q (8 * length bitmap) (rows_in (length table)) g.mem g.base) where
     taken_as : serve_next (world_of d bitmap table) q g ≡ walks x (world_of d bitmap table) q g
-    taken_as = by-taking (world_of d bitmap table) q g ∙ rw (blocks-length bitmap, count table, ← x-is)
+    taken_as = by_taking (world_of d bitmap table) q g ∙ rw (blocks-length bitmap, count table, ← x-is)
 
-    pub told-as : (told : QueueAnswer) → x ≡ NoHead told → serve_next (world_of d bitmap table) q g ≡ unmoved told (world_of d bitmap table) q g.mem
+    pub told_as : (told : QueueAnswer) → x ≡ NoHead told → serve_next (world_of d bitmap table) q g ≡ unmoved told (world_of d bitmap table) q g.mem
     unfolding walks
-    told-as told e = taken_as ∙ rw e
+    told_as told e = taken_as ∙ rw e
 
-    pub walk-as : (head : ℕ) → x ≡ Walk head → (out : Queue) → out ≡ took_head q head
+    pub walk_as : (head : ℕ) → x ≡ Walk head → (out : Queue) → out ≡ took_head q head
         → serve_next (world_of d bitmap table) q g ≡ about head g.base q out (step (world_of d bitmap table) (Request g q.descriptors.0 head))
     unfolding walks
-    walk-as head e out out-is = taken_as ∙ rw (e, out-is)
+    walk_as head e out out-is = taken_as ∙ rw (e, out-is)
 
-    pub next-none : {t : Turn} (told : QueueAnswer) → x ≡ NoHead told → t ≡ turned d q told → GivesTurn (serve_next (world_of d bitmap table) q g) (lent bitmap table g.mem) (lent bitmap table g.mem) t
-    next-none told e is = rw (told-as told e) (unchanged told is)
+    pub next_none : {t : Turn} (told : QueueAnswer) → x ≡ NoHead told → t ≡ turned d q told → GivesTurn (serve_next (world_of d bitmap table) q g) (lent bitmap table g.mem) (lent bitmap table g.mem) t
+    next_none told e is = rw (told_as told e) (unchanged told is)
 
   -- ---- the host's answer
   module _ (ok : Bool) (host n : ℕ) (n-is : n ≡ queue_refusal d q (8 * length bitmap) (rows_in (length table)) (length g.mem) g.base) where
-    answered-as : host_answers (world_of d bitmap table) q g ok host ≡ unless_refused n (world_of d bitmap table) q g.mem (answers q.taken q g.base (step (world_of d bitmap table) (HostAnswer g ok host)))
-    answered-as = by-refusal (world_of d bitmap table) q g ok host ∙ rw (blocks-length bitmap, count table, ← n-is)
+    answered_as_lem : host_answers (world_of d bitmap table) q g ok host ≡ unless_refused n (world_of d bitmap table) q g.mem (answers q.taken q g.base (step (world_of d bitmap table) (HostAnswer g ok host)))
+    answered_as_lem = by_refusal (world_of d bitmap table) q g ok host ∙ rw (blocks-length bitmap, count table, ← n-is)
 
     pub refused_as : eqb n 0 ≡ false → host_answers (world_of d bitmap table) q g ok host ≡ unmoved (Of (Refused n)) (world_of d bitmap table) q g.mem
     unfolding unless_refused
-    refused_as some = answered-as ∙ rw some
+    refused_as some = answered_as_lem ∙ rw some
 
-    pub heard-as : eqb n 0 ≡ true → (taken : Taken) → q.taken ≡ taken → host_answers (world_of d bitmap table) q g ok host ≡ answers taken q g.base (step (world_of d bitmap table) (HostAnswer g ok host))
+    pub heard_as : eqb n 0 ≡ true → (taken : Taken) → q.taken ≡ taken → host_answers (world_of d bitmap table) q g ok host ≡ answers taken q g.base (step (world_of d bitmap table) (HostAnswer g ok host))
     unfolding unless_refused
-    heard-as none taken e =
+    heard_as none taken e =
         let o = step (world_of d bitmap table) (HostAnswer g ok host) in
-        answered-as ∙ rw (none, ap (λ (x : Taken). answers x q g.base o) e)
+        answered_as_lem ∙ rw (none, ap (λ (x : Taken). answers x q g.base o) e)
 
-    pub answer-refused : {t : Turn} → eqb n 0 ≡ false → t ≡ turned d q (Of (Refused n)) → GivesTurn (host_answers (world_of d bitmap table) q g ok host) (lent bitmap table g.mem) (lent bitmap table g.mem) t
-    answer-refused some is = rw (refused_as some) (unchanged (Of (Refused n)) is)
+    pub answer_refused : {t : Turn} → eqb n 0 ≡ false → t ≡ turned d q (Of (Refused n)) → GivesTurn (host_answers (world_of d bitmap table) q g ok host) (lent bitmap table g.mem) (lent bitmap table g.mem) t
+    answer_refused some is = rw (refused_as some) (unchanged (Of (Refused n)) is)

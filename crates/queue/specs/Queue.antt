@@ -128,7 +128,7 @@ takes (HasRefused n) w q g = unmoved (Of (Refused n)) w q g.mem
 abbrev pub serve_next : World → Queue → Guest → QueueOutcome
 serve_next w q g = takes (next_of w q g) w q g
 
--- the same, as code finds it: the head that stands next is looked for first, and where there is one the device's own call gives its refusals (`by-taking`)
+-- the same, as code finds it: the head that stands next is looked for first, and where there is one the device's own call gives its refusals (`by_taking`)
 unfoldable pub standing : Next → (n : ℕ) → Taking
 standing (HasHead head) n = Walk head
 standing HasNone n = NoHead (none_told (next_unless n HasNone))
@@ -177,7 +177,7 @@ host_answers w q g ok host =
     unless_refused (answer_refusal w.device q (length w.blocks) (length w.rows) g) w q g.mem
     (answers q.taken q g.base (step w (HostAnswer g ok host)))
 
--- the same, as code finds it: where the head can be reported, the device's own call gives its refusals; where it cannot, a host call is pending (`by-refusal`)
+-- the same, as code finds it: where the head can be reported, the device's own call gives its refusals; where it cannot, a host call is pending (`by_refusal`)
 unfoldable pub outside_refusal : Device → (blocks rows : ℕ) → ℕ
 outside_refusal d blocks rows = cond (not (shaped_of d)) 12 (cond (not (tables_fit d blocks rows)) 11 14)
 

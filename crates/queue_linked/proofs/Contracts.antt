@@ -16,20 +16,20 @@ use Rattle.queue_runs.specs.Runs.{queue_step}
 use Rattle.queue_linked.specs.Runs.{jambcopper_serve, jambcopper_serve_answer, call_by, OnQueue}
 
 -- a are the arguments, in their order; e are the lent slices afterwards; z is what is returned
-pub make-promises : (κs : Lfts 1) (a : Dens κs make-ps) (z : (res_t make-r κs).Denot) (e : AtExit (ended_of 1 make-ps make-r) κs) → Make-learnt κs a z e
+pub make_promises : (κs : Lfts 1) (a : Dens κs make-ps) (z : (res_t make-r κs).Denot) (e : AtExit (ended_of 1 make-ps make-r) κs) → Make-learnt κs a z e
     → QueueMadeIn a.0.now (new_queue a.1.0 a.1.1.0 a.1.1.1.0) z e.0.now
-make-promises κs a z e p = p
+make_promises κs a z e p = p
 
-pub serve-promises : (κs : Lfts 6) (a : Dens κs serve-ps) (z : (res_t serve-r κs).Denot) (e : AtExit (ended_of 6 serve-ps serve-r) κs) → Serve-learnt κs a z e
+pub serve_promises : (κs : Lfts 6) (a : Dens κs serve-ps) (z : (res_t serve-r κs).Denot) (e : AtExit (ended_of 6 serve-ps serve-r) κs) → Serve-learnt κs a z e
     → OnQueue (call_by (jambcopper_serve a.1.1.1.1.1.0))
     (queue_handed a.1.0.now (handed a.0.now a.1.1.1.1.1.1.0.now (lent a.1.1.0.now a.1.1.1.0.now a.1.1.1.1.0.now)))
     (queue_handed e.1.0.now (handed e.0.now e.1.1.1.1.1.1.0.now (lent e.1.1.0.now a.1.1.1.0.now e.1.1.1.1.0.now))) z
 unfolding queue_step call_by
-serve-promises κs a z e p = p
+serve_promises κs a z e p = p
 
-pub answer-promises : (κs : Lfts 6) (a : Dens κs answer-ps) (z : (res_t answer-r κs).Denot) (e : AtExit (ended_of 6 answer-ps answer-r) κs) → Answer-learnt κs a z e
+pub answer_promises : (κs : Lfts 6) (a : Dens κs answer-ps) (z : (res_t answer-r κs).Denot) (e : AtExit (ended_of 6 answer-ps answer-r) κs) → Answer-learnt κs a z e
     → OnQueue (call_by (jambcopper_serve_answer a.1.1.1.1.1.0 a.1.1.1.1.1.1.0 a.1.1.1.1.1.1.1.0))
     (queue_handed a.1.0.now (handed a.0.now a.1.1.1.1.1.1.1.1.0.now (lent a.1.1.0.now a.1.1.1.0.now a.1.1.1.1.0.now)))
     (queue_handed e.1.0.now (handed e.0.now e.1.1.1.1.1.1.1.1.0.now (lent e.1.1.0.now e.1.1.1.0.now e.1.1.1.1.0.now))) z
 unfolding queue_step call_by
-answer-promises κs a z e p = p
+answer_promises κs a z e p = p

@@ -3,7 +3,7 @@
 use Prim.Native.Nat.{ℕ}
 use mathlib.Core.Path.{◌≡◌, refl, ap, ◌∙◌}
 use mathlib.Core.Bool.{true}
-use Rattle.bitmap.proofs.Bytes.{blocks-tell}
+use Rattle.bitmap.proofs.Bytes.{blocks_tell}
 use Rattle.rows.specs.Rows.{written}
 use Rattle.rows.proofs.Words.{whole}
 use Rattle.rings.specs.declared.Queue.{Queue}
@@ -13,7 +13,7 @@ use Rattle.step.specs.Promise.{Lent}
 use Rattle.words.specs.declared.Decoded.{Decoded}
 use Rattle.words.specs.declared.Decoded.TheVariants.{Is, NoRecord}
 use Rattle.words.specs.Record.{words_of, decoded_of}
-use Rattle.words.proofs.Laws.{decoded-encodes}
+use Rattle.words.proofs.Laws.{decoded_encodes}
 use Rattle.little_endian.specs.Bytes.{put}
 use Rattle.queue.specs.declared.QueueAnswer.{QueueAnswer}
 use Rattle.queue.specs.declared.QueueAnswer.TheVariants.{Empty, Of}
@@ -21,39 +21,39 @@ use Rattle.queue.specs.Queue.{queue_number_of}
 use Rattle.queue_words.specs.declared.DecodedQueue.{DecodedQueue}
 use Rattle.queue_words.specs.declared.DecodedQueue.TheVariants.{Is as IsQueue, NoQueue}
 use Rattle.queue_words.specs.Words.{queue_words, decoded_queue_of}
-use Rattle.queue_words.proofs.Laws.{decoded-encodes as queue-encodes}
+use Rattle.queue_words.proofs.Laws.{decoded_encodes as queue-encodes}
 use Rattle.jambcopper.specs.Queue.{QueueHanded, QueueForeign, QueueCalled}
 use Rattle.history.proofs.Shaped.{clash}
-use Rattle.linked.proofs.Refused.{refused-with}
+use Rattle.linked.proofs.Refused.{refused_with}
 use Rattle.queue_runs.specs.Runs.{QueueCall, TakeNext, Host, PastIt, queue_step, lent_to}
 use Rattle.queue_runs.specs.Heads.{bytes_to}
 use Rattle.queue_runs.specs.Standard.{on_guest}
-use Rattle.queue_runs.proofs.Refused.{refused-takes-none, refused-moves-nothing}
+use Rattle.queue_runs.proofs.Refused.{refused_takes_none, refused_moves_nothing}
 use Rattle.queue_linked.specs.Refused.{QueueUntouched, RefusedQueueExportChangesNothing}
 
-refused-of : (t : QueueAnswer) → (queue_number_of t ≡ 0 → ⊥) → t ≡ Of (Refused (queue_number_of t))
-refused-of Empty h = absurd (h refl)
-refused-of (Of a) h = ap Of (refused-with a h)
+refused_of : (t : QueueAnswer) → (queue_number_of t ≡ 0 → ⊥) → t ≡ Of (Refused (queue_number_of t))
+refused_of Empty h = absurd (h refl)
+refused_of (Of a) h = ap Of (refused_with a h)
 
-guest-bytes : (c : QueueCall) → on_guest c ≡ true → bytes_to c ≡ (lent_to c).mem
+guest_bytes : (c : QueueCall) → on_guest c ≡ true → bytes_to c ≡ (lent_to c).mem
 unfolding on_guest bytes_to lent_to
-guest-bytes (TakeNext g) e = refl
-guest-bytes (Host g ok host) e = refl
-guest-bytes (PastIt b) e = clash e refl
+guest_bytes (TakeNext g) e = refl
+guest_bytes (Host g ok host) e = refl
+guest_bytes (PastIt b) e = clash e refl
 
 foreign : (b a : QueueHanded) (n : ℕ) → QueueForeign b a n → QueueUntouched b a
 foreign b a n f =
     record {
-      same-words = f.others.recorded;
+      same_words = f.others.recorded;
       same_queue = f.queued;
-      same-bitmap = ap (λ (l : Lent). l.bitmap) f.others.untouched;
-      same-table = ap (λ (l : Lent). l.table) f.others.untouched;
+      same_bitmap = ap (λ (l : Lent). l.bitmap) f.others.untouched;
+      same_table = ap (λ (l : Lent). l.table) f.others.untouched;
       same_bytes = ap (λ (l : Lent). l.bytes) f.others.untouched;
     }
 
-pub refused-queue-export-changes-nothing : RefusedQueueExportChangesNothing
+pub refused_queue_export_changes_nothing : RefusedQueueExportChangesNothing
 unfolding QueueCalled
-refused-queue-export-changes-nothing c b a n guest lends low low' p refused not-10 = go (decoded_of b.others.words) (decoded_queue_of b.queue) refl refl p
+refused_queue_export_changes_nothing c b a n guest lends low low' p refused not-10 = go (decoded_of b.others.words) (decoded_queue_of b.queue) refl refl p
   where
     go : (r : Decoded) (s : DecodedQueue) → decoded_of b.others.words ≡ r → decoded_queue_of b.queue ≡ s
         → QueueCalled r s (λ l w q. queue_step w q (c l)) b a n → QueueUntouched b a
@@ -61,15 +61,15 @@ refused-queue-export-changes-nothing c b a n guest lends low low' p refused not-
         let w = world_of d b.others.slices.bitmap b.others.slices.table in
         let call = c b.others.slices in
         let o = queue_step w q call in
-        let is-refused = refused-of o.answer (λ e. refused (t.numbered ∙ e)) in
-        let same = refused-moves-nothing w q call (queue_number_of o.answer) is-refused (λ e. not-10 (t.numbered ∙ e)) in
-        let none = refused-takes-none w q call (queue_number_of o.answer) is-refused in
+        let is-refused = refused_of o.answer (λ e. refused (t.numbered ∙ e)) in
+        let same = refused_moves_nothing w q call (queue_number_of o.answer) is-refused (λ e. not-10 (t.numbered ∙ e)) in
+        let none = refused_takes_none w q call (queue_number_of o.answer) is-refused in
         record {
-          same-words = t.recorded ∙ ap (λ (v : World). put b.others.words 0 (words_of v.device)) same ∙ decoded-encodes b.others.words d is;
+          same_words = t.recorded ∙ ap (λ (v : World). put b.others.words 0 (words_of v.device)) same ∙ decoded_encodes b.others.words d is;
           same_queue = t.queued ∙ ap (λ (x : Queue). put b.queue 0 (queue_words x)) none.0.same_queue ∙ queue-encodes b.queue q queue-is;
-          same-bitmap = blocks-tell a.others.slices.bitmap b.others.slices.bitmap low' low (t.leaves.marked ∙ ap (λ (v : World). v.blocks) same);
-          same-table = t.leaves.mapped ∙ ap (λ (v : World). written b.others.slices.table v.rows) same ∙ whole b.others.slices.table;
-          same_bytes = t.leaves.left ∙ none.1 ∙ guest-bytes call guest ∙ lends;
+          same_bitmap = blocks_tell a.others.slices.bitmap b.others.slices.bitmap low' low (t.leaves.marked ∙ ap (λ (v : World). v.blocks) same);
+          same_table = t.leaves.mapped ∙ ap (λ (v : World). written b.others.slices.table v.rows) same ∙ whole b.others.slices.table;
+          same_bytes = t.leaves.left ∙ none.1 ∙ guest_bytes call guest ∙ lends;
         }
     go (Is d) NoQueue is queue-is t = foreign b a n t
     go NoRecord s is queue-is t = foreign b a n t

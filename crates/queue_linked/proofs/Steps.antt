@@ -6,7 +6,7 @@ use mathlib.Core.Bool.{Bool, true, false, cond, not}
 use mathlib.Core.List.{List, [], ◌∷◌}
 use lib.Dec.{eqb}
 use lib.ListN.{length}
-use Rattle.units.proofs.Tests.{by-test}
+use Rattle.units.proofs.Tests.{by_test}
 use Rattle.bitmap.specs.Blocks.{blocks}
 use Rattle.rows.specs.declared.MapRow.{MapRow}
 use Rattle.rows.specs.Rows.{rows_of}
@@ -33,23 +33,23 @@ use Rattle.jambcopper.specs.Queue.{QueueHanded, QueueTold, QueueCalled}
 use Rattle.history.specs.Rules.{is_place}
 use Rattle.history.proofs.Shaped.{clash}
 use Rattle.linked.specs.Runs.{in_use, holding}
-use Rattle.linked.proofs.Tables.{lengths-kept, with, not-ready, not-0, answer-early}
-use Rattle.linked.proofs.Steps.{not-in-use}
+use Rattle.linked.proofs.Tables.{lengths_kept, with, not_ready, not-0, answer_early}
+use Rattle.linked.proofs.Steps.{not_in_use}
 use Rattle.queue_runs.specs.Runs.{QueueCall, TakeNext, Host, queue_step, device_calls}
 use Rattle.queue_runs.specs.Rules.{AsCalls, is_placing}
-use Rattle.queue_runs.proofs.Calls.{none-or-one}
+use Rattle.queue_runs.proofs.Calls.{none_or_one}
 use Rattle.queue_runs.proofs.Rules.{kinds}
 use Rattle.queue_linked.specs.Runs.{jambcopper_serve, jambcopper_serve_answer, call_by, OnQueue, QueueHeld, LendsQueue, QueueMeans}
 
 -- ---- a call on the queue keeps how many rows there are
-rows-kept : (w : World) (calls : List Call) (o : QueueOutcome) → ((call : Call) → calls ≡ call ∷ [] → is_place call ≡ false) → AsCalls w calls o → length o.world.rows ≡ length w.rows
+rows_kept : (w : World) (calls : List Call) (o : QueueOutcome) → ((call : Call) → calls ≡ call ∷ [] → is_place call ≡ false) → AsCalls w calls o → length o.world.rows ≡ length w.rows
 unfolding AsCalls
-rows-kept w [] o other e = rw e
-rows-kept w (call ∷ []) o other a = rw a.same-world (lengths-kept w call (other call refl)).same_rows
-rows-kept w (call ∷ more ∷ calls) o other a = absurd a
+rows_kept w [] o other e = rw e
+rows_kept w (call ∷ []) o other a = rw a.same_world (lengths_kept w call (other call refl)).same_rows
+rows_kept w (call ∷ more ∷ calls) o other a = absurd a
 
 same_rows : (w : World) (q : Queue) (c : QueueCall) → is_placing c ≡ false → length (queue_step w q c).world.rows ≡ length w.rows
-same_rows w q c other = rows-kept w (device_calls w q c) (queue_step w q c) (λ call e. (kinds w q c call e).1 ∙ other) (none-or-one w q c)
+same_rows w q c other = rows_kept w (device_calls w q c) (queue_step w q c) (λ call e. (kinds w q c call e).1 ∙ other) (none_or_one w q c)
 
 -- ---- before placing: both outcomes tell the same, and leave the queue and their worlds as they were
 record Stay (w w' : World) (o o' : QueueOutcome) : Type 0 where
@@ -67,37 +67,37 @@ module _ (d : Device) (bs bs' : List Bool) (rows rows' : List MapRow) (q : Queue
   there = with d bs' rows'
 
   -- 12 or 5, whatever tables are lent
-  refused-early : (b r : ℕ) → taking_refusal d q.taken b r ≡ cond (not (queue_ok q.taken d.pending)) 12 (cond (not (shaped_of d)) 12 5)
+  refused_early : (b r : ℕ) → taking_refusal d q.taken b r ≡ cond (not (queue_ok q.taken d.pending)) 12 (cond (not (shaped_of d)) 12 5)
   unfolding taking_refusal
-  refused-early b r = rw (not-ready d bs bs' rows rows' unplaced idle b r)
+  refused_early b r = rw (not_ready d bs bs' rows rows' unplaced idle b r)
 
   some_number : eqb (cond (not (queue_ok q.taken d.pending)) 12 (cond (not (shaped_of d)) 12 5)) 0 ≡ false
-  some_number = by-test (queue_ok q.taken d.pending) (λ t. rw t (not-0 d bs bs' rows rows' unplaced idle (shaped_of d) 5 refl)) (λ t. rw t)
+  some_number = by_test (queue_ok q.taken d.pending) (λ t. rw t (not-0 d bs bs' rows rows' unplaced idle (shaped_of d) 5 refl)) (λ t. rw t)
 
-  next-early : (w : World) → w.device ≡ d → (g : Guest) → next_of w q g ≡ HasRefused (cond (not (queue_ok q.taken d.pending)) 12 (cond (not (shaped_of d)) 12 5))
+  next_early : (w : World) → w.device ≡ d → (g : Guest) → next_of w q g ≡ HasRefused (cond (not (queue_ok q.taken d.pending)) 12 (cond (not (shaped_of d)) 12 5))
   unfolding next_unless
-  next-early w e g = rw (e, refused-early (length w.blocks) (length w.rows), some_number)
+  next_early w e g = rw (e, refused_early (length w.blocks) (length w.rows), some_number)
 
-  taking-early : (g : Guest) → Stay here there (queue_step here q (TakeNext g)) (queue_step there q (TakeNext g))
+  taking_early : (g : Guest) → Stay here there (queue_step here q (TakeNext g)) (queue_step there q (TakeNext g))
   unfolding queue_step takes
-  taking-early g =
-      rw (next-early here refl g, next-early there refl g)
+  taking_early g =
+      rw (next_early here refl g, next_early there refl g)
       (record { same_answer = refl; same_queue = refl; same_bytes = refl; stays = refl; stays' = refl })
 
   -- 12, or the device's own
-  not-out : (h : ℕ) (p : Pending) → is_idle p ≡ true → queue_ok (Head h) p ≡ false
-  not-out h Idle e = refl
-  not-out h (Create first last) e = refl
-  not-out h (Discard first count status) e = clash e refl
-  not-out h (DiscardOne block status) e = clash e refl
+  not_out : (h : ℕ) (p : Pending) → is_idle p ≡ true → queue_ok (Head h) p ≡ false
+  not_out h Idle e = refl
+  not_out h (Create first last) e = refl
+  not_out h (Discard first count status) e = clash e refl
+  not_out h (DiscardOne block status) e = clash e refl
 
-  answering-early : (g : Guest) (ok : Bool) (host : ℕ) (t : Taken) → q.taken ≡ t → Stay here there (queue_step here q (Host g ok host)) (queue_step there q (Host g ok host))
+  answering_early : (g : Guest) (ok : Bool) (host : ℕ) (t : Taken) → q.taken ≡ t → Stay here there (queue_step here q (Host g ok host)) (queue_step there q (Host g ok host))
   unfolding queue_step unless_refused answer_refusal out_refusal answers
-  answering-early g ok host Nothing e =
-      let y = answer-early d bs bs' rows rows' unplaced idle g ok host in
+  answering_early g ok host Nothing e =
+      let y = answer_early d bs bs' rows rows' unplaced idle g ok host in
       rw e (record { same_answer = ap Of y.same_answer; same_queue = refl; same_bytes = y.same_bytes; stays = y.stays; stays' = y.stays' })
-  answering-early g ok host (Head h) e =
-      rw (e, not-out h d.pending idle) (record { same_answer = refl; same_queue = refl; same_bytes = refl; stays = refl; stays' = refl })
+  answering_early g ok host (Head h) e =
+      rw (e, not_out h d.pending idle) (record { same_answer = refl; same_queue = refl; same_bytes = refl; stays = refl; stays' = refl })
 
 -- ---- each function on the queue
 module _ (h : QueueHeld) (w : World) (q : Queue) (m : QueueMeans h w q) (b a : QueueHanded) (n : ℕ) (lends : LendsQueue h b) where
@@ -118,13 +118,13 @@ module _ (h : QueueHeld) (w : World) (q : Queue) (m : QueueMeans h w q) (b a : Q
 
   kept : (c : Lent → QueueCall) → OnQueue c b a n → Kept (c b.others.slices)
   unfolding QueueCalled
-  kept c p = rw (ap decoded_of lends.same-words ∙ m.device.decodes, ap decoded_queue_of lends.same_queue ∙ m.queue) at p
+  kept c p = rw (ap decoded_of lends.same_words ∙ m.device.decodes, ap decoded_queue_of lends.same_queue ∙ m.queue) at p
 
   -- on the tables that are held
-  on-held : (c : QueueCall) → is_placing c ≡ false → Kept c → in_use h.device ≡ true → Goes c
+  on_held : (c : QueueCall) → is_placing c ≡ false → Kept c → in_use h.device ≡ true → Goes c
   unfolding holding
-  on-held c past kept-c used =
-      let e : lent_world ≡ w = rw (lends.same-bitmap used, lends.same-table used, m.device.marked, m.device.mapped) in
+  on_held c past kept-c used =
+      let e : lent_world ≡ w = rw (lends.same_bitmap used, lends.same_table used, m.device.marked, m.device.mapped) in
       let lent : length (rows_of b.others.slices.table) ≡ length w.rows = ap (λ (v : World). length v.rows) e in
       let k : QueueTold (queue_step w q c) b a n = rw e at kept-c in
       record {
@@ -138,14 +138,14 @@ module _ (h : QueueHeld) (w : World) (q : Queue) (m : QueueMeans h w q) (b a : Q
                 marked = k.leaves.marked;
                 mapped = ap rows_of k.leaves.mapped ∙ read_back b.others.slices.table (queue_step w q c).world.rows (same_rows w q c past ∙ sym lent);
               });
-          queue = k.queue-decodes;
+          queue = k.queue_decodes;
         };
       }
 
   -- before placing
-  on-any : (c : QueueCall) → Kept c → in_use h.device ≡ false → Stay w lent_world (queue_step w q c) (queue_step lent_world q c) → Goes c
+  on_any : (c : QueueCall) → Kept c → in_use h.device ≡ false → Stay w lent_world (queue_step w q c) (queue_step lent_world q c) → Goes c
   unfolding holding
-  on-any c k unused y =
+  on_any c k unused y =
       record {
         numbered = k.numbered ∙ ap queue_number_of y.same_answer;
         told = k.told ∙ ap (λ (t : QueueAnswer). put b.others.answer 0 (queue_answer_words t)) y.same_answer;
@@ -157,24 +157,24 @@ module _ (h : QueueHeld) (w : World) (q : Queue) (m : QueueMeans h w q) (b a : Q
                 marked = m.device.marked;
                 mapped = m.device.mapped;
               });
-          queue = k.queue-decodes ∙ ap IsQueue y.same_queue;
+          queue = k.queue_decodes ∙ ap IsQueue y.same_queue;
         };
       }
 
   goes : (c : QueueCall) → is_placing c ≡ false → Kept c
       → (w.device.placed ≡ false → is_idle w.device.pending ≡ true → Stay w lent_world (queue_step w q c) (queue_step lent_world q c)) → Goes c
   goes c past p early =
-      by-test (in_use h.device) (λ t. on-held c past p t)
-      (λ t. let idle = not-in-use h.device w m.device t in on-any c p t (early idle.0 idle.1))
+      by_test (in_use h.device) (λ t. on_held c past p t)
+      (λ t. let idle = not_in_use h.device w m.device t in on_any c p t (early idle.0 idle.1))
 
-  pub serve-goes : (base : ℕ) → OnQueue (call_by (jambcopper_serve base)) b a n → Goes (TakeNext (guest_in b.others.slices base))
+  pub serve_goes : (base : ℕ) → OnQueue (call_by (jambcopper_serve base)) b a n → Goes (TakeNext (guest_in b.others.slices base))
   unfolding is_placing call_by
-  serve-goes base p =
+  serve_goes base p =
       let g = guest_in b.others.slices base in
-      goes (TakeNext g) refl (kept (call_by (jambcopper_serve base)) p) (λ u i. taking-early w.device w.blocks (blocks b.others.slices.bitmap) w.rows (rows_of b.others.slices.table) q u i g)
+      goes (TakeNext g) refl (kept (call_by (jambcopper_serve base)) p) (λ u i. taking_early w.device w.blocks (blocks b.others.slices.bitmap) w.rows (rows_of b.others.slices.table) q u i g)
 
-  pub answer-goes : (base : ℕ) (ok : Bool) (host : ℕ) → OnQueue (call_by (jambcopper_serve_answer base ok host)) b a n → Goes (Host (guest_in b.others.slices base) ok host)
+  pub answer_goes : (base : ℕ) (ok : Bool) (host : ℕ) → OnQueue (call_by (jambcopper_serve_answer base ok host)) b a n → Goes (Host (guest_in b.others.slices base) ok host)
   unfolding is_placing call_by
-  answer-goes base ok host p =
+  answer_goes base ok host p =
       let g = guest_in b.others.slices base in
-      goes (Host g ok host) refl (kept (call_by (jambcopper_serve_answer base ok host)) p) (λ u i. answering-early w.device w.blocks (blocks b.others.slices.bitmap) w.rows (rows_of b.others.slices.table) q u i g ok host q.taken refl)
+      goes (Host g ok host) refl (kept (call_by (jambcopper_serve_answer base ok host)) p) (λ u i. answering_early w.device w.blocks (blocks b.others.slices.bitmap) w.rows (rows_of b.others.slices.table) q u i g ok host q.taken refl)

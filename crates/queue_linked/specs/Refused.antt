@@ -9,10 +9,10 @@ use Rattle.queue_runs.specs.Standard.{on_guest}
 use Rattle.queue_linked.specs.Runs.{OnQueue}
 
 pub record QueueUntouched (b a : QueueHanded) : Type 0 where
-  pub same-words : a.others.words ≡ b.others.words
+  pub same_words : a.others.words ≡ b.others.words
   pub same_queue : a.queue ≡ b.queue
-  pub same-bitmap : a.others.slices.bitmap ≡ b.others.slices.bitmap
-  pub same-table : a.others.slices.table ≡ b.others.slices.table
+  pub same_bitmap : a.others.slices.bitmap ≡ b.others.slices.bitmap
+  pub same_table : a.others.slices.table ≡ b.others.slices.table
   pub same_bytes : a.others.slices.bytes ≡ b.others.slices.bytes
 
 -- jambcopper_serve and jambcopper_serve_answer, on the guest memory that they are lent

@@ -75,9 +75,9 @@ pub record QueueHeld : Type 0 where
 -- the call is lent what is held: the record and the queue always, the tables while they are in use
 pub record LendsQueue (h : QueueHeld) (b : QueueHanded) : Type 0 where
   pub same_queue : b.queue ≡ h.queue
-  pub same-words : b.others.words ≡ h.device.words
-  pub same-bitmap : in_use h.device ≡ true → b.others.slices.bitmap ≡ h.device.bitmap
-  pub same-table : in_use h.device ≡ true → b.others.slices.table ≡ h.device.table
+  pub same_words : b.others.words ≡ h.device.words
+  pub same_bitmap : in_use h.device ≡ true → b.others.slices.bitmap ≡ h.device.bitmap
+  pub same_table : in_use h.device ≡ true → b.others.slices.table ≡ h.device.table
 
 -- and keeps its promise
 unfoldable pub OneBy : QueueFunction → QueueHeld → (before after : QueueHanded) (number : ℕ) → Type 0
@@ -147,4 +147,4 @@ pub record QueueLinked (m : Making) (words : List ℕ) (k : QueueMaking) (queue 
   -- any further call tells what its next step tells
   pub tells : (us : List QueueUse) → Run (begins words queue) us → (u : QueueUse) → One (held_after (begins words queue) us) u → let s = after_all (opened (begun device) (made_queue k)) (calls_of us) in Tells s.world s.queue u
   -- demand 3 holds of the world that is held, and of the events of the definition's run
-  pub demand-3 : (us : List QueueUse) → Run (begins words queue) us → let s = after_all (opened (begun device) (made_queue k)) (calls_of us) in Demand3 (in_hand (held_after (begins words queue) us).device) s.story.events
+  pub demand_3 : (us : List QueueUse) → Run (begins words queue) us → let s = after_all (opened (begun device) (made_queue k)) (calls_of us) in Demand3 (in_hand (held_after (begins words queue) us).device) s.story.events

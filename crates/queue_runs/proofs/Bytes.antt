@@ -9,7 +9,7 @@ use native.Mathlib.Omega.{arith}
 use lib.Dec.{eqb}
 use lib.ListN.{length}
 use borrow.Author.Tests.{eqb-true}
-use Rattle.units.proofs.Tests.{by-test}
+use Rattle.units.proofs.Tests.{by_test}
 use Rattle.little_endian.specs.Bytes.{part}
 use Rattle.rings.specs.Standard.{Apart, Before, Behind}
 use Rattle.step.specs.declared.Answer.{Answer}
@@ -21,7 +21,7 @@ use Rattle.step.specs.Step.{step}
 use Rattle.queue.specs.declared.Ending.TheVariants.{Stays, Used}
 use Rattle.queue.specs.Queue.{ending_of}
 use Rattle.standard.specs.Requests.{response_of, among, lent_by, status_for, ResponseWritten, Delivered}
-use Rattle.standard.proofs.Responses.{response-is-delivered, silence-writes-nothing}
+use Rattle.standard.proofs.Responses.{response_is_delivered, silence_writes_nothing}
 use Rattle.history.proofs.Shaped.{clash}
 
 -- as many bytes as before; none written but the response's, at its status address; and a used length of at most 10
@@ -46,7 +46,7 @@ module _ (w : World) (call : Call) (g : Guest) where
   said : (reply : Reply) (status : ℕ) (bytes : List ℕ) → status_for w call ≡ some status → Delivered g status reply bytes → Keeps w call g (Served reply) bytes
   unfolding response among
   said reply status bytes there d =
-      by-test (eqb 10 reply.used)
+      by_test (eqb 10 reply.used)
       (λ t.
       let ten : 10 ≡ reply.used = eqb-true 10 reply.used t in
       let written = d.whole (omega arith) in
@@ -58,13 +58,13 @@ module _ (w : World) (call : Call) (g : Guest) where
         short = λ len k. let same : reply.used ≡ len = cc in omega arith;
       })
       (λ t.
-      by-test (eqb 0 reply.used)
+      by_test (eqb 0 reply.used)
       (λ s. let zero : 0 ≡ reply.used = eqb-true 0 reply.used s in unwritten (Served reply) bytes (λ len k. let same : reply.used ≡ len = cc in omega arith) (d.nothing (omega arith)))
       (λ s. clash d.no_other (rw (t, s))))
     where
       apart : (i : ℕ) → ResponseWritten g status reply.response bytes → Apart i (status - g.base) 10 → part bytes i 1 ≡ part g.mem i 1
-      apart i written (Before h) = written.same-before i 1 (omega arith)
-      apart i written (Behind h) = written.same-behind i 1 h
+      apart i written (Before h) = written.same_before i 1 (omega arith)
+      apart i written (Behind h) = written.same_behind i 1 h
 
   keeps : (a : Answer) (bytes : List ℕ) → (response_of a ≡ none → bytes ≡ g.mem)
       → ((reply : Reply) → a ≡ Served reply → (status : ℕ) × (status_for w call ≡ some status) × Delivered g status reply bytes) → Keeps w call g a bytes
@@ -77,16 +77,16 @@ module _ (w : World) (call : Call) (g : Guest) where
   keeps Done bytes quiet says = unwritten Done bytes stays (quiet refl)
 
 module _ (w : World) (g : Guest) where
-  pub request-keeps : (descriptors head : ℕ) → let o = step w (Request g descriptors head) in Keeps w (Request g descriptors head) g o.answer o.bytes
+  pub request_keeps : (descriptors head : ℕ) → let o = step w (Request g descriptors head) in Keeps w (Request g descriptors head) g o.answer o.bytes
   unfolding lent_by
-  request-keeps descriptors head =
+  request_keeps descriptors head =
       let o = step w (Request g descriptors head) in
-      keeps w (Request g descriptors head) g o.answer o.bytes ((silence-writes-nothing w g).0 descriptors head)
-      (λ reply e. let r = response-is-delivered w (Request g descriptors head) reply e in (r.status, r.goes_to, r.delivered))
+      keeps w (Request g descriptors head) g o.answer o.bytes ((silence_writes_nothing w g).0 descriptors head)
+      (λ reply e. let r = response_is_delivered w (Request g descriptors head) reply e in (r.status, r.goes_to, r.delivered))
 
   pub answer_keeps : (ok : Bool) (host : ℕ) → let o = step w (HostAnswer g ok host) in Keeps w (HostAnswer g ok host) g o.answer o.bytes
   unfolding lent_by
   answer_keeps ok host =
       let o = step w (HostAnswer g ok host) in
-      keeps w (HostAnswer g ok host) g o.answer o.bytes ((silence-writes-nothing w g).1 ok host)
-      (λ reply e. let r = response-is-delivered w (HostAnswer g ok host) reply e in (r.status, r.goes_to, r.delivered))
+      keeps w (HostAnswer g ok host) g o.answer o.bytes ((silence_writes_nothing w g).1 ok host)
+      (λ reply e. let r = response_is_delivered w (HostAnswer g ok host) reply e in (r.status, r.goes_to, r.delivered))

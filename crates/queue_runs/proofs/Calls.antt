@@ -5,7 +5,7 @@ use mathlib.Core.Path.{◌≡◌, refl, ◌∙◌, sym}
 use mathlib.Core.List.{List, [], ◌∷◌, ◌++◌}
 use lib.Dec.{eqb}
 use lib.ListN.{length}
-use Rattle.units.proofs.Tests.{by-test}
+use Rattle.units.proofs.Tests.{by_test}
 use Rattle.rings.specs.declared.Queue.{Queue}
 use Rattle.rings.specs.declared.Taken.{Taken}
 use Rattle.rings.specs.declared.Taken.TheVariants.{Nothing, Head}
@@ -15,32 +15,32 @@ use Rattle.step.specs.World.{World, Guest, Call, HostAnswer}
 use Rattle.step.specs.Step.{step}
 use Rattle.queue.specs.Queue.{QueueOutcome, takes, next_of, answer_refusal, answers, unless_refused}
 use Rattle.history.specs.History.{Story, next, after}
-use Rattle.history.specs.Reached.{by-restore}
-use Rattle.history.proofs.Good.{reached-good}
-use Rattle.history.proofs.Demand3.{reached-after}
-use Rattle.queue_runs.specs.Runs.{QueueCall, TakeNext, Host, PastIt, queue_step, requests_of, device_calls, QueueStory, next_story, after_all, QueueReached, on-new-queue, on_call, on-restore, FromEveryQueue}
+use Rattle.history.specs.Reached.{by_restore}
+use Rattle.history.proofs.Good.{reached_good}
+use Rattle.history.proofs.Demand3.{reached_after}
+use Rattle.queue_runs.specs.Runs.{QueueCall, TakeNext, Host, PastIt, queue_step, requests_of, device_calls, QueueStory, next_story, after_all, QueueReached, on_new_queue, on_call, on_restore, FromEveryQueue}
 use Rattle.queue_runs.specs.Rules.{AsCalls, NoneOrOne, all_calls, RunsTheDevice, LiftsRules}
 
 module _ (w : World) where
   taken : (x : Next) (q : Queue) (g : Guest) → AsCalls w (requests_of x q g) (takes x w q g)
   unfolding takes requests_of AsCalls
-  taken (HasHead h) q g = record { same-world = refl; same_answer = refl }
+  taken (HasHead h) q g = record { same_world = refl; same_answer = refl }
   taken HasNone q g = refl
   taken (HasRefused n) q g = refl
 
   heard : (c : Call) (t : Taken) (q : Queue) (base : ℕ) → AsCalls w (c ∷ []) (answers t q base (step w c))
   unfolding answers AsCalls
-  heard c Nothing q base = record { same-world = refl; same_answer = refl }
-  heard c (Head h) q base = record { same-world = refl; same_answer = refl }
+  heard c Nothing q base = record { same_world = refl; same_answer = refl }
+  heard c (Head h) q base = record { same_world = refl; same_answer = refl }
 
-pub none-or-one : FromEveryQueue NoneOrOne
+pub none_or_one : FromEveryQueue NoneOrOne
 unfolding queue_step device_calls unless_refused AsCalls
-none-or-one w q (TakeNext g) = taken w (next_of w q g) q g
-none-or-one w q (Host g ok host) =
-    by-test (eqb (answer_refusal w.device q (length w.blocks) (length w.rows) g) 0)
+none_or_one w q (TakeNext g) = taken w (next_of w q g) q g
+none_or_one w q (Host g ok host) =
+    by_test (eqb (answer_refusal w.device q (length w.blocks) (length w.rows) g) 0)
     (λ t. rw t (heard w (HostAnswer g ok host) q.taken q g.base))
     (λ t. rw t)
-none-or-one w q (PastIt b) = record { same-world = refl; same_answer = refl }
+none_or_one w q (PastIt b) = record { same_world = refl; same_answer = refl }
 
 -- ---- over any calls
 pub after_both : (s : Story) (cs ds : List Call) → after s (cs ++ ds) ≡ after (after s cs) ds
@@ -55,41 +55,41 @@ same_after s (c ∷ cs) =
     same_after (next_story s c) cs ∙ sym (after_both s.story (device_calls s.world s.queue c) (all_calls (next_story s c) cs))
 
 -- the world that the calls of the device leave is that of the call
-leaves-world : (s : Story) (calls : List Call) (o : QueueOutcome) → AsCalls s.world calls o → (after s calls).world ≡ o.world
+leaves_world : (s : Story) (calls : List Call) (o : QueueOutcome) → AsCalls s.world calls o → (after s calls).world ≡ o.world
 unfolding after next AsCalls
-leaves-world s [] o e = sym e
-leaves-world s (call ∷ []) o a = sym a.same-world
-leaves-world s (call ∷ more ∷ calls) o a = absurd a
+leaves_world s [] o e = sym e
+leaves_world s (call ∷ []) o a = sym a.same_world
+leaves_world s (call ∷ more ∷ calls) o a = absurd a
 
-next-world : (s : QueueStory) (c : QueueCall) → s.story.world ≡ s.world → (next_story s c).story.world ≡ (next_story s c).world
+next_world : (s : QueueStory) (c : QueueCall) → s.story.world ≡ s.world → (next_story s c).story.world ≡ (next_story s c).world
 unfolding next_story
-next-world s c e =
-    leaves-world s.story (device_calls s.world s.queue c) (queue_step s.world s.queue c)
-    (rw e (none-or-one s.world s.queue c))
+next_world s c e =
+    leaves_world s.story (device_calls s.world s.queue c) (queue_step s.world s.queue c)
+    (rw e (none_or_one s.world s.queue c))
 
-pub same-worlds : (s : QueueStory) (cs : List QueueCall) → s.story.world ≡ s.world → (after_all s cs).story.world ≡ (after_all s cs).world
+pub same_worlds : (s : QueueStory) (cs : List QueueCall) → s.story.world ≡ s.world → (after_all s cs).story.world ≡ (after_all s cs).world
 unfolding after_all
-same-worlds s [] e = e
-same-worlds s (c ∷ cs) e = same-worlds (next_story s c) cs (next-world s c e)
+same_worlds s [] e = e
+same_worlds s (c ∷ cs) e = same_worlds (next_story s c) cs (next_world s c e)
 
-pub runs-the-device : RunsTheDevice
+pub runs_the_device : RunsTheDevice
 unfolding next_story
-runs-the-device s (on-new-queue r idle new) = record { reached = r; same-world = refl }
-runs-the-device s (on_call {s = before} r c) =
-    let h = runs-the-device before r in
+runs_the_device s (on_new_queue r idle new) = record { reached = r; same_world = refl }
+runs_the_device s (on_call {s = before} r c) =
+    let h = runs_the_device before r in
     record {
-      reached = reached-after before.story h.reached (device_calls before.world before.queue c);
-      same-world = next-world before c h.same-world;
+      reached = reached_after before.story h.reached (device_calls before.world before.queue c);
+      same_world = next_world before c h.same_world;
     }
-runs-the-device s (on-restore {s = before} {requested} {plugs} r l) =
-    let h = runs-the-device before r in
-    record { reached = rw h.same-world at (by-restore {requested = requested} {plugs = plugs} h.reached (rw h.same-world l)); same-world = refl }
+runs_the_device s (on_restore {s = before} {requested} {plugs} r l) =
+    let h = runs_the_device before r in
+    record { reached = rw h.same_world at (by_restore {requested = requested} {plugs = plugs} h.reached (rw h.same_world l)); same_world = refl }
 
-pub lifts-rules : LiftsRules
-lifts-rules P rule s r c call = rule s.story (reached-good s.story (runs-the-device s r).reached) call
+pub lifts_rules : LiftsRules
+lifts_rules P rule s r c call = rule s.story (reached_good s.story (runs_the_device s r).reached) call
 
 -- calls go on from what is reached
-pub reached-after-all : (s : QueueStory) → QueueReached s → (cs : List QueueCall) → QueueReached (after_all s cs)
+pub reached_after_all : (s : QueueStory) → QueueReached s → (cs : List QueueCall) → QueueReached (after_all s cs)
 unfolding after_all
-reached-after-all s r [] = r
-reached-after-all s r (c ∷ cs) = reached-after-all (next_story s c) (on_call r c) cs
+reached_after_all s r [] = r
+reached_after_all s r (c ∷ cs) = reached_after_all (next_story s c) (on_call r c) cs

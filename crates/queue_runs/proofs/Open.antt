@@ -24,10 +24,10 @@ use Rattle.queue.specs.declared.Ending.TheVariants.{Stays, Out, Used}
 use Rattle.queue.specs.Queue.{QueueOutcome, took_head, discarding, ending_of, queue_by, takes, answer_refusal, answers, unless_refused}
 use Rattle.history.proofs.Shaped.{clash}
 use Rattle.history.proofs.Cases.{by_cond}
-use Rattle.queue_runs.specs.Runs.{Beside, Placing, Sizing, Reading, Writing, beside_call, QueueCall, TakeNext, Host, PastIt, queue_step, next_story, on-new-queue, on_call, on-restore, InEveryQueueRun}
-use Rattle.queue_runs.proofs.Cases.{next-cases}
+use Rattle.queue_runs.specs.Runs.{Beside, Placing, Sizing, Reading, Writing, beside_call, QueueCall, TakeNext, Host, PastIt, queue_step, next_story, on_new_queue, on_call, on_restore, InEveryQueueRun}
+use Rattle.queue_runs.proofs.Cases.{next_cases}
 use Rattle.history.specs.History.{Event}
-use Rattle.history.proofs.Calls.{Endings, each-call}
+use Rattle.history.proofs.Calls.{Endings, each_call}
 use Rattle.queue_runs.specs.Heads.{is_out, OutWhileOpen}
 
 -- what `OutWhileOpen` says of where the device and the queue stand
@@ -48,15 +48,15 @@ opens_by (HostAnswer g ok host) before a = cond before (out_by (ending_of a) bef
 opens_by (ReadConfig offset buffer) before a = before
 opens_by (WriteConfig offset buffer) before a = before
 
-refused-keeps : (c : Call) (before : Bool) (n : ℕ) → before ≡ opens_by c before (Refused n)
+refused_keeps : (c : Call) (before : Bool) (n : ℕ) → before ≡ opens_by c before (Refused n)
 unfolding opens_by out_by
-refused-keeps (Place at size slots blocks rows) before n = refl
-refused-keeps (SetRequestedSize mib) before n = refl
-refused-keeps (Request g table head) before n = refl
-refused-keeps (HostAnswer g ok host) true n = refl
-refused-keeps (HostAnswer g ok host) false n = refl
-refused-keeps (ReadConfig offset buffer) before n = refl
-refused-keeps (WriteConfig offset buffer) before n = refl
+refused_keeps (Place at size slots blocks rows) before n = refl
+refused_keeps (SetRequestedSize mib) before n = refl
+refused_keeps (Request g table head) before n = refl
+refused_keeps (HostAnswer g ok host) true n = refl
+refused_keeps (HostAnswer g ok host) false n = refl
+refused_keeps (ReadConfig offset buffer) before n = refl
+refused_keeps (WriteConfig offset buffer) before n = refl
 
 quiet : (p : Pending) → is_idle p ≡ true → discarding p ≡ false
 quiet Idle e = refl
@@ -73,34 +73,34 @@ module _ (w : World) where
   opens =
       let p = w.device.pending in
       record {
-        refuses = λ c n _ _. refused-keeps c (discarding p) n;
+        refuses = λ c n _ _. refused_keeps c (discarding p) n;
         reads = λ offset buffer bytes. refl;
         writes = λ offset buffer. refl;
-        unserves = λ a reason. quiet p a.entry.is-idle;
-        responds = λ a resp. quiet p a.entry.is-idle;
-        plugs-range = λ a addr count first offset _ _. quiet p a.entry.is-idle;
-        asks-range = λ a addr count first offset host _ _ _. refl;
+        unserves = λ a reason. quiet p a.entry.pending_is_idle;
+        responds = λ a resp. quiet p a.entry.pending_is_idle;
+        plugs_range = λ a addr count first offset _ _. quiet p a.entry.pending_is_idle;
+        asks_range = λ a addr count first offset host _ _ _. refl;
         spoils = λ a addr count first offset _ _. refl;
-        ends-at-once = λ a _. refl;
-        asks-first = λ a block offset host _ _. refl;
-        stops-at-once = λ a. refl;
+        ends_at_once = λ a _. refl;
+        asks_first = λ a block offset host _ _. refl;
+        stops_at_once = λ a. refl;
         maps = λ i last a. rw a.waits;
-        create-fails = λ i last a. rw a.waits;
-        unplugs-range = λ first count status a. rw a.waits;
-        discard-fails = λ first count status a. rw a.waits;
-        ends-all = λ j status a _. rw a.waits;
-        asks-next = λ j status a block offset host _ _. rw a.waits;
-        stops-after = λ j status a. rw a.waits;
-        one-fails = λ j status a. rw a.waits;
+        create_fails_lem = λ i last a. rw a.waits;
+        unplugs_range = λ first count status a. rw a.waits;
+        discard_fails = λ first count status a. rw a.waits;
+        ends_all_lem = λ j status a _. rw a.waits;
+        asks_next = λ j status a block offset host _ _. rw a.waits;
+        stops_after = λ j status a. rw a.waits;
+        one_fails = λ j status a. rw a.waits;
         resizes = λ a. refl;
-        resize-asks = λ a i last size _. sym (quiet p a.entry.is-idle);
+        resize_asks = λ a i last size _. sym (quiet p a.entry.pending_is_idle);
         places = λ a. refl;
-        place-asks = λ a i last size _. sym (quiet p a.entry.is-idle);
-        place-asks-whole = λ a _. sym (quiet p a.entry.is-idle);
+        place_asks = λ a i last size _. sym (quiet p a.entry.pending_is_idle);
+        place_asks_whole = λ a _. sym (quiet p a.entry.pending_is_idle);
       }
 
-  device-opens : (c : Call) → Opens c (step w c) []
-  device-opens c = each-call w Opens opens c
+  device_opens : (c : Call) → Opens c (step w c) []
+  device_opens c = each_call w Opens opens c
 
   -- ---- each call on the queue
   module _ (q : Queue) where
@@ -111,50 +111,50 @@ module _ (w : World) where
     taken_out head Out = refl
     taken_out head (Used len) = refl
 
-    still-out : (head : ℕ) → q.taken ≡ Head head → (e : Ending) → is_out (queue_by e q q).taken ≡ out_by e true
+    still_out : (head : ℕ) → q.taken ≡ Head head → (e : Ending) → is_out (queue_by e q q).taken ≡ out_by e true
     unfolding queue_by out_by is_out
-    still-out head out Stays = rw out
-    still-out head out Out = rw out
-    still-out head out (Used len) = refl
+    still_out head out Stays = rw out
+    still_out head out Out = rw out
+    still_out head out (Used len) = refl
 
     module _ (h : OutThen w q) where
-      head-kept : (g : Guest) (x : Next) → OutThen (takes x w q g).world (takes x w q g).queue
+      head_kept : (g : Guest) (x : Next) → OutThen (takes x w q g).world (takes x w q g).queue
       unfolding takes opens_by
-      head-kept g HasNone = h
-      head-kept g (HasRefused n) = h
-      head-kept g (HasHead head) =
+      head_kept g HasNone = h
+      head_kept g (HasRefused n) = h
+      head_kept g (HasHead head) =
           let c = Request g q.descriptors.0 head in
-          rw (taken_out head (ending_of (step w c).answer), h) (sym (device-opens c))
+          rw (taken_out head (ending_of (step w c).answer), h) (sym (device_opens c))
 
-      heard-kept : (g : Guest) (ok : Bool) (host : ℕ) (t : Taken) → q.taken ≡ t → let o = answers t q g.base (step w (HostAnswer g ok host)) in OutThen o.world o.queue
+      heard_kept : (g : Guest) (ok : Bool) (host : ℕ) (t : Taken) → q.taken ≡ t → let o = answers t q g.base (step w (HostAnswer g ok host)) in OutThen o.world o.queue
       unfolding answers opens_by is_out
-      heard-kept g ok host Nothing e =
+      heard_kept g ok host Nothing e =
           let z : discarding w.device.pending ≡ false = rw e at (sym h) in
-          rw e (sym (rw z at (device-opens (HostAnswer g ok host))))
-      heard-kept g ok host (Head head) e =
+          rw e (sym (rw z at (device_opens (HostAnswer g ok host))))
+      heard_kept g ok host (Head head) e =
           let c = HostAnswer g ok host in
           let z : discarding w.device.pending ≡ true = rw e at (sym h) in
-          rw (still-out head e (ending_of (step w c).answer)) (sym (rw z at (device-opens c)))
+          rw (still_out head e (ending_of (step w c).answer)) (sym (rw z at (device_opens c)))
 
-      beside-kept : (b : Beside) → discarding (step w (beside_call b)).world.device.pending ≡ discarding w.device.pending
+      beside_kept : (b : Beside) → discarding (step w (beside_call b)).world.device.pending ≡ discarding w.device.pending
       unfolding beside_call opens_by
-      beside-kept (Placing at size slots bs rows) = device-opens (Place at size slots bs rows)
-      beside-kept (Sizing mib) = device-opens (SetRequestedSize mib)
-      beside-kept (Reading offset buffer) = device-opens (ReadConfig offset buffer)
-      beside-kept (Writing offset buffer) = device-opens (WriteConfig offset buffer)
+      beside_kept (Placing at size slots bs rows) = device_opens (Place at size slots bs rows)
+      beside_kept (Sizing mib) = device_opens (SetRequestedSize mib)
+      beside_kept (Reading offset buffer) = device_opens (ReadConfig offset buffer)
+      beside_kept (Writing offset buffer) = device_opens (WriteConfig offset buffer)
 
       kept : (c : QueueCall) → OutThen (queue_step w q c).world (queue_step w q c).queue
       unfolding queue_step unless_refused
-      kept (TakeNext g) = next-cases w q g (λ x. OutThen (takes x w q g).world (takes x w q g).queue) (λ n. head-kept g (HasRefused n)) (λ _. head-kept g (next_head g.mem g.base q))
+      kept (TakeNext g) = next_cases w q g (λ x. OutThen (takes x w q g).world (takes x w q g).queue) (λ n. head_kept g (HasRefused n)) (λ _. head_kept g (next_head g.mem g.base q))
       kept (Host g ok host) =
           by_cond (λ (o : QueueOutcome). OutThen o.world o.queue) (eqb (answer_refusal w.device q (length w.blocks) (length w.rows) g) 0) _ _
-          (λ t. heard-kept g ok host q.taken refl)
+          (λ t. heard_kept g ok host q.taken refl)
           (λ t. h)
-      kept (PastIt b) = h ∙ sym (beside-kept b)
+      kept (PastIt b) = h ∙ sym (beside_kept b)
 
 -- ---- in every run
-pub out-while-open : InEveryQueueRun OutWhileOpen
+pub out_while_open : InEveryQueueRun OutWhileOpen
 unfolding is_out next_story
-out-while-open s (on-new-queue {s = device} r idle new) c = rw new.none_out (sym (quiet device.world.device.pending idle))
-out-while-open s (on_call {s = before} r last) c = kept before.world before.queue (out-while-open before r last) last
-out-while-open s (on-restore r l) c = out-while-open _ r c
+out_while_open s (on_new_queue {s = device} r idle new) c = rw new.none_out (sym (quiet device.world.device.pending idle))
+out_while_open s (on_call {s = before} r last) c = kept before.world before.queue (out_while_open before r last) last
+out_while_open s (on_restore r l) c = out_while_open _ r c

@@ -18,9 +18,9 @@ use Rattle.queue.specs.declared.Ending.{Ending}
 use Rattle.queue.specs.declared.Ending.TheVariants.{Stays, Out, Used}
 use Rattle.queue.specs.Queue.{QueueOutcome, took_head, queue_by, ending_of, takes, answer_refusal, answers, unless_refused}
 use Rattle.history.proofs.Cases.{by_cond}
-use Rattle.queue_runs.specs.Runs.{QueueCall, TakeNext, Host, PastIt, queue_step, ending_told, taken_by, used_by, head_of, out_of, newly_taken, newly_reported, QueueStory, next_story, on-new-queue, on_call, on-restore, InEveryQueueRun}
+use Rattle.queue_runs.specs.Runs.{QueueCall, TakeNext, Host, PastIt, queue_step, ending_told, taken_by, used_by, head_of, out_of, newly_taken, newly_reported, QueueStory, next_story, on_new_queue, on_call, on_restore, InEveryQueueRun}
 use Rattle.queue_runs.specs.Heads.{InOrder}
-use Rattle.queue_runs.proofs.Cases.{next-cases}
+use Rattle.queue_runs.proofs.Cases.{next_cases}
 
 -- a call took and reported these: which head is out before and after it, and the two indices
 pub record Moves (t : Taken) (a u : ℕ) (took gave : List ℕ) (t' : Taken) (a' u' : ℕ) : Type 0 where
@@ -45,18 +45,18 @@ still t a u = record { order = append-nil (out_of t); available = same_index a; 
 -- ---- what a head's ending moves
 module _ (q : Queue) (head : ℕ) where
   -- one that is taken, where none is out
-  taken-moves : q.taken ≡ Nothing → (e : Ending) → MovesTo q (taken_by e (head ∷ [])) (used_by e (head ∷ [])) (queue_by e q (took_head q head))
+  taken_moves : q.taken ≡ Nothing → (e : Ending) → MovesTo q (taken_by e (head ∷ [])) (used_by e (head ∷ [])) (queue_by e q (took_head q head))
   unfolding taken_by used_by queue_by out_of
-  taken-moves none Stays = still _ _ _
-  taken-moves none Out = record { order = rw none; available = one_more q.next_available; used = same_index q.next_used }
-  taken-moves none (Used len) = record { order = rw none; available = one_more q.next_available; used = one_more q.next_used }
+  taken_moves none Stays = still _ _ _
+  taken_moves none Out = record { order = rw none; available = one_more q.next_available; used = same_index q.next_used }
+  taken_moves none (Used len) = record { order = rw none; available = one_more q.next_available; used = one_more q.next_used }
 
   -- one that was out
-  out-moves : q.taken ≡ Head head → (e : Ending) → MovesTo q [] (used_by e (head ∷ [])) (queue_by e q q)
+  out_moves : q.taken ≡ Head head → (e : Ending) → MovesTo q [] (used_by e (head ∷ [])) (queue_by e q q)
   unfolding used_by queue_by out_of
-  out-moves out Stays = still _ _ _
-  out-moves out Out = still _ _ _
-  out-moves out (Used len) = record { order = rw out; available = same_index q.next_available; used = one_more q.next_used }
+  out_moves out Stays = still _ _ _
+  out_moves out Out = still _ _ _
+  out_moves out (Used len) = record { order = rw out; available = same_index q.next_available; used = one_more q.next_used }
 
 -- of no head none is taken and none reported
 taken_none : (e : Ending) → taken_by e [] ≡ []
@@ -65,11 +65,11 @@ taken_none Stays = refl
 taken_none Out = refl
 taken_none (Used len) = refl
 
-used-none : (e : Ending) → used_by e [] ≡ []
+used_none : (e : Ending) → used_by e [] ≡ []
 unfolding used_by
-used-none Stays = refl
-used-none Out = refl
-used-none (Used len) = refl
+used_none Stays = refl
+used_none Out = refl
+used_none (Used len) = refl
 
 -- ---- each call
 module _ (w : World) (q : Queue) where
@@ -78,21 +78,21 @@ module _ (w : World) (q : Queue) where
   Takes g there x =
       let e = ending_told (takes x w q g).answer in MovesTo q (taken_by e (head_of there)) (used_by e (head_of there)) (takes x w q g).queue
 
-  head-moves : (g : Guest) → q.taken ≡ Nothing → (x : Next) → Takes g x x
+  head_moves : (g : Guest) → q.taken ≡ Nothing → (x : Next) → Takes g x x
   unfolding takes ending_told taken_by used_by head_of
-  head-moves g none HasNone = still _ _ _
-  head-moves g none (HasRefused n) = still _ _ _
-  head-moves g none (HasHead h) = taken-moves q h none (ending_of (step w (Request g q.descriptors.0 h)).answer)
+  head_moves g none HasNone = still _ _ _
+  head_moves g none (HasRefused n) = still _ _ _
+  head_moves g none (HasHead h) = taken_moves q h none (ending_of (step w (Request g q.descriptors.0 h)).answer)
 
-  refused-moves : (g : Guest) (there : Next) (n : ℕ) → Takes g there (HasRefused n)
+  refused_moves : (g : Guest) (there : Next) (n : ℕ) → Takes g there (HasRefused n)
   unfolding takes ending_told taken_by used_by
-  refused-moves g there n = still _ _ _
+  refused_moves g there n = still _ _ _
 
   -- a host's answer that the device hears
-  heard-moves : (t : Taken) → q.taken ≡ t → (base : ℕ) (o : Outcome) → MovesTo q [] (used_by (ending_told (answers t q base o).answer) (out_of t)) (answers t q base o).queue
+  heard_moves : (t : Taken) → q.taken ≡ t → (base : ℕ) (o : Outcome) → MovesTo q [] (used_by (ending_told (answers t q base o).answer) (out_of t)) (answers t q base o).queue
   unfolding answers ending_told out_of
-  heard-moves Nothing e base o = rw (used-none (ending_of o.answer)) (still _ _ _)
-  heard-moves (Head h) e base o = out-moves q h e (ending_of o.answer)
+  heard_moves Nothing e base o = rw (used_none (ending_of o.answer)) (still _ _ _)
+  heard_moves (Head h) e base o = out_moves q h e (ending_of o.answer)
 
   abbrev Moved : QueueCall → QueueOutcome → Type 0
   Moved c o = MovesTo q (newly_taken q c o.answer) (newly_reported q c o.answer) o.queue
@@ -101,10 +101,10 @@ module _ (w : World) (q : Queue) where
   unfolding queue_step newly_taken newly_reported unless_refused ending_told used_by
   moves (TakeNext g) =
       let there = next_head g.mem g.base q in
-      next-cases w q g (Takes g there) (refused-moves g there) (λ r. head-moves g r.none_out there)
+      next_cases w q g (Takes g there) (refused_moves g there) (λ r. head_moves g r.none_out there)
   moves (Host g ok host) =
       by_cond (Moved (Host g ok host)) (eqb (answer_refusal w.device q (length w.blocks) (length w.rows) g) 0) _ _
-      (λ t. heard-moves q.taken refl g.base (step w (HostAnswer g ok host)))
+      (λ t. heard_moves q.taken refl g.base (step w (HostAnswer g ok host)))
       (λ t. still _ _ _)
   moves (PastIt b) = still _ _ _
 
@@ -122,12 +122,12 @@ kept s c next h =
           ∙ ap (λ (l : List ℕ). s.reports ++ l) (sym m.order)
           ∙ sym (append_assoc s.reports (out_of s.queue.taken) took)
           ∙ ap (λ (l : List ℕ). l ++ took) h.in_order;
-      available-index = rw (length-append s.taken took) (m.available (length s.taken) h.available-index);
-      used-index = rw (length-append s.reports gave) (m.used (length s.reports) h.used-index);
+      index_available = rw (length-append s.taken took) (m.available (length s.taken) h.index_available);
+      index_used = rw (length-append s.reports gave) (m.used (length s.reports) h.index_used);
     }
 
 pub in_order : InEveryQueueRun InOrder
 unfolding out_of
-in_order s (on-new-queue r idle new) c = record { in_order = rw new.none_out; available-index = rw new.available-first; used-index = rw new.used-first }
+in_order s (on_new_queue r idle new) c = record { in_order = rw new.none_out; index_available = rw new.available_first; index_used = rw new.used_first }
 in_order s (on_call {s = before} r last) c = kept before last c (in_order before r last)
-in_order s (on-restore {s = before} r l) c = let h = in_order before r c in record { in_order = h.in_order; available-index = h.available-index; used-index = h.used-index }
+in_order s (on_restore {s = before} r l) c = let h = in_order before r c in record { in_order = h.in_order; index_available = h.index_available; index_used = h.index_used }

@@ -8,7 +8,7 @@ use native.Mathlib.Omega.{arith}
 use lib.Dec.{eqb}
 use lib.ListN.{length}
 use borrow.Author.Tests.{eqb-true, eqb-false}
-use Rattle.units.proofs.Tests.{by-test}
+use Rattle.units.proofs.Tests.{by_test}
 use Rattle.rings.specs.declared.Queue.{Queue}
 use Rattle.rings.specs.declared.Taken.{Taken}
 use Rattle.rings.specs.declared.Taken.TheVariants.{Nothing, Head}
@@ -20,118 +20,118 @@ use Rattle.step.specs.Step.{step}
 use Rattle.queue.specs.declared.QueueAnswer.TheVariants.{Empty, Of}
 use Rattle.queue.specs.Queue.{QueueOutcome, took_head, queue_by, bytes_by, about, next_of, takes, answer_refusal, answers, unless_refused}
 use Rattle.history.specs.Refusals.{lent_bytes}
-use Rattle.history.proofs.Refusals.{refused-changes-nothing, ten-is-creation-failed}
+use Rattle.history.proofs.Refusals.{refused_changes_nothing, ten_is_creation_failed}
 use Rattle.history.proofs.Cases.{by_cond}
 use Rattle.queue_runs.specs.Runs.{Beside, Placing, Sizing, Reading, Writing, beside_call, QueueCall, TakeNext, Host, PastIt, queue_step, ending_told, taken_by, used_by, newly_taken, newly_reported, FromEveryQueue}
 use Rattle.queue_runs.specs.Heads.{beside_bytes, bytes_to, RefusedTakesNone, RefusedMovesNothing, EmptyMovesNothing}
 
 -- ---- what a call that is refused leaves, by the device's own
-refused-bytes : (w : World) (call : Call) (n : ℕ) → (step w call).answer ≡ Refused n → (step w call).bytes ≡ lent_bytes call
-refused-bytes w call n e =
-    by-test (eqb n 10)
-    (λ t. (ten-is-creation-failed w call (rw (eqb-true n 10 t) at e)).same_bytes)
-    (λ t. (refused-changes-nothing w call n e (eqb-false n 10 t)).1)
+refused_bytes : (w : World) (call : Call) (n : ℕ) → (step w call).answer ≡ Refused n → (step w call).bytes ≡ lent_bytes call
+refused_bytes w call n e =
+    by_test (eqb n 10)
+    (λ t. (ten_is_creation_failed w call (rw (eqb-true n 10 t) at e)).same_bytes)
+    (λ t. (refused_changes_nothing w call n e (eqb-false n 10 t)).1)
 
 -- nothing moves: the queue, the bytes, and the world unless the number is 10
 record Unmoved (w : World) (q : Queue) (bytes : List ℕ) (n : ℕ) (o : QueueOutcome) : Type 0 where
   pub same_queue : o.queue ≡ q
   pub same_bytes : o.bytes ≡ bytes
-  pub same-world : (n ≡ 10 → ⊥) → o.world ≡ w
+  pub same_world : (n ≡ 10 → ⊥) → o.world ≡ w
 
 abbrev IfRefused : World → Queue → (bytes : List ℕ) → QueueOutcome → Type 0
 IfRefused w q bytes o = (n : ℕ) → o.answer ≡ Of (Refused n) → Unmoved w q bytes n o
 
 module _ (w : World) (q : Queue) where
-  about-refused : (head base : ℕ) (out : Queue) (call : Call) → IfRefused w q (lent_bytes call) (about head base q out (step w call))
+  about_refused : (head base : ℕ) (out : Queue) (call : Call) → IfRefused w q (lent_bytes call) (about head base q out (step w call))
   unfolding queue_by bytes_by
-  about-refused head base out call n e =
+  about_refused head base out call n e =
       let f : (step w call).answer ≡ Refused n = cc in
-      record { same_queue = rw f; same_bytes = rw f (refused-bytes w call n f); same-world = λ k. (refused-changes-nothing w call n f k).0 }
+      record { same_queue = rw f; same_bytes = rw f (refused_bytes w call n f); same_world = λ k. (refused_changes_nothing w call n f k).0 }
 
   taken_refused : (g : Guest) (x : Next) → IfRefused w q g.mem (takes x w q g)
   unfolding takes lent_bytes
-  taken_refused g (HasHead h) = about-refused h g.base (took_head q h) (Request g q.descriptors.0 h)
-  taken_refused g HasNone = λ n e. record { same_queue = refl; same_bytes = refl; same-world = λ _. refl }
-  taken_refused g (HasRefused m) = λ n e. record { same_queue = refl; same_bytes = refl; same-world = λ _. refl }
+  taken_refused g (HasHead h) = about_refused h g.base (took_head q h) (Request g q.descriptors.0 h)
+  taken_refused g HasNone = λ n e. record { same_queue = refl; same_bytes = refl; same_world = λ _. refl }
+  taken_refused g (HasRefused m) = λ n e. record { same_queue = refl; same_bytes = refl; same_world = λ _. refl }
 
-  heard-refused : (g : Guest) (ok : Bool) (host : ℕ) (t : Taken) → IfRefused w q g.mem (answers t q g.base (step w (HostAnswer g ok host)))
+  heard_refused : (g : Guest) (ok : Bool) (host : ℕ) (t : Taken) → IfRefused w q g.mem (answers t q g.base (step w (HostAnswer g ok host)))
   unfolding answers lent_bytes
-  heard-refused g ok host Nothing = λ n e.
+  heard_refused g ok host Nothing = λ n e.
       let call = HostAnswer g ok host in
       let f : (step w call).answer ≡ Refused n = cc in
-      record { same_queue = refl; same_bytes = refused-bytes w call n f; same-world = λ k. (refused-changes-nothing w call n f k).0 }
-  heard-refused g ok host (Head h) = about-refused h g.base q (HostAnswer g ok host)
+      record { same_queue = refl; same_bytes = refused_bytes w call n f; same_world = λ k. (refused_changes_nothing w call n f k).0 }
+  heard_refused g ok host (Head h) = about_refused h g.base q (HostAnswer g ok host)
 
-  same-lent : (b : Beside) → lent_bytes (beside_call b) ≡ beside_bytes b
+  same_lent : (b : Beside) → lent_bytes (beside_call b) ≡ beside_bytes b
   unfolding lent_bytes beside_call beside_bytes
-  same-lent (Placing at size slots blocks rows) = refl
-  same-lent (Sizing mib) = refl
-  same-lent (Reading offset buffer) = refl
-  same-lent (Writing offset buffer) = refl
+  same_lent (Placing at size slots blocks rows) = refl
+  same_lent (Sizing mib) = refl
+  same_lent (Reading offset buffer) = refl
+  same_lent (Writing offset buffer) = refl
 
   unmoved : (c : QueueCall) → IfRefused w q (bytes_to c) (queue_step w q c)
   unfolding queue_step unless_refused bytes_to
   unmoved (TakeNext g) = taken_refused g (next_of w q g)
   unmoved (Host g ok host) =
       by_cond (IfRefused w q g.mem) (eqb (answer_refusal w.device q (length w.blocks) (length w.rows) g) 0) _ _
-      (λ _. heard-refused g ok host q.taken)
-      (λ _ n e. record { same_queue = refl; same_bytes = refl; same-world = λ _. refl })
+      (λ _. heard_refused g ok host q.taken)
+      (λ _ n e. record { same_queue = refl; same_bytes = refl; same_world = λ _. refl })
   unmoved (PastIt b) = λ n e.
       let f : (step w (beside_call b)).answer ≡ Refused n = cc in
-      record { same_queue = refl; same_bytes = refused-bytes w (beside_call b) n f ∙ same-lent b; same-world = λ k. (refused-changes-nothing w (beside_call b) n f k).0 }
+      record { same_queue = refl; same_bytes = refused_bytes w (beside_call b) n f ∙ same_lent b; same_world = λ k. (refused_changes_nothing w (beside_call b) n f k).0 }
 
 -- ---- no head is taken, none is reported
-none-of-refused : (q : Queue) (c : QueueCall) (n : ℕ) → (newly_taken q c (Of (Refused n)) ≡ []) × (newly_reported q c (Of (Refused n)) ≡ [])
+none_of_refused : (q : Queue) (c : QueueCall) (n : ℕ) → (newly_taken q c (Of (Refused n)) ≡ []) × (newly_reported q c (Of (Refused n)) ≡ [])
 unfolding newly_taken newly_reported ending_told taken_by used_by
-none-of-refused q (TakeNext g) n = (refl, refl)
-none-of-refused q (Host g ok host) n = (refl, refl)
-none-of-refused q (PastIt b) n = (refl, refl)
+none_of_refused q (TakeNext g) n = (refl, refl)
+none_of_refused q (Host g ok host) n = (refl, refl)
+none_of_refused q (PastIt b) n = (refl, refl)
 
-none-of-empty : (q : Queue) (c : QueueCall) → (newly_taken q c Empty ≡ []) × (newly_reported q c Empty ≡ [])
+none_of_empty : (q : Queue) (c : QueueCall) → (newly_taken q c Empty ≡ []) × (newly_reported q c Empty ≡ [])
 unfolding newly_taken newly_reported ending_told taken_by used_by
-none-of-empty q (TakeNext g) = (refl, refl)
-none-of-empty q (Host g ok host) = (refl, refl)
-none-of-empty q (PastIt b) = (refl, refl)
+none_of_empty q (TakeNext g) = (refl, refl)
+none_of_empty q (Host g ok host) = (refl, refl)
+none_of_empty q (PastIt b) = (refl, refl)
 
-pub refused-takes-none : FromEveryQueue RefusedTakesNone
-refused-takes-none w q c n e =
+pub refused_takes_none : FromEveryQueue RefusedTakesNone
+refused_takes_none w q c n e =
     let m = unmoved w q c n e in
-    (record { none-taken = rw e (none-of-refused q c n).0; none-reported = rw e (none-of-refused q c n).1; same_queue = m.same_queue }, m.same_bytes)
+    (record { none_taken = rw e (none_of_refused q c n).0; none_reported = rw e (none_of_refused q c n).1; same_queue = m.same_queue }, m.same_bytes)
 
-pub refused-moves-nothing : FromEveryQueue RefusedMovesNothing
-refused-moves-nothing w q c n e k = (unmoved w q c n e).same-world k
+pub refused_moves_nothing : FromEveryQueue RefusedMovesNothing
+refused_moves_nothing w q c n e k = (unmoved w q c n e).same_world k
 
 -- ---- an empty ring
 record Still (w : World) (q : Queue) (bytes : List ℕ) (o : QueueOutcome) : Type 0 where
   pub same_queue : o.queue ≡ q
   pub same_bytes : o.bytes ≡ bytes
-  pub same-world : o.world ≡ w
+  pub same_world : o.world ≡ w
 
 abbrev IfEmpty : World → Queue → (bytes : List ℕ) → QueueOutcome → Type 0
 IfEmpty w q bytes o = o.answer ≡ Empty → Still w q bytes o
 
 module _ (w : World) (q : Queue) where
-  empty-taken : (g : Guest) (x : Next) → IfEmpty w q g.mem (takes x w q g)
+  empty_taken : (g : Guest) (x : Next) → IfEmpty w q g.mem (takes x w q g)
   unfolding takes
-  empty-taken g (HasHead h) = λ e. let z : ◌≡◌ {A = ℕ} 0 1 = cc in absurd (omega arith)
-  empty-taken g HasNone = λ e. record { same_queue = refl; same_bytes = refl; same-world = refl }
-  empty-taken g (HasRefused m) = λ e. record { same_queue = refl; same_bytes = refl; same-world = refl }
+  empty_taken g (HasHead h) = λ e. let z : ◌≡◌ {A = ℕ} 0 1 = cc in absurd (omega arith)
+  empty_taken g HasNone = λ e. record { same_queue = refl; same_bytes = refl; same_world = refl }
+  empty_taken g (HasRefused m) = λ e. record { same_queue = refl; same_bytes = refl; same_world = refl }
 
-  empty-heard : (g : Guest) (o : Outcome) (t : Taken) → IfEmpty w q g.mem (answers t q g.base o)
+  empty_heard : (g : Guest) (o : Outcome) (t : Taken) → IfEmpty w q g.mem (answers t q g.base o)
   unfolding answers
-  empty-heard g o Nothing = λ e. let z : ◌≡◌ {A = ℕ} 0 1 = cc in absurd (omega arith)
-  empty-heard g o (Head h) = λ e. let z : ◌≡◌ {A = ℕ} 0 1 = cc in absurd (omega arith)
+  empty_heard g o Nothing = λ e. let z : ◌≡◌ {A = ℕ} 0 1 = cc in absurd (omega arith)
+  empty_heard g o (Head h) = λ e. let z : ◌≡◌ {A = ℕ} 0 1 = cc in absurd (omega arith)
 
   still : (c : QueueCall) → IfEmpty w q (bytes_to c) (queue_step w q c)
   unfolding queue_step unless_refused bytes_to
-  still (TakeNext g) = empty-taken g (next_of w q g)
+  still (TakeNext g) = empty_taken g (next_of w q g)
   still (Host g ok host) =
       by_cond (IfEmpty w q g.mem) (eqb (answer_refusal w.device q (length w.blocks) (length w.rows) g) 0) _ _
-      (λ _. empty-heard g (step w (HostAnswer g ok host)) q.taken)
-      (λ _ e. record { same_queue = refl; same_bytes = refl; same-world = refl })
+      (λ _. empty_heard g (step w (HostAnswer g ok host)) q.taken)
+      (λ _ e. record { same_queue = refl; same_bytes = refl; same_world = refl })
   still (PastIt b) = λ e. let z : ◌≡◌ {A = ℕ} 0 1 = cc in absurd (omega arith)
 
-pub empty-moves-nothing : FromEveryQueue EmptyMovesNothing
-empty-moves-nothing w q c e =
+pub empty_moves_nothing : FromEveryQueue EmptyMovesNothing
+empty_moves_nothing w q c e =
     let m = still w q c e in
-    (record { none-taken = rw e (none-of-empty q c).0; none-reported = rw e (none-of-empty q c).1; same_queue = m.same_queue }, m.same-world, m.same_bytes)
+    (record { none_taken = rw e (none_of_empty q c).0; none_reported = rw e (none_of_empty q c).1; same_queue = m.same_queue }, m.same_world, m.same_bytes)

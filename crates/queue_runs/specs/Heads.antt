@@ -18,8 +18,8 @@ pub record InOrder (s : QueueStory) (c : QueueCall) : Type 0 where
   -- the heads taken are those reported, in that order, and then the one that is out, if any
   pub in_order : s.reports ++ out_of s.queue.taken ≡ s.taken
   -- Q3: both indices count them, and wrap
-  pub available-index : s.queue.next_available ≡ length s.taken % 65536
-  pub used-index : s.queue.next_used ≡ length s.reports % 65536
+  pub index_available : s.queue.next_available ≡ length s.taken % 65536
+  pub index_used : s.queue.next_used ≡ length s.reports % 65536
 
 -- a head is out exactly while its request has not ended: the host is asked for a discard
 unfoldable pub is_out : Taken → Bool
@@ -48,8 +48,8 @@ NthReport = (s : QueueStory) (r : QueueReached s) → AllLendBytes r → (c : Qu
 
 -- ---- R13.9: a refused call takes none, and neither does one that finds the ring empty (R13.6)
 pub record TakesNone (w : World) (q : Queue) (c : QueueCall) (o : QueueOutcome) : Type 0 where
-  pub none-taken : newly_taken q c o.answer ≡ []
-  pub none-reported : newly_reported q c o.answer ≡ []
+  pub none_taken : newly_taken q c o.answer ≡ []
+  pub none_reported : newly_reported q c o.answer ≡ []
   pub same_queue : o.queue ≡ q
 
 -- the bytes that a call is lent: guest memory, or the buffer of a config read or write

@@ -14,7 +14,7 @@ use Rattle.queue_runs.specs.Runs.{Placing, Sizing, Reading, Writing, QueueCall, 
 
 -- ---- demand 2 (R18.2): a call makes none or one call of the device, leaves its world and tells its answer
 pub record IsCall (w : World) (o : QueueOutcome) (call : Call) : Type 0 where
-  pub same-world : o.world ≡ (step w call).world
+  pub same_world : o.world ≡ (step w call).world
   pub same_answer : o.answer ≡ Of (step w call).answer
 
 unfoldable pub AsCalls : World → List Call → QueueOutcome → Type 0
@@ -28,7 +28,7 @@ NoneOrOne w q c o = AsCalls w (device_calls w q c) o
 -- ---- a run on the queue is a run of the device, by the calls that `next_story` makes of it
 pub record IsRun (s : QueueStory) : Type 0 where
   pub reached : Reached s.story
-  pub same-world : s.story.world ≡ s.world
+  pub same_world : s.story.world ≡ s.world
 
 abbrev pub RunsTheDevice : Type 0
 RunsTheDevice = (s : QueueStory) → QueueReached s → IsRun s
@@ -95,18 +95,18 @@ EachAskedAnswered = (s : QueueStory) → QueueReached s → (cs : List QueueCall
     waits s.world.device.pending + asked_in s.world calls ≡ taken_in s.world calls + waits (after_all s cs).world.device.pending
 
 pub record RulesOnQueue : Type 1 where
-  pub none-or-one : FromEveryQueue NoneOrOne
-  pub runs-the-device : RunsTheDevice
-  pub lifts-rules : LiftsRules
-  pub demand-3 : InEveryQueueRun Demand3OnQueue
-  pub only-sizing-moves-requested : FromEveryQueue OnlySizingMovesRequested
-  pub plug-within-requested : FromEveryQueue PlugWithinRequested
-  pub sizing-touches-nothing : FromEveryQueue SizingTouchesNothing
-  pub usable-never-shrinks : FromEveryQueue UsableNeverShrinks
-  pub whole-or-not-at-all : InEveryQueueRun WholeOrNotAtAll
-  pub each-asked-answered : EachAskedAnswered
+  pub none_or_one : FromEveryQueue NoneOrOne
+  pub runs_the_device : RunsTheDevice
+  pub lifts_rules : LiftsRules
+  pub demand_3 : InEveryQueueRun Demand3OnQueue
+  pub only_sizing_moves_requested : FromEveryQueue OnlySizingMovesRequested
+  pub plug_within_requested : FromEveryQueue PlugWithinRequested
+  pub sizing_touches_nothing : FromEveryQueue SizingTouchesNothing
+  pub usable_never_shrinks : FromEveryQueue UsableNeverShrinks
+  pub whole_or_not_at_all : InEveryQueueRun WholeOrNotAtAll
+  pub each_asked_answered : EachAskedAnswered
   -- some that lift
-  pub keeps-shape : InEveryQueueRun (OfAnyCall KeepsShape)
-  pub discard-is-counted : InEveryQueueRun (OfAnyCall DiscardIsCounted)
-  pub asks-what-is-due : InEveryQueueRun (OfAnyCall AsksWhatIsDue)
-  pub only-open-unplugs-discard : InEveryQueueRun (OfAnyCall OnlyOpenUnplugsDiscard)
+  pub keeps_shape : InEveryQueueRun (OfAnyCall KeepsShape)
+  pub discard_is_counted : InEveryQueueRun (OfAnyCall DiscardIsCounted)
+  pub asks_what_is_due : InEveryQueueRun (OfAnyCall AsksWhatIsDue)
+  pub only_open_unplugs_discard : InEveryQueueRun (OfAnyCall OnlyOpenUnplugsDiscard)

@@ -128,8 +128,8 @@ after_all s (c ∷ cs) = after_all (next_story s c) cs
 -- R13.1: a queue as it is made: no head is out, and both indices are 0 (Q3)
 pub record New (q : Queue) : Type 0 where
   pub none_out : q.taken ≡ Nothing
-  pub available-first : q.next_available ≡ 0
-  pub used-first : q.next_used ≡ 0
+  pub available_first : q.next_available ≡ 0
+  pub used_first : q.next_used ≡ 0
 
 abbrev pub opened : Story → Queue → QueueStory
 opened s q = record { world = s.world; queue = q; story = s; taken = []; reports = [] }
@@ -147,9 +147,9 @@ restored_on s requested plugs =
 
 -- ---- every point of every run: a new queue on a device that waits for nothing, newly made or after any run of its own; any calls; and a restore wherever it is allowed
 pub data QueueReached : QueueStory → Type 0 where
-  on-new-queue : {s : Story} {q : Queue} → Reached s → is_idle s.world.device.pending ≡ true → New q → QueueReached (opened s q)
+  on_new_queue : {s : Story} {q : Queue} → Reached s → is_idle s.world.device.pending ≡ true → New q → QueueReached (opened s q)
   on_call : {s : QueueStory} → QueueReached s → (c : QueueCall) → QueueReached (next_story s c)
-  on-restore : {s : QueueStory} {requested : ℕ} {plugs : List Event} → QueueReached s → CanRestore s.world requested plugs → QueueReached (restored_on s requested plugs)
+  on_restore : {s : QueueStory} {requested : ℕ} {plugs : List Event} → QueueReached s → CanRestore s.world requested plugs → QueueReached (restored_on s requested plugs)
 
 -- ---- what is said of runs
 -- of every point that a run reaches, and of any call there
@@ -165,6 +165,6 @@ abbrev pub LendsBytes : QueueCall → Type 0
 LendsBytes c = (i : ℕ) → get_or (lent_to c).mem i 0 < 256
 
 unfoldable pub AllLendBytes : {s : QueueStory} → QueueReached s → Type 0
-AllLendBytes (on-new-queue r idle new) = Unit {0}
+AllLendBytes (on_new_queue r idle new) = Unit {0}
 AllLendBytes (on_call r c) = AllLendBytes r × LendsBytes c
-AllLendBytes (on-restore r l) = AllLendBytes r
+AllLendBytes (on_restore r l) = AllLendBytes r

@@ -45,9 +45,9 @@ pub record Written (w : World) (q : Queue) (c : QueueCall) (o : QueueOutcome) (h
   pub made : device_calls w q c ≡ call ∷ []
   -- Q6: the length counts the bytes of the response: ten or, where there is none or it could not be delivered, 0
   pub counts : (reply : Reply) → (step w call).answer ≡ Served reply → (len ≡ reply.used) × ResponseTo w call reply (step w call).bytes
-  pub none-counted : response_of (step w call).answer ≡ none → (len ≡ 0) × ((step w call).bytes ≡ (lent_to c).mem)
+  pub none_counted : response_of (step w call).answer ≡ none → (len ≡ 0) × ((step w call).bytes ≡ (lent_to c).mem)
   -- Q7, R13.13: the response is written, then the element, and the index last
-  pub in-turn : o.bytes ≡ reported (step w call).bytes (lent_to c).base q.used.0 q.next_used head len
+  pub in_turn : o.bytes ≡ reported (step w call).bytes (lent_to c).base q.used.0 q.next_used head len
 
 abbrev pub ReportIsWritten : World → Queue → QueueCall → QueueOutcome → Type 0
 ReportIsWritten w q c o = (head len : ℕ) → Reports q c o head len → Written w q c o head len

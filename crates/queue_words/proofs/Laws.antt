@@ -9,9 +9,9 @@ use lib.Dec.{leb, eqb}
 use lib.ListN.{length, drop, length-append}
 use lib.Seq.{set-get_or}
 use borrow.Author.Tests.{le-leb, leb-true, eqb-true, eqb-false, ne_eqb}
-use Rattle.units.proofs.Tests.{by-test, and_left, and_right}
+use Rattle.units.proofs.Tests.{by_test, and_left, and_right}
 use Rattle.little_endian.specs.Bytes.{put}
-use Rattle.little_endian.proofs.Laws.{put-fits}
+use Rattle.little_endian.proofs.Laws.{put_fits}
 use Rattle.words.specs.Record.{word}
 use Rattle.rings.specs.declared.Queue.{Queue}
 use Rattle.rings.specs.declared.Taken.{Taken}
@@ -37,9 +37,9 @@ pub record Fits (ws : List ℕ) : Type 0 where
   pub used : word ws 4 ≤ 65535
   pub taken : word ws 5 ≤ 65536
 
-pub queue-fits : (ws : List ℕ) → is_queue ws ≡ true → Fits ws
+pub queue_fits : (ws : List ℕ) → is_queue ws ≡ true → Fits ws
 unfolding is_queue
-queue-fits ws h =
+queue_fits ws h =
     let h₁ = and_right (leb 6 (length ws)) _ h in
     let h₂ = and_right (leb (word ws 3) 65535) _ h₁ in
     record {
@@ -49,9 +49,9 @@ queue-fits ws h =
       taken = leb-true (word ws 5) 65536 (and_right (leb (word ws 4) 65535) _ h₂);
     }
 
-pub fits-queue : (ws : List ℕ) → Fits ws → is_queue ws ≡ true
+pub fits_queue : (ws : List ℕ) → Fits ws → is_queue ws ≡ true
 unfolding is_queue
-fits-queue ws f = simp (le-leb _ _ f.long, le-leb _ _ f.available, le-leb _ _ f.used, le-leb _ _ f.taken)
+fits_queue ws f = simp (le-leb _ _ f.long, le-leb _ _ f.available, le-leb _ _ f.used, le-leb _ _ f.taken)
 
 -- the bounds in one test, as `decode_queue` has them
 abbrev bounded : List ℕ → Bool
@@ -59,11 +59,11 @@ bounded ws = leb (word ws 3) 65535 && (leb (word ws 4) 65535 && leb (word ws 5) 
 
 pub bounds : (ws : List ℕ) → 6 ≤ length ws → bounded ws ≡ true → Fits ws
 unfolding is_queue
-bounds ws long h = queue-fits ws (simp (le-leb _ _ long) h)
+bounds ws long h = queue_fits ws (simp (le-leb _ _ long) h)
 
 pub unfit : (ws : List ℕ) → bounded ws ≡ false → NoQueue ≡ decoded_queue_of ws
 unfolding decoded_queue_of is_queue
-unfit ws h = by-test (leb 6 (length ws)) (λ t. simp (t, h)) (λ t. simp t)
+unfit ws h = by_test (leb 6 (length ws)) (λ t. simp (t, h)) (λ t. simp t)
 
 -- ---- a queue reads back
 pub taken_back : (t : Taken) → taken_of (taken_word t) ≡ t
@@ -81,64 +81,64 @@ words_long q rest = rw length-append (omega arith)
 words_back : (q : Queue) (rest : List ℕ) → is_queue (queue_words q) ≡ true → decoded_queue_of (queue_words q ++ rest) ≡ Is q
 unfolding decoded_queue_of is_queue queue_of queue_words
 words_back q rest h =
-    let f = queue-fits (queue_words q) h in
+    let f = queue_fits (queue_words q) h in
     simp (le-leb _ _ (words_long q rest), le-leb _ 65535 f.available, le-leb _ 65535 f.used, le-leb _ 65536 f.taken, taken_back q.taken)
 
 -- what was encoded decodes to the queue, where there is room for it
-pub encoded-decodes : (q : Queue) (ws : List ℕ) → is_queue (queue_words q) ≡ true → 6 ≤ length ws → decoded_queue_of (put ws 0 (queue_words q)) ≡ Is q
+pub encoded_decodes : (q : Queue) (ws : List ℕ) → is_queue (queue_words q) ≡ true → 6 ≤ length ws → decoded_queue_of (put ws 0 (queue_words q)) ≡ Is q
 unfolding queue_words
-encoded-decodes q ws h room = rw (put-fits ws 0 (queue_words q) room) (words_back q (drop 6 ws) h)
+encoded_decodes q ws h room = rw (put_fits ws 0 (queue_words q) room) (words_back q (drop 6 ws) h)
 
 -- ---- words are written back
-taken-written : (n : ℕ) → taken_word (taken_of n) ≡ n
+taken_written : (n : ℕ) → taken_word (taken_of n) ≡ n
 unfolding taken_of
-taken-written n =
-    by-test (eqb n 0) (λ t. simp t (sym (eqb-true n 0 t)))
+taken_written n =
+    by_test (eqb n 0) (λ t. simp t (sym (eqb-true n 0 t)))
     (λ t. let p = eqb-false n 0 t in simp t (omega (arith, p)))
 
-queue-written : (ws : List ℕ) → put ws 0 (queue_words (queue_of ws)) ≡ ws
+queue_written : (ws : List ℕ) → put ws 0 (queue_words (queue_of ws)) ≡ ws
 unfolding queue_words queue_of put
-queue-written ws = simp (taken-written (word ws 5), set-get_or)
+queue_written ws = simp (taken_written (word ws 5), set-get_or)
 
 -- the queue that words mean, if they mean one
 abbrev meant : Queue → DecodedQueue → Queue
 meant e (Is q) = q
 meant e NoQueue = e
 
-abbrev is-queue : DecodedQueue → ℕ
-is-queue (Is q) = 1
-is-queue NoQueue = 0
+abbrev is_queue_lem : DecodedQueue → ℕ
+is_queue_lem (Is q) = 1
+is_queue_lem NoQueue = 0
 
 -- words that decode are a queue's
-pub decoded-fits : (ws : List ℕ) (q : Queue) → decoded_queue_of ws ≡ Is q → (is_queue ws ≡ true) × (queue_of ws ≡ q)
+pub decoded_fits : (ws : List ℕ) (q : Queue) → decoded_queue_of ws ≡ Is q → (is_queue ws ≡ true) × (queue_of ws ≡ q)
 unfolding decoded_queue_of
-decoded-fits ws q h =
-    by-test (is_queue ws) (λ t. let g : Is (queue_of ws) ≡ Is q = simp t at h in (t, ap (meant q) g))
-    (λ t. let g : NoQueue ≡ Is q = simp t at h in let y : ◌≡◌ {A = ℕ} 0 1 = ap is-queue g in absurd (omega arith))
+decoded_fits ws q h =
+    by_test (is_queue ws) (λ t. let g : Is (queue_of ws) ≡ Is q = simp t at h in (t, ap (meant q) g))
+    (λ t. let g : NoQueue ≡ Is q = simp t at h in let y : ◌≡◌ {A = ℕ} 0 1 = ap is_queue_lem g in absurd (omega arith))
 
-pub decoded-long : (ws : List ℕ) (q : Queue) → decoded_queue_of ws ≡ Is q → 6 ≤ length ws
-decoded-long ws q h = (queue-fits ws (decoded-fits ws q h).0).long
+pub decoded_long : (ws : List ℕ) (q : Queue) → decoded_queue_of ws ≡ Is q → 6 ≤ length ws
+decoded_long ws q h = (queue_fits ws (decoded_fits ws q h).0).long
 
 -- what decodes encodes to the same words
-pub decoded-encodes : (ws : List ℕ) (q : Queue) → decoded_queue_of ws ≡ Is q → put ws 0 (queue_words q) ≡ ws
-decoded-encodes ws q h = rw (← (decoded-fits ws q h).1) (queue-written ws)
+pub decoded_encodes : (ws : List ℕ) (q : Queue) → decoded_queue_of ws ≡ Is q → put ws 0 (queue_words q) ≡ ws
+decoded_encodes ws q h = rw (← (decoded_fits ws q h).1) (queue_written ws)
 
 -- ---- an answer's ending reads back from its words
-ending-question : (call : HostCall) → ending_words (answer_words (Wants call)) ≡ Out
+ending_question : (call : HostCall) → ending_words (answer_words (Wants call)) ≡ Out
 unfolding ending_words
-ending-question (Create guest size slot) = refl
-ending-question (Discard offset size host) = refl
+ending_question (Create guest size slot) = refl
+ending_question (Discard offset size host) = refl
 
-ending-served : (v : Verdict) (t : Bool) → ending_words (answer_words (served_with v (cond t 10 0))) ≡ Used (cond t 10 0)
+ending_served : (v : Verdict) (t : Bool) → ending_words (answer_words (served_with v (cond t 10 0))) ≡ Used (cond t 10 0)
 unfolding ending_words
-ending-served v true = refl
-ending-served v false = refl
+ending_served v true = refl
+ending_served v false = refl
 
-pub ending-told : (a : Answer) → Short a → ending_words (answer_words a) ≡ ending_of a
+pub ending_told_lem : (a : Answer) → Short a → ending_words (answer_words a) ≡ ending_of a
 unfolding ending_words OfReply
-ending-told (Refused n) s = refl
-ending-told (Wants call) s = ending-question call
-ending-told Sized s = refl
-ending-told (Unserved reason) s = refl
-ending-told (Served reply) s = rw s.1 (ending-served (record { response = reply.response; why = reply.why }) s.0)
-ending-told Done s = refl
+ending_told_lem (Refused n) s = refl
+ending_told_lem (Wants call) s = ending_question call
+ending_told_lem Sized s = refl
+ending_told_lem (Unserved reason) s = refl
+ending_told_lem (Served reply) s = rw s.1 (ending_served (record { response = reply.response; why = reply.why }) s.0)
+ending_told_lem Done s = refl

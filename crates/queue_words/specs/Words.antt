@@ -55,7 +55,7 @@ queue_of ws =
 unfoldable pub decoded_queue_of : List ℕ → DecodedQueue
 decoded_queue_of ws = cond (is_queue ws) (Is (queue_of ws)) NoQueue
 
--- ---- R19.3, R13.8: what the words of an answer mean for the head that it is about: kinds 1 and 2 ask the host, 4 serves no request, 5 responds with a used length of 10 or 0 (`ending-told`)
+-- ---- R19.3, R13.8: what the words of an answer mean for the head that it is about: kinds 1 and 2 ask the host, 4 serves no request, 5 responds with a used length of 10 or 0 (`ending_told_lem`)
 unfoldable pub ending_words : List ℕ → Ending
 ending_words ws =
     cond (eqb (word ws 0) 1) Out

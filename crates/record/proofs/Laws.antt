@@ -9,7 +9,7 @@ use lib.Dec.{leb, ltb, eqb}
 use borrow.Author.Tests.{eqb-true, leb-true, leb-false, ltb-true, eq-eqb, le-leb, lt-ltb}
 use Rattle.units.specs.Numbers.{top, bytes_of, blocks_in, map_region, map_regions}
 use Rattle.units.specs.declared.GuestAddr.{GuestAddr}
-use Rattle.units.proofs.Tests.{by-test, and_left, and_right}
+use Rattle.units.proofs.Tests.{by_test, and_left, and_right}
 use Rattle.wire.specs.declared.VirtioMemConfig.{VirtioMemConfig}
 use Rattle.record.specs.declared.Device.{Device}
 use Rattle.record.specs.declared.Pending.{Pending}
@@ -21,11 +21,11 @@ use Rattle.record.specs.Changes.{config_with, device_with, pending_to, start_to,
 -- ---- the five alignments
 -- one case of a list of numbers that a can be
 one_of : {P : Type 0} (a n : ℕ) (t : Bool) → (eqb a n || t) ≡ true → (a ≡ n → P) → (t ≡ true → P) → P
-one_of a n t e f g = by-test (eqb a n) (λ u. f (eqb-true a n u)) (λ u. g (simp u at e))
+one_of a n t e f g = by_test (eqb a n) (λ u. f (eqb-true a n u)) (λ u. g (simp u at e))
 
-pub by-alignment : (P : ℕ → Type 0) → P 134217728 → P 268435456 → P 536870912 → P 1073741824 → P 2147483648 → (a : ℕ) → alignment_ok a ≡ true → P a
+pub by_alignment : (P : ℕ → Type 0) → P 134217728 → P 268435456 → P 536870912 → P 1073741824 → P 2147483648 → (a : ℕ) → alignment_ok a ≡ true → P a
 unfolding alignment_ok
-by-alignment P p q r s t a e =
+by_alignment P p q r s t a e =
     one_of a 134217728 _ e (λ h. rw h p)
     (λ e. one_of a 268435456 _ e (λ h. rw h q)
     (λ e. one_of a 536870912 _ e (λ h. rw h r)
@@ -41,7 +41,7 @@ pub record Aligned (a : ℕ) : Type 0 where
 
 pub aligned : (a : ℕ) → alignment_ok a ≡ true → Aligned a
 aligned =
-    by-alignment Aligned
+    by_alignment Aligned
     (record { low = omega arith; high = omega arith; blocks = refl; multiples = λ n h. omega arith; twice = λ n h. omega arith })
     (record { low = omega arith; high = omega arith; blocks = refl; multiples = λ n h. omega arith; twice = λ n h. omega arith })
     (record { low = omega arith; high = omega arith; blocks = refl; multiples = λ n h. omega arith; twice = λ n h. omega arith })
@@ -49,15 +49,15 @@ aligned =
     (record { low = omega arith; high = omega arith; blocks = refl; multiples = λ n h. omega arith; twice = λ n h. omega arith })
 
 -- ---- the span of a region: all of it, and every map region whole
-pub span-one : (region : ℕ) (several : Bool) → not several ≡ true → span_of region several ≡ region
+pub span_one : (region : ℕ) (several : Bool) → not several ≡ true → span_of region several ≡ region
 unfolding span_of
-span-one region true e = let z : ◌≡◌ {A = ℕ} 0 1 = cc in absurd (omega arith)
-span-one region false e = refl
+span_one region true e = let z : ◌≡◌ {A = ℕ} 0 1 = cc in absurd (omega arith)
+span_one region false e = refl
 
-pub span-several : (region : ℕ) (several : Bool) → not several ≡ false → span_of region several ≡ map_regions region several * map_region
+pub span_several : (region : ℕ) (several : Bool) → not several ≡ false → span_of region several ≡ map_regions region several * map_region
 unfolding span_of
-span-several region true e = refl
-span-several region false e = let z : ◌≡◌ {A = ℕ} 0 1 = cc in absurd (omega arith)
+span_several region true e = refl
+span_several region false e = let z : ◌≡◌ {A = ℕ} 0 1 = cc in absurd (omega arith)
 
 pub record Spans (region : ℕ) (several : Bool) : Type 0 where
   pub covers : region ≤ span_of region several
@@ -116,22 +116,22 @@ whole d p = simp (p.block, p.region, p.requested, p.usable, p.plugged, p.start, 
 pub record Shaped (d : Device) : Type 0 where
   pub block_size : d.config.block_size ≡ 4194304
   pub alignment : Aligned d.alignment
-  pub region-some : 0 < d.config.region_size
-  pub region-top : d.config.region_size ≤ 1099511627776
-  pub region-twice : d.config.region_size % (2 * d.alignment) ≡ 0
-  pub region-blocks : d.config.region_size % 4194304 ≡ 0
-  pub requested-blocks : d.config.requested_size % 4194304 ≡ 0
-  pub requested-in : d.config.requested_size ≤ d.config.region_size
-  pub usable-blocks : d.config.usable_region_size % 4194304 ≡ 0
-  pub usable-in : d.config.usable_region_size ≤ d.config.region_size
-  pub plugged-blocks : d.config.plugged_size % 4194304 ≡ 0
-  pub plugged-in : d.config.plugged_size ≤ d.config.region_size
-  pub start-blocks : d.config.addr.0 % 4194304 ≡ 0
-  pub start-span : d.config.addr.0 + span_of d.config.region_size d.several ≤ top
-  pub start-region : d.config.addr.0 + d.config.region_size ≤ top
-  pub rows-some : 0 < map_regions d.config.region_size d.several
+  pub region_some : 0 < d.config.region_size
+  pub region_top : d.config.region_size ≤ 1099511627776
+  pub region_twice : d.config.region_size % (2 * d.alignment) ≡ 0
+  pub region_blocks_lem : d.config.region_size % 4194304 ≡ 0
+  pub requested_blocks : d.config.requested_size % 4194304 ≡ 0
+  pub requested_in : d.config.requested_size ≤ d.config.region_size
+  pub usable_blocks_lem : d.config.usable_region_size % 4194304 ≡ 0
+  pub usable_in : d.config.usable_region_size ≤ d.config.region_size
+  pub plugged_blocks_lem : d.config.plugged_size % 4194304 ≡ 0
+  pub plugged_in_lem : d.config.plugged_size ≤ d.config.region_size
+  pub start_blocks : d.config.addr.0 % 4194304 ≡ 0
+  pub start_span : d.config.addr.0 + span_of d.config.region_size d.several ≤ top
+  pub start_region : d.config.addr.0 + d.config.region_size ≤ top
+  pub rows_some : 0 < map_regions d.config.region_size d.several
   pub rows_few : map_regions d.config.region_size d.several ≤ 512
-  pub several-large : d.several ≡ true → map_region < d.config.region_size
+  pub several_large : d.several ≡ true → map_region < d.config.region_size
 
 size_is : (b n region : ℕ) → size_ok b n region ≡ true → (n % b ≡ 0) × (n ≤ region)
 unfolding size_ok
@@ -142,25 +142,25 @@ unfolding size_ok
 size_ok_lem b n region e h l = rw (e, eq-eqb (n % 4194304) 0 h) (le-leb n region l)
 
 -- whole blocks less some of them, and 0 where there are not so many, are whole blocks
-whole-less : (b n c : ℕ) → n % b ≡ 0 → (n - c * b) % b ≡ 0
-whole-less b n c whole =
-    by-test (leb (c * b) n)
+whole_less : (b n c : ℕ) → n % b ≡ 0 → (n - c * b) % b ≡ 0
+whole_less b n c whole =
+    by_test (leb (c * b) n)
     (λ t.
     let enough = leb-true (c * b) n t in
     let back : n - c * b + c * b ≡ n = omega arith in
     sym (add-mul-mod_self_right (n - c * b) c b) ∙ ap (λ k. k % b) back ∙ whole)
     (λ t. let few = leb-false (c * b) n t in let none : n - c * b ≡ 0 = omega arith in rw none (zero-mod b))
 
-pub less-ok : (b n region c : ℕ) → size_ok b n region ≡ true → size_ok b (n - c * b) region ≡ true
+pub less_ok : (b n region c : ℕ) → size_ok b n region ≡ true → size_ok b (n - c * b) region ≡ true
 unfolding size_ok
-less-ok b n region c e =
+less_ok b n region c e =
     let whole = eqb-true (n % b) 0 (and_left (eqb (n % b) 0) _ e) in
     let within = leb-true n region (and_right (eqb (n % b) 0) _ e) in
-    rw (eq-eqb ((n - c * b) % b) 0 (whole-less b n c whole)) (le-leb (n - c * b) region (omega arith))
+    rw (eq-eqb ((n - c * b) % b) 0 (whole_less b n c whole)) (le-leb (n - c * b) region (omega arith))
 
-region-is : (region a : ℕ) → region_ok region a ≡ true → (alignment_ok a ≡ true) × (0 < region) × (region % (2 * a) ≡ 0) × (region ≤ 1099511627776)
+region_is : (region a : ℕ) → region_ok region a ≡ true → (alignment_ok a ≡ true) × (0 < region) × (region % (2 * a) ≡ 0) × (region ≤ 1099511627776)
 unfolding region_ok
-region-is region a e =
+region_is region a e =
     let e1 = and_right (alignment_ok a) _ e in
     let e2 = and_right (ltb 0 region) _ e1 in
     let m = eqb (region % (2 * a)) 0 in
@@ -172,16 +172,16 @@ start_is start region several a e =
     let m = eqb (start % a) 0 in
     (eqb-true (start % a) 0 (and_left m _ e), leb-true (start + span_of region several) top (and_right m _ e))
 
-several-is : (several : Bool) (region : ℕ) → several_ok several region ≡ true → several ≡ true → map_region < region
+several_is : (several : Bool) (region : ℕ) → several_ok several region ≡ true → several ≡ true → map_region < region
 unfolding several_ok
-several-is several region e h = ltb-true map_region region (rw h at e)
+several_is several region e h = ltb-true map_region region (rw h at e)
 
-pub shaped-is : (d : Device) → shaped_of d ≡ true → Shaped d
-shaped-is d e =
+pub shaped_is : (d : Device) → shaped_of d ≡ true → Shaped d
+shaped_is d e =
     let c = d.config in
     let p = parts d e in
     let b = eqb-true c.block_size 4194304 p.block in
-    let r = region-is c.region_size d.alignment p.region in
+    let r = region_is c.region_size d.alignment p.region in
     let a = aligned d.alignment r.0 in
     let q = size_is c.block_size c.requested_size c.region_size p.requested in
     let u = size_is c.block_size c.usable_region_size c.region_size p.usable in
@@ -191,22 +191,22 @@ shaped-is d e =
     record {
       block_size = b;
       alignment = a;
-      region-some = r.1;
-      region-top = r.3;
-      region-twice = r.2;
-      region-blocks = a.twice c.region_size r.2;
-      requested-blocks = rw b at q.0;
-      requested-in = q.1;
-      usable-blocks = rw b at u.0;
-      usable-in = u.1;
-      plugged-blocks = rw b at g.0;
-      plugged-in = g.1;
-      start-blocks = a.multiples c.addr.0 s.0;
-      start-span = s.1;
-      start-region = omega (arith, s.1, m.covers);
-      rows-some = m.rows r.1;
+      region_some = r.1;
+      region_top = r.3;
+      region_twice = r.2;
+      region_blocks_lem = a.twice c.region_size r.2;
+      requested_blocks = rw b at q.0;
+      requested_in = q.1;
+      usable_blocks_lem = rw b at u.0;
+      usable_in = u.1;
+      plugged_blocks_lem = rw b at g.0;
+      plugged_in_lem = g.1;
+      start_blocks = a.multiples c.addr.0 s.0;
+      start_span = s.1;
+      start_region = omega (arith, s.1, m.covers);
+      rows_some = m.rows r.1;
       rows_few = m.few r.3;
-      several-large = several-is d.several c.region_size p.several;
+      several_large = several_is d.several c.region_size p.several;
     }
 
 -- ---- the shape of a config alone
@@ -217,47 +217,47 @@ record Least (a : ℕ) : Type 0 where
 
 least : (a : ℕ) → alignment_ok a ≡ true → Least a
 least =
-    by-alignment Least
+    by_alignment Least
     (record { multiples = λ n h. omega arith; twice = λ n h. omega arith })
     (record { multiples = λ n h. omega arith; twice = λ n h. omega arith })
     (record { multiples = λ n h. omega arith; twice = λ n h. omega arith })
     (record { multiples = λ n h. omega arith; twice = λ n h. omega arith })
     (record { multiples = λ n h. omega arith; twice = λ n h. omega arith })
 
-region-least : (region : ℕ) → 0 < region → region % (2 * 134217728) ≡ 0 → region ≤ 1099511627776 → region_ok region 134217728 ≡ true
+region_least : (region : ℕ) → 0 < region → region % (2 * 134217728) ≡ 0 → region ≤ 1099511627776 → region_ok region 134217728 ≡ true
 unfolding region_ok alignment_ok
-region-least region p m t = simp (lt-ltb _ _ p, m, le-leb _ _ t)
+region_least region p m t = simp (lt-ltb _ _ p, m, le-leb _ _ t)
 
-start-least : (start region : ℕ) → start % 134217728 ≡ 0 → start + region ≤ top → start_ok start region false 134217728 ≡ true
+start_least : (start region : ℕ) → start % 134217728 ≡ 0 → start + region ≤ top → start_ok start region false 134217728 ≡ true
 unfolding start_ok span_of
-start-least start region m t = simp (m, le-leb _ _ t)
+start_least start region m t = simp (m, le-leb _ _ t)
 
 -- every shaped device's config has it
-pub config-shaped-of : (d : Device) → shaped_of d ≡ true → config_shaped_of d.config ≡ true
+pub config-shaped_of : (d : Device) → shaped_of d ≡ true → config_shaped_of d.config ≡ true
 unfolding config_shaped_of several_ok pending_ok
-config-shaped-of d e =
+config-shaped_of d e =
     let c = d.config in
     let p = parts d e in
-    let n = shaped-is d e in
-    let r = region-is c.region_size d.alignment p.region in
+    let n = shaped_is d e in
+    let r = region_is c.region_size d.alignment p.region in
     let s = start_is c.addr.0 c.region_size d.several d.alignment p.start in
     let l = least d.alignment r.0 in
     whole (of_config c)
     (record {
       block = p.block;
-      region = region-least c.region_size r.1 (l.twice c.region_size r.2) r.3;
+      region = region_least c.region_size r.1 (l.twice c.region_size r.2) r.3;
       requested = p.requested;
       usable = p.usable;
       plugged = p.plugged;
-      start = start-least c.addr.0 c.region_size (l.multiples c.addr.0 s.0) n.start-region;
+      start = start_least c.addr.0 c.region_size (l.multiples c.addr.0 s.0) n.start_region;
       several = refl;
       pending = refl;
     })
 
 -- and it says the same numbers
-pub config-shaped-is : (c : VirtioMemConfig) → config_shaped_of c ≡ true → Shaped (of_config c)
+pub config_shaped_is : (c : VirtioMemConfig) → config_shaped_of c ≡ true → Shaped (of_config c)
 unfolding config_shaped_of
-config-shaped-is c e = shaped-is (of_config c) e
+config_shaped_is c e = shaped_is (of_config c) e
 
 -- ---- the shape as `shaped` tests it
 -- the tests that take a part of the shape together with another
@@ -274,7 +274,7 @@ tested d p =
     let u = size_is c.block_size c.usable_region_size c.region_size p.usable in
     let g = size_is c.block_size c.plugged_size c.region_size p.plugged in
     record {
-      alignment = (region-is c.region_size d.alignment p.region).0;
+      alignment = (region_is c.region_size d.alignment p.region).0;
       blocks = simp (q.0, u.0, g.0);
       inside = simp (le-leb _ _ q.1, le-leb _ _ u.1, le-leb _ _ g.1);
       start = (start_is c.addr.0 c.region_size d.several d.alignment p.start).0;
@@ -283,14 +283,14 @@ tested d p =
 -- one test that fails is enough
 pub unshaped : (d : Device) (t : Bool) → (Parts d → t ≡ true) → t ≡ false → false ≡ shaped_of d
 unshaped d t f e =
-    by-test (shaped_of d)
+    by_test (shaped_of d)
     (λ s. let h : t ≡ true = f (parts d s) in absurd (let z : ◌≡◌ {A = ℕ} 0 1 = cc in omega arith))
     (λ s. sym s)
 
 -- past the others, `rest_ok` is all that is left
-pub rest-is : (d : Device) → eqb d.config.block_size 4194304 ≡ true → region_ok d.config.region_size d.alignment ≡ true → Tested d → shaped_of d ≡ rest_ok d.config.block_size d.config.addr.0 d.config.region_size d.several d.pending d.config.plugged_size
+pub rest_is : (d : Device) → eqb d.config.block_size 4194304 ≡ true → region_ok d.config.region_size d.alignment ≡ true → Tested d → shaped_of d ≡ rest_ok d.config.block_size d.config.addr.0 d.config.region_size d.several d.pending d.config.plugged_size
 unfolding shaped_of start_ok size_ok rest_ok
-rest-is d b r t =
+rest_is d b r t =
     let c = d.config in
     let q = eqb (c.requested_size % c.block_size) 0 in
     let u = eqb (c.usable_region_size % c.block_size) 0 in
@@ -300,14 +300,14 @@ rest-is d b r t =
     let j = and_right k _ t.inside in
     simp (b, r, and_left q _ t.blocks, and_left u _ n, and_right u _ n, and_left k _ t.inside, and_left l _ j, and_right l _ j, t.start)
 
-and-true : (t : Bool) → (t && true) ≡ t
-and-true true = refl
-and-true false = refl
+and_true : (t : Bool) → (t && true) ≡ t
+and_true true = refl
+and_true false = refl
 
 -- a single region that waits for nothing
 pub single : (b start region plugged : ℕ) (several : Bool) (p : Pending) → (not several && is_idle p) ≡ true → rest_ok b start region several p plugged ≡ leb (start + region) top
 unfolding rest_ok span_of several_ok pending_ok
-single b start region plugged false Nothing e = and-true (leb (start + region) top)
+single b start region plugged false Nothing e = and_true (leb (start + region) top)
 single b start region plugged false (Create first last) e = absurd (let z : ◌≡◌ {A = ℕ} 0 1 = cc in omega arith)
 single b start region plugged false (Discard first count status) e = absurd (let z : ◌≡◌ {A = ℕ} 0 1 = cc in omega arith)
 single b start region plugged false (DiscardOne block status) e = absurd (let z : ◌≡◌ {A = ℕ} 0 1 = cc in omega arith)
@@ -323,72 +323,72 @@ pub record UnplugInside (d : Device) (first count : ℕ) : Type 0 where
   pub plugged : bytes_of 4194304 count ≤ d.config.plugged_size
 
 module _ (d : Device) (e : shaped_of d ≡ true) where
-  pub pending-is : (p : Pending) → d.pending ≡ p → pending_ok p 4194304 d.config.region_size d.several d.config.plugged_size ≡ true
-  pending-is p h =
+  pub pending_is : (p : Pending) → d.pending ≡ p → pending_ok p 4194304 d.config.region_size d.several d.config.plugged_size ≡ true
+  pending_is p h =
       let b = eqb-true d.config.block_size 4194304 (parts d e).block in
       rw (h, b) at (parts d e).pending
 
-  pub create-is : (first last : ℕ) → d.pending ≡ Create first last → RowsInside d first last
+  pub create_is : (first last : ℕ) → d.pending ≡ Create first last → RowsInside d first last
   unfolding pending_ok
-  create-is first last h =
-      let t = pending-is (Create first last) h in
+  create_is first last h =
+      let t = pending_is (Create first last) h in
       record {
         ordered = leb-true first last (and_left (leb first last) _ t);
         inside = ltb-true last (map_regions d.config.region_size d.several) (and_right (leb first last) _ t);
       }
 
-  pub discard-is : (first count : ℕ) (status : GuestAddr) → d.pending ≡ Discard first count status → UnplugInside d first count
+  pub discard_is : (first count : ℕ) (status : GuestAddr) → d.pending ≡ Discard first count status → UnplugInside d first count
   unfolding pending_ok
-  discard-is first count status h =
-      let t = pending-is (Discard first count status) h in
+  discard_is first count status h =
+      let t = pending_is (Discard first count status) h in
       let i = leb (first + count) (blocks_in 4194304 d.config.region_size) in
       record {
         inside = leb-true (first + count) (blocks_in 4194304 d.config.region_size) (and_left i _ t);
         plugged = leb-true (bytes_of 4194304 count) d.config.plugged_size (and_right i _ t);
       }
 
-  pub discard-one-is : (block : ℕ) (status : GuestAddr) → d.pending ≡ DiscardOne block status → block < blocks_in 4194304 d.config.region_size
+  pub discard_one_is : (block : ℕ) (status : GuestAddr) → d.pending ≡ DiscardOne block status → block < blocks_in 4194304 d.config.region_size
   unfolding pending_ok
-  discard-one-is block status h =
-      ltb-true block (blocks_in 4194304 d.config.region_size) (pending-is (DiscardOne block status) h)
+  discard_one_is block status h =
+      ltb-true block (blocks_in 4194304 d.config.region_size) (pending_is (DiscardOne block status) h)
 
   -- ---- which changes keep the shape
-  pub changed-keeps : (start usable plugged requested : ℕ) (placed : Bool) (p : Pending) → start_ok start d.config.region_size d.several d.alignment ≡ true → size_ok d.config.block_size usable d.config.region_size ≡ true → size_ok d.config.block_size plugged d.config.region_size ≡ true → size_ok d.config.block_size requested d.config.region_size ≡ true → pending_ok p d.config.block_size d.config.region_size d.several plugged ≡ true → shaped_of (device_with d (config_with d.config start usable plugged requested) placed p) ≡ true
-  changed-keeps start usable plugged requested placed p s u g q t =
+  pub changed_keeps : (start usable plugged requested : ℕ) (placed : Bool) (p : Pending) → start_ok start d.config.region_size d.several d.alignment ≡ true → size_ok d.config.block_size usable d.config.region_size ≡ true → size_ok d.config.block_size plugged d.config.region_size ≡ true → size_ok d.config.block_size requested d.config.region_size ≡ true → pending_ok p d.config.block_size d.config.region_size d.several plugged ≡ true → shaped_of (device_with d (config_with d.config start usable plugged requested) placed p) ≡ true
+  changed_keeps start usable plugged requested placed p s u g q t =
       let o = parts d e in
       whole (device_with d (config_with d.config start usable plugged requested) placed p)
       (record { block = o.block; region = o.region; requested = q; usable = u; plugged = g; start = s; several = o.several; pending = t })
 
-  pub start-keeps : (start : ℕ) → start_ok start d.config.region_size d.several d.alignment ≡ true → shaped_of (start_to start d) ≡ true
-  start-keeps start s =
+  pub start_keeps : (start : ℕ) → start_ok start d.config.region_size d.several d.alignment ≡ true → shaped_of (start_to start d) ≡ true
+  start_keeps start s =
       let c = d.config in
       let o = parts d e in
-      changed-keeps start c.usable_region_size c.plugged_size c.requested_size d.placed d.pending s o.usable o.plugged o.requested o.pending
+      changed_keeps start c.usable_region_size c.plugged_size c.requested_size d.placed d.pending s o.usable o.plugged o.requested o.pending
 
   module _ (n : ℕ) (m : n % 4194304 ≡ 0) (l : n ≤ d.config.region_size) where
-    fits-region : size_ok d.config.block_size n d.config.region_size ≡ true
-    fits-region = size_ok_lem d.config.block_size n d.config.region_size (eqb-true d.config.block_size 4194304 (parts d e).block) m l
+    fits_region : size_ok d.config.block_size n d.config.region_size ≡ true
+    fits_region = size_ok_lem d.config.block_size n d.config.region_size (eqb-true d.config.block_size 4194304 (parts d e).block) m l
 
-    pub requested-keeps : shaped_of (requested_to n d) ≡ true
-    requested-keeps =
+    pub requested_keeps : shaped_of (requested_to n d) ≡ true
+    requested_keeps =
         let c = d.config in
         let o = parts d e in
-        changed-keeps c.addr.0 c.usable_region_size c.plugged_size n d.placed d.pending o.start o.usable o.plugged fits-region o.pending
+        changed_keeps c.addr.0 c.usable_region_size c.plugged_size n d.placed d.pending o.start o.usable o.plugged fits_region o.pending
 
     -- a pending unplug must still fit
-    pub plugged-keeps : pending_ok d.pending d.config.block_size d.config.region_size d.several n ≡ true → shaped_of (plugged_to n d) ≡ true
-    plugged-keeps t =
+    pub plugged_keeps : pending_ok d.pending d.config.block_size d.config.region_size d.several n ≡ true → shaped_of (plugged_to n d) ≡ true
+    plugged_keeps t =
         let c = d.config in
         let o = parts d e in
-        changed-keeps c.addr.0 c.usable_region_size n c.requested_size d.placed d.pending o.start o.usable fits-region o.requested t
+        changed_keeps c.addr.0 c.usable_region_size n c.requested_size d.placed d.pending o.start o.usable fits_region o.requested t
 
   -- one block less, and nothing pending
-  pub block-less-keeps : shaped_of (pending_to Nothing (plugged_to (d.config.plugged_size - d.config.block_size) d)) ≡ true
+  pub block_less_keeps : shaped_of (pending_to Nothing (plugged_to (d.config.plugged_size - d.config.block_size) d)) ≡ true
   unfolding pending_ok
-  block-less-keeps =
+  block_less_keeps =
       let c = d.config in
       let o = parts d e in
       let one : 1 * c.block_size ≡ c.block_size = omega arith in
-      changed-keeps c.addr.0 c.usable_region_size (c.plugged_size - c.block_size) c.requested_size d.placed Nothing o.start o.usable
-      (rw one at (less-ok c.block_size c.plugged_size c.region_size 1 o.plugged))
+      changed_keeps c.addr.0 c.usable_region_size (c.plugged_size - c.block_size) c.requested_size d.placed Nothing o.start o.usable
+      (rw one at (less_ok c.block_size c.plugged_size c.region_size 1 o.plugged))
       o.requested refl

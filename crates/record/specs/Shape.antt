@@ -67,7 +67,7 @@ of_config c =
       pending = Nothing;
     }
 
--- R3.10: the shape of a config alone, which the config of every record that has the shape has (`config-shaped-of`)
+-- R3.10: the shape of a config alone, which the config of every record that has the shape has (`config-shaped_of`)
 unfoldable pub config_shaped_of : VirtioMemConfig → Bool
 config_shaped_of c = shaped_of (of_config c)
 

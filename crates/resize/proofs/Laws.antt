@@ -9,32 +9,32 @@ use native.Mathlib.Omega.{arith}
 use lib.Dec.{ltb, eqb}
 use lib.ListN.{length}
 use borrow.Author.Tests.{ltb-true, lt-ltb, ne_eqb}
-use Rattle.units.proofs.Tests.{by-test}
+use Rattle.units.proofs.Tests.{by_test}
 use Rattle.rows.specs.declared.FirstUnmapped.{FirstUnmapped}
 use Rattle.rows.specs.declared.FirstUnmapped.TheVariants.{Row, NoneLeft}
 use Rattle.rows.specs.declared.MapRow.{MapRow}
 use Rattle.rows.specs.Rows.{first_unmapped, row_at}
-use Rattle.rows.proofs.Laws.{IsFirst, first_found, first-none}
+use Rattle.rows.proofs.Laws.{IsFirst, first_found, first_none}
 use Rattle.resize.specs.declared.Growth.TheVariants.{Asks, Settled}
 use Rattle.resize.specs.Resize.{new_size, end_row, creation_size, growth_at, growth_of}
 
 -- ---- the new size is at most the region, and whole blocks
-pub new-within : (b region requested alignment : ℕ) → new_size b region requested alignment ≤ region
+pub new_within : (b region requested alignment : ℕ) → new_size b region requested alignment ≤ region
 unfolding new_size
-new-within b region requested alignment =
-    by-test (eqb requested 0) (λ t. rw t (omega arith))
+new_within b region requested alignment =
+    by_test (eqb requested 0) (λ t. rw t (omega arith))
     (λ t. rw t (omega (arith, div-mul-le_self (min region (requested + 2 * alignment)) b)))
 
-pub new-whole : (b region requested alignment : ℕ) → new_size b region requested alignment % b ≡ 0
+pub new_whole : (b region requested alignment : ℕ) → new_size b region requested alignment % b ≡ 0
 unfolding new_size
-new-whole b region requested alignment =
-    by-test (eqb requested 0) (λ t. rw t (zero-mod b))
+new_whole b region requested alignment =
+    by_test (eqb requested 0) (λ t. rw t (zero-mod b))
     (λ t. rw t (mul-mod_left (min region (requested + 2 * alignment) / b) b))
 
 -- of whole blocks it is exact: nothing is rounded (R6.1)
-pub new-exact : (b region requested alignment : ℕ) → 0 < requested → min region (requested + 2 * alignment) % b ≡ 0 → new_size b region requested alignment ≡ min region (requested + 2 * alignment)
+pub new_exact : (b region requested alignment : ℕ) → 0 < requested → min region (requested + 2 * alignment) % b ≡ 0 → new_size b region requested alignment ≡ min region (requested + 2 * alignment)
 unfolding new_size
-new-exact b region requested alignment h e =
+new_exact b region requested alignment h e =
     rw (ne_eqb requested 0 (λ z. omega arith))
     (omega (arith, div-add-mod' (min region (requested + 2 * alignment)) b))
 
@@ -50,13 +50,13 @@ pub asking : (region : ℕ) (several : Bool) (usable new : ℕ) (rows : List Map
 unfolding growth_of growth_at
 asking region false usable new rows i last size e = let z : ◌≡◌ {A = ℕ} 0 1 = cc in absurd (omega arith)
 asking region true usable new rows i last size e =
-    by-test (ltb usable new)
-    (λ t. by-found (first_unmapped rows (end_row region true usable) (end_row region true new)) refl (ltb-true usable new t) (rw t at e))
+    by_test (ltb usable new)
+    (λ t. by_found (first_unmapped rows (end_row region true usable) (end_row region true new)) refl (ltb-true usable new t) (rw t at e))
     (λ t. let f : Settled ≡ Asks i last size = rw t at e in let z : ◌≡◌ {A = ℕ} 0 1 = cc in absurd (omega arith))
   where
-    by-found : (f : FirstUnmapped) → first_unmapped rows (end_row region true usable) (end_row region true new) ≡ f → usable < new → growth_at f region true (end_row region true new) ≡ Asks i last size → Asking region true usable new rows i last size
-    by-found NoneLeft p h q = let z : ◌≡◌ {A = ℕ} 0 1 = cc in absurd (omega arith)
-    by-found (Row j) p h q =
+    by_found : (f : FirstUnmapped) → first_unmapped rows (end_row region true usable) (end_row region true new) ≡ f → usable < new → growth_at f region true (end_row region true new) ≡ Asks i last size → Asking region true usable new rows i last size
+    by_found NoneLeft p h q = let z : ◌≡◌ {A = ℕ} 0 1 = cc in absurd (omega arith)
+    by_found (Row j) p h q =
         let same : j ≡ i = cc in
         let ends : last ≡ end_row region true new = cc in
         record {
@@ -71,9 +71,9 @@ asking region true usable new rows i last size e =
 pub settled : (region usable new : ℕ) (rows : List MapRow) → growth_of region true usable new rows ≡ Settled → usable < new
     → (k : ℕ) → end_row region true usable ≤ k → k ≤ end_row region true new → k < length rows → (row_at rows k).mapped ≡ 0 → ⊥
 unfolding growth_of growth_at
-settled region usable new rows e h = by-found (first_unmapped rows (end_row region true usable) (end_row region true new)) refl (rw (lt-ltb usable new h) at e)
+settled region usable new rows e h = by_found (first_unmapped rows (end_row region true usable) (end_row region true new)) refl (rw (lt-ltb usable new h) at e)
   where
-    by-found : (f : FirstUnmapped) → first_unmapped rows (end_row region true usable) (end_row region true new) ≡ f → growth_at f region true (end_row region true new) ≡ Settled
+    by_found : (f : FirstUnmapped) → first_unmapped rows (end_row region true usable) (end_row region true new) ≡ f → growth_at f region true (end_row region true new) ≡ Settled
         → (k : ℕ) → end_row region true usable ≤ k → k ≤ end_row region true new → k < length rows → (row_at rows k).mapped ≡ 0 → ⊥
-    by-found NoneLeft p q = first-none rows (end_row region true usable) (end_row region true new) p
-    by-found (Row j) p q = let z : ◌≡◌ {A = ℕ} 0 1 = cc in absurd (omega arith)
+    by_found NoneLeft p q = first_none rows (end_row region true usable) (end_row region true new) p
+    by_found (Row j) p q = let z : ◌≡◌ {A = ℕ} 0 1 = cc in absurd (omega arith)

@@ -35,7 +35,7 @@ elements (e ∷ es) = used_element e.id e.len ++ elements es
 unfoldable pub virtq_used : (flags idx : ℕ) (ring : List Element) (event : ℕ) → List ℕ
 virtq_used flags idx ring event = little_endian 2 flags ++ little_endian 2 idx ++ elements ring ++ little_endian 2 event
 
--- ---- and as they are read where they stand from byte `at` on (`available-laid` and `used-laid`: what is read is what is laid out)
+-- ---- and as they are read where they stand from byte `at` on (`available_laid` and `used_laid`: what is read is what is laid out)
 abbrev pub available_index : List ℕ → (at : ℕ) → ℕ
 available_index mem at = value (part mem (at + 2) 2)
 

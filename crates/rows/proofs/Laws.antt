@@ -10,7 +10,7 @@ use lib.ListN.{length, get_or, take, drop, length-take, length-drop}
 use lib.Seq.{get_or-take, get_or-drop}
 use borrow.Author.Tests.{eq-eqb, ne_eqb, eqb-true, eqb-false}
 use Rattle.units.specs.Numbers.{map_region}
-use Rattle.units.proofs.Tests.{by-test}
+use Rattle.units.proofs.Tests.{by_test}
 use Rattle.rows.specs.declared.FirstUnmapped.TheVariants.{Row, NoneLeft}
 use Rattle.rows.specs.declared.Mapping.TheVariants.{At, Unmapped}
 use Rattle.rows.specs.declared.MapRow.{MapRow}
@@ -18,18 +18,18 @@ use Rattle.rows.specs.Rows.{row_at, mapping_of, unmapped_from, first_unmapped, m
 
 -- ---- where a row is mapped: its two cases
 module _ (rs : List MapRow) (i : ℕ) where
-  pub mapping-unmapped : (row_at rs i).mapped ≡ 0 → mapping_of rs i ≡ Unmapped
+  pub mapping_unmapped : (row_at rs i).mapped ≡ 0 → mapping_of rs i ≡ Unmapped
   unfolding mapping_of
-  mapping-unmapped m = rw (eq-eqb (row_at rs i).mapped 0 m)
+  mapping_unmapped m = rw (eq-eqb (row_at rs i).mapped 0 m)
 
-  pub mapping-at : ((row_at rs i).mapped ≡ 0 → ⊥) → mapping_of rs i ≡ At (row_at rs i).host
+  pub mapping_at : ((row_at rs i).mapped ≡ 0 → ⊥) → mapping_of rs i ≡ At (row_at rs i).host
   unfolding mapping_of
-  mapping-at m = rw (ne_eqb (row_at rs i).mapped 0 m)
+  mapping_at m = rw (ne_eqb (row_at rs i).mapped 0 m)
 
 -- it depends on nothing but that row
-pub mapping-same : (rs ss : List MapRow) (i : ℕ) → row_at rs i ≡ row_at ss i → mapping_of rs i ≡ mapping_of ss i
+pub mapping_same : (rs ss : List MapRow) (i : ℕ) → row_at rs i ≡ row_at ss i → mapping_of rs i ≡ mapping_of ss i
 unfolding mapping_of
-mapping-same rs ss i e = rw e
+mapping_same rs ss i e = rw e
 
 -- ---- the search
 -- row j is the first from `first` to `last` that is not mapped
@@ -44,7 +44,7 @@ found_in : (i : ℕ) (ss : List MapRow) (j : ℕ) → unmapped_from i ss ≡ Row
 unfolding unmapped_from
 found_in i [] j e = let z : ◌≡◌ {A = ℕ} 0 1 = cc in absurd (omega arith)
 found_in i (r ∷ ss) j e =
-    by-test (eqb r.mapped 0)
+    by_test (eqb r.mapped 0)
     (λ t.
     let q : Row i ≡ Row j = rw t at e in
     let d : i ≡ j = cc in
@@ -67,12 +67,12 @@ none_in i (r ∷ ss) e zero l z =
     let q : Row i ≡ NoneLeft = rw t at e in
     let z : ◌≡◌ {A = ℕ} 0 1 = cc in omega arith
 none_in i (r ∷ ss) e (suc k) l z =
-    by-test (eqb r.mapped 0)
+    by_test (eqb r.mapped 0)
     (λ t. let q : Row i ≡ NoneLeft = rw t at e in let z : ◌≡◌ {A = ℕ} 0 1 = cc in omega arith)
     (λ t. none_in (suc i) ss (rw t at e) k (omega arith) z)
 
-in-range : (rs : List MapRow) (first last k : ℕ) → first + k ≤ last → row_at (take (last + 1 - first) (drop first rs)) k ≡ row_at rs (first + k)
-in-range rs first last k l = let h : k < last + 1 - first = omega arith in rw (get_or-take, get_or-drop)
+in_range : (rs : List MapRow) (first last k : ℕ) → first + k ≤ last → row_at (take (last + 1 - first) (drop first rs)) k ≡ row_at rs (first + k)
+in_range rs first last k l = let h : k < last + 1 - first = omega arith in rw (get_or-take, get_or-drop)
 
 pub first_found : (rs : List MapRow) (first last j : ℕ) → first_unmapped rs first last ≡ Row j → IsFirst rs first last j
 first_found rs first last j e =
@@ -83,74 +83,74 @@ first_found rs first last j e =
       from = w.0;
       to = omega arith;
       exists = omega arith;
-      unmapped = rw d at (rw (in-range rs first last (j - first) (omega arith)) at w.2);
+      unmapped = rw d at (rw (in_range rs first last (j - first) (omega arith)) at w.2);
       before = λ k p q z.
           let d : first + (k - first) ≡ k = omega arith in
-          w.3 (k - first) (omega arith) (rw (in-range rs first last (k - first) (omega arith), d) z);
+          w.3 (k - first) (omega arith) (rw (in_range rs first last (k - first) (omega arith), d) z);
     }
 
-pub first-none : (rs : List MapRow) (first last : ℕ) → first_unmapped rs first last ≡ NoneLeft → (k : ℕ) → first ≤ k → k ≤ last → k < length rs → (row_at rs k).mapped ≡ 0 → ⊥
-first-none rs first last e k p q l z =
+pub first_none : (rs : List MapRow) (first last : ℕ) → first_unmapped rs first last ≡ NoneLeft → (k : ℕ) → first ≤ k → k ≤ last → k < length rs → (row_at rs k).mapped ≡ 0 → ⊥
+first_none rs first last e k p q l z =
     let d : first + (k - first) ≡ k = omega arith in
     let m = rw (length-drop first rs) at (length-take (last + 1 - first) (drop first rs)) in
-    none_in first (take (last + 1 - first) (drop first rs)) e (k - first) (omega arith) (rw (in-range rs first last (k - first) (omega arith), d) z)
+    none_in first (take (last + 1 - first) (drop first rs)) e (k - first) (omega arith) (rw (in_range rs first last (k - first) (omega arith), d) z)
 
 -- ---- filling
-pub fill-length : (rs : List MapRow) (i n h : ℕ) → length (fill_rows rs i n h) ≡ length rs
+pub fill_length : (rs : List MapRow) (i n h : ℕ) → length (fill_rows rs i n h) ≡ length rs
 unfolding fill_rows
-fill-length [] i n h = refl
-fill-length (r ∷ rs) (suc i) n h = ap suc (fill-length rs i n h)
-fill-length (r ∷ rs) zero zero h = refl
-fill-length (r ∷ rs) zero (suc n) h = ap suc (fill-length rs zero n (h + map_region))
+fill_length [] i n h = refl
+fill_length (r ∷ rs) (suc i) n h = ap suc (fill_length rs i n h)
+fill_length (r ∷ rs) zero zero h = refl
+fill_length (r ∷ rs) zero (suc n) h = ap suc (fill_length rs zero n (h + map_region))
 
 -- nothing to fill, or nothing there
-pub fill-nothing : (rs : List MapRow) (i n h : ℕ) → min n (length rs - i) ≡ 0 → fill_rows rs i n h ≡ rs
+pub fill_nothing : (rs : List MapRow) (i n h : ℕ) → min n (length rs - i) ≡ 0 → fill_rows rs i n h ≡ rs
 unfolding fill_rows
-fill-nothing [] i n h e = refl
-fill-nothing (r ∷ rs) (suc i) n h e = rw (fill-nothing rs i n h (omega arith))
-fill-nothing (r ∷ rs) zero zero h e = refl
-fill-nothing (r ∷ rs) zero (suc n) h e = absurd (omega arith)
+fill_nothing [] i n h e = refl
+fill_nothing (r ∷ rs) (suc i) n h e = rw (fill_nothing rs i n h (omega arith))
+fill_nothing (r ∷ rs) zero zero h e = refl
+fill_nothing (r ∷ rs) zero (suc n) h e = absurd (omega arith)
 
 -- a row that is filled is mapped, its slot as it was and its host address saturates at 2^64 - 1
-pub fill-inside : (rs : List MapRow) (i n h j : ℕ) → i ≤ j → j < i + n → j < length rs → row_at (fill_rows rs i n h) j ≡ mapped_at (h + (j - i) * map_region) (row_at rs j)
+pub fill_inside : (rs : List MapRow) (i n h j : ℕ) → i ≤ j → j < i + n → j < length rs → row_at (fill_rows rs i n h) j ≡ mapped_at (h + (j - i) * map_region) (row_at rs j)
 unfolding fill_rows
-fill-inside [] i n h j p q l = absurd (omega arith)
-fill-inside (r ∷ rs) (suc i) n h zero p q l = absurd (omega arith)
-fill-inside (r ∷ rs) (suc i) n h (suc j) p q l =
+fill_inside [] i n h j p q l = absurd (omega arith)
+fill_inside (r ∷ rs) (suc i) n h zero p q l = absurd (omega arith)
+fill_inside (r ∷ rs) (suc i) n h (suc j) p q l =
     let e : suc j - suc i ≡ j - i = omega arith in
-    rw e (fill-inside rs i n h j (omega arith) (omega arith) (omega arith))
-fill-inside (r ∷ rs) zero zero h j p q l = absurd (omega arith)
-fill-inside (r ∷ rs) zero (suc n) h zero p q l = let e : h + 0 ≡ h = omega arith in rw e
-fill-inside (r ∷ rs) zero (suc n) h (suc j) p q l =
+    rw e (fill_inside rs i n h j (omega arith) (omega arith) (omega arith))
+fill_inside (r ∷ rs) zero zero h j p q l = absurd (omega arith)
+fill_inside (r ∷ rs) zero (suc n) h zero p q l = let e : h + 0 ≡ h = omega arith in rw e
+fill_inside (r ∷ rs) zero (suc n) h (suc j) p q l =
     let e : h + (suc j - 0) * map_region ≡ h + map_region + (j - 0) * map_region = omega arith in
-    rw e (fill-inside rs zero n (h + map_region) j (omega arith) (omega arith) (omega arith))
+    rw e (fill_inside rs zero n (h + map_region) j (omega arith) (omega arith) (omega arith))
 
-pub fill-before : (rs : List MapRow) (i n h j : ℕ) → j < i → row_at (fill_rows rs i n h) j ≡ row_at rs j
+pub fill_before : (rs : List MapRow) (i n h j : ℕ) → j < i → row_at (fill_rows rs i n h) j ≡ row_at rs j
 unfolding fill_rows
-fill-before [] i n h j k = refl
-fill-before (r ∷ rs) (suc i) n h zero k = refl
-fill-before (r ∷ rs) (suc i) n h (suc j) k = fill-before rs i n h j (omega arith)
-fill-before (r ∷ rs) zero n h j k = absurd (omega arith)
+fill_before [] i n h j k = refl
+fill_before (r ∷ rs) (suc i) n h zero k = refl
+fill_before (r ∷ rs) (suc i) n h (suc j) k = fill_before rs i n h j (omega arith)
+fill_before (r ∷ rs) zero n h j k = absurd (omega arith)
 
-pub fill-after : (rs : List MapRow) (i n h j : ℕ) → i + n ≤ j → row_at (fill_rows rs i n h) j ≡ row_at rs j
+pub fill_after : (rs : List MapRow) (i n h j : ℕ) → i + n ≤ j → row_at (fill_rows rs i n h) j ≡ row_at rs j
 unfolding fill_rows
-fill-after [] i n h j k = refl
-fill-after (r ∷ rs) (suc i) n h zero k = absurd (omega arith)
-fill-after (r ∷ rs) (suc i) n h (suc j) k = fill-after rs i n h j (omega arith)
-fill-after (r ∷ rs) zero zero h j k = refl
-fill-after (r ∷ rs) zero (suc n) h zero k = absurd (omega arith)
-fill-after (r ∷ rs) zero (suc n) h (suc j) k = fill-after rs zero n (h + map_region) j (omega arith)
+fill_after [] i n h j k = refl
+fill_after (r ∷ rs) (suc i) n h zero k = absurd (omega arith)
+fill_after (r ∷ rs) (suc i) n h (suc j) k = fill_after rs i n h j (omega arith)
+fill_after (r ∷ rs) zero zero h j k = refl
+fill_after (r ∷ rs) zero (suc n) h zero k = absurd (omega arith)
+fill_after (r ∷ rs) zero (suc n) h (suc j) k = fill_after rs zero n (h + map_region) j (omega arith)
 
 -- ---- laying
-pub laid-length : (rs : List MapRow) (ss : List ℕ) → length (rows_laid rs ss) ≡ length rs
+pub laid_length : (rs : List MapRow) (ss : List ℕ) → length (rows_laid rs ss) ≡ length rs
 unfolding rows_laid
-laid-length [] ss = refl
-laid-length (r ∷ rs) [] = refl
-laid-length (r ∷ rs) (s ∷ ss) = ap suc (laid-length rs ss)
+laid_length [] ss = refl
+laid_length (r ∷ rs) [] = refl
+laid_length (r ∷ rs) (s ∷ ss) = ap suc (laid_length rs ss)
 
-pub laid-inside : (rs : List MapRow) (ss : List ℕ) (j : ℕ) → j < length rs → j < length ss → row_at (rows_laid rs ss) j ≡ record { slot = get_or ss j 0; mapped = 0; host = record { 0 = 0 } }
+pub laid_inside : (rs : List MapRow) (ss : List ℕ) (j : ℕ) → j < length rs → j < length ss → row_at (rows_laid rs ss) j ≡ record { slot = get_or ss j 0; mapped = 0; host = record { 0 = 0 } }
 unfolding rows_laid
-laid-inside [] ss j l k = absurd (omega arith)
-laid-inside (r ∷ rs) [] j l k = absurd (omega arith)
-laid-inside (r ∷ rs) (s ∷ ss) zero l k = refl
-laid-inside (r ∷ rs) (s ∷ ss) (suc j) l k = laid-inside rs ss j (omega arith) (omega arith)
+laid_inside [] ss j l k = absurd (omega arith)
+laid_inside (r ∷ rs) [] j l k = absurd (omega arith)
+laid_inside (r ∷ rs) (s ∷ ss) zero l k = refl
+laid_inside (r ∷ rs) (s ∷ ss) (suc j) l k = laid_inside rs ss j (omega arith) (omega arith)

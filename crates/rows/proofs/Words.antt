@@ -22,18 +22,18 @@ three : (n : ℕ) → 3 * suc n ≡ suc (suc (suc (3 * n)))
 three n = omega arith
 
 -- a row's three words
-pub words-of-row : (ws : List ℕ) (i : ℕ) → i < length (rows_of ws) → record { slot = get_or ws (3 * i) 0; mapped = get_or ws (3 * i + 1) 0; host = record { 0 = get_or ws (3 * i + 2) 0 } } ≡ row_at (rows_of ws) i
+pub words_of_row : (ws : List ℕ) (i : ℕ) → i < length (rows_of ws) → record { slot = get_or ws (3 * i) 0; mapped = get_or ws (3 * i + 1) 0; host = record { 0 = get_or ws (3 * i + 2) 0 } } ≡ row_at (rows_of ws) i
 unfolding rows_of
-words-of-row [] i h = absurd (omega arith)
-words-of-row (a ∷ []) i h = absurd (omega arith)
-words-of-row (a ∷ b ∷ []) i h = absurd (omega arith)
-words-of-row (a ∷ b ∷ d ∷ ws) zero h = refl
-words-of-row (a ∷ b ∷ d ∷ ws) (suc i) h = simp (three i, suc-add) (words-of-row ws i (omega arith))
+words_of_row [] i h = absurd (omega arith)
+words_of_row (a ∷ []) i h = absurd (omega arith)
+words_of_row (a ∷ b ∷ []) i h = absurd (omega arith)
+words_of_row (a ∷ b ∷ d ∷ ws) zero h = refl
+words_of_row (a ∷ b ∷ d ∷ ws) (suc i) h = simp (three i, suc-add) (words_of_row ws i (omega arith))
 
-length-words : (rs : List MapRow) → length (row_words rs) ≡ 3 * length rs
+length_words : (rs : List MapRow) → length (row_words rs) ≡ 3 * length rs
 unfolding row_words
-length-words [] = refl
-length-words (r ∷ rs) = omega (arith, length-words rs)
+length_words [] = refl
+length_words (r ∷ rs) = omega (arith, length_words rs)
 
 rows_words : (rs : List MapRow) (ws : List ℕ) → rows_of (row_words rs ++ ws) ≡ rs ++ rows_of ws
 unfolding rows_of row_words
@@ -61,8 +61,8 @@ pub read_back : (ws : List ℕ) (rs : List MapRow) → length rs ≡ length (row
 read_back ws rs h = rw (rows_words rs (drop (3 * length rs) ws), rows_drop (length rs) ws, h, drop-length (rows_of ws)) (append-nil rs)
 
 -- what is written last stands
-pub written-again : (ws : List ℕ) (rs ss : List MapRow) → length ss ≡ length rs → written (written ws rs) ss ≡ written ws ss
-written-again ws rs ss h = rw (h, drop_at (row_words rs) (drop (3 * length rs) ws) (3 * length rs) (length-words rs))
+pub written_again : (ws : List ℕ) (rs ss : List MapRow) → length ss ≡ length rs → written (written ws rs) ss ≡ written ws ss
+written_again ws rs ss h = rw (h, drop_at (row_words rs) (drop (3 * length rs) ws) (3 * length rs) (length_words rs))
 
 -- three stores write a row
 pub stores : (ws : List ℕ) (i a b d : ℕ) → i < length (rows_of ws) → set (set (set ws (3 * i) a) (3 * i + 1) b) (3 * i + 2) d ≡ written ws (set (rows_of ws) i (record { slot = a; mapped = b; host = record { 0 = d } }))
@@ -74,5 +74,5 @@ stores (x ∷ y ∷ z ∷ ws) zero a b d h = rw (three (length (rows_of ws)), wh
 stores (x ∷ y ∷ z ∷ ws) (suc i) a b d h = simp (three, suc-add) (ap (λ (l : List ℕ). x ∷ y ∷ z ∷ l) (stores ws i a b d (omega arith)))
 
 -- a table keeps its length where a row is written
-pub put-length : (ws ws' : List ℕ) (i : ℕ) (row : MapRow) → ws' ≡ written ws (set (rows_of ws) i row) → length ws' ≡ length ws
-put-length ws ws' i row e = rw e (simp (length-append, length-words, length-drop, length-set) (omega (arith, count ws)))
+pub put_length : (ws ws' : List ℕ) (i : ℕ) (row : MapRow) → ws' ≡ written ws (set (rows_of ws) i row) → length ws' ≡ length ws
+put_length ws ws' i row e = rw e (simp (length-append, length_words, length-drop, length-set) (omega (arith, count ws)))

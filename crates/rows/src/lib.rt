@@ -48,7 +48,7 @@ fn row_count(table: &[u64]) -> u64
     rows_in(table.len())
 }
 
-// A row; past the table, where no request looks (`row-in-table` of `step`), slot 0 and not mapped (R8.5).
+// A row; past the table, where no request looks (`row_in_table` of `step`), slot 0 and not mapped (R8.5).
 fn row_at(table: &[u64], row: u64) -> MapRow
     ensures { result ≡ row_at (rows_of table.now) row }
 {

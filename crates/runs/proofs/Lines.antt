@@ -12,12 +12,12 @@ use Rattle.units.proofs.Tests.{and_left, and_right, refused, passed}
 use Rattle.text.specs.Decimal.{largest}
 use Rattle.text.specs.Reading.{is_digit, digit_of}
 use Rattle.bitmap.specs.Blocks.{blocks, Outside, Filled}
-use Rattle.bitmap.proofs.Bytes.{blocks-tell}
+use Rattle.bitmap.proofs.Bytes.{blocks_tell}
 use Rattle.forms.specs.Forms.{holes, filled, filled_from}
 use Rattle.forms.specs.Scanning.{found, lost, byte_then, scan_of, ScannedAt}
 use Rattle.forms.specs.declared.Place.{Place}
 use Rattle.forms.specs.declared.Place.TheVariants as place
-use Rattle.forms.proofs.Laws.{filled-length, opened, scan-written, missing, scan-read, scan-at-found, scan-at-nowhere}
+use Rattle.forms.proofs.Laws.{filled_length, opened, scan_written, missing, scan_read, scan_at_found, scan_at_nowhere}
 use Rattle.runs.specs.declared.Counted.{Counted}
 use Rattle.runs.specs.declared.Counted.TheVariants.{Blocks, Bad}
 use Rattle.runs.specs.declared.RunLine.{RunLine}
@@ -28,14 +28,14 @@ use Rattle.runs.specs.Reading.{IsRunLine, run_ok, Counts, Starts, Lays}
 
 -- ---- the runs' lines
 
-pub runs-open : (rs : List Run) → 9 < digit_of (runs_text rs)
+pub runs_open : (rs : List Run) → 9 < digit_of (runs_text rs)
 unfolding runs_text digit_of is_digit
-runs-open [] = omega arith
-runs-open (r ∷ rs) = opened 0 run_line (r.first ∷ r.count ∷ []) (runs_text rs) (runs-open rs) refl
+runs_open [] = omega arith
+runs_open (r ∷ rs) = opened 0 run_line (r.first ∷ r.count ∷ []) (runs_text rs) (runs_open rs) refl
 
-pub run-written : (r : Run) (rs : List Run) → r.first ≤ largest → r.count ≤ largest → scan_of run_line (runs_text (r ∷ rs)) ≡ found (r.first ∷ r.count ∷ []) (runs_text rs)
+pub run_written : (r : Run) (rs : List Run) → r.first ≤ largest → r.count ≤ largest → scan_of run_line (runs_text (r ∷ rs)) ≡ found (r.first ∷ r.count ∷ []) (runs_text rs)
 unfolding runs_text holes is_digit
-run-written r rs p q = scan-written 0 run_line (r.first ∷ r.count ∷ []) (runs_text rs) (runs-open rs) refl (p, (q, tt))
+run_written r rs p q = scan_written 0 run_line (r.first ∷ r.count ∷ []) (runs_text rs) (runs_open rs) refl (p, (q, tt))
 
 pub no_run : scan_of run_line (runs_text []) ≡ lost []
 unfolding runs_text scan_of byte_then
@@ -47,12 +47,12 @@ run_is r q a b = ap (λ (x : ℕ). record { first = x; count = r.count }) a ∙ 
 pub same_runs : (i j end stop : ℕ) (rs qs : List Run) → end ≤ largest → stop ≤ largest → RunsApart i end rs → RunsApart j stop qs → runs_text rs ≡ runs_text qs → rs ≡ qs
 same_runs i j end stop [] [] u v a b h = refl
 same_runs i j end stop [] (q ∷ qs) u v a b h =
-    absurd (missing (sym no_run ∙ ap (scan_of run_line) h ∙ run-written q qs (omega (arith, b.2)) (omega (arith, b.2))))
+    absurd (missing (sym no_run ∙ ap (scan_of run_line) h ∙ run_written q qs (omega (arith, b.2)) (omega (arith, b.2))))
 same_runs i j end stop (r ∷ rs) [] u v a b h =
-    absurd (missing (sym no_run ∙ ap (scan_of run_line) (sym h) ∙ run-written r rs (omega (arith, a.2)) (omega (arith, a.2))))
+    absurd (missing (sym no_run ∙ ap (scan_of run_line) (sym h) ∙ run_written r rs (omega (arith, a.2)) (omega (arith, a.2))))
 same_runs i j end stop (r ∷ rs) (q ∷ qs) u v a b h =
     let e : found (r.first ∷ r.count ∷ []) (runs_text rs) ≡ found (q.first ∷ q.count ∷ []) (runs_text qs) =
-    sym (run-written r rs (omega (arith, a.2)) (omega (arith, a.2))) ∙ ap (scan_of run_line) h ∙ run-written q qs (omega (arith, b.2)) (omega (arith, b.2)) in
+    sym (run_written r rs (omega (arith, a.2)) (omega (arith, a.2))) ∙ ap (scan_of run_line) h ∙ run_written q qs (omega (arith, b.2)) (omega (arith, b.2)) in
     let f : r.first ≡ q.first = cc in
     let c : r.count ≡ q.count = cc in
     let t : runs_text rs ≡ runs_text qs = cc in
@@ -63,31 +63,31 @@ same_runs i j end stop (r ∷ rs) (q ∷ qs) u v a b h =
 -- ---- `run_at`
 
 module _ (s : List ℕ) (at : ℕ) {after : List ℕ} {r : Place} (o : ScannedAt (0 ∷ 0 ∷ []) s (scan_of run_line (drop at s)) r after) where
-  pub run-found : (n : ℕ) → r ≡ place.At n → scan_of run_line (drop at s) ≡ found (get_or after 0 0 ∷ get_or after 1 0 ∷ []) (drop n s)
+  pub run_found : (n : ℕ) → r ≡ place.At n → scan_of run_line (drop at s) ≡ found (get_or after 0 0 ∷ get_or after 1 0 ∷ []) (drop n s)
   unfolding holes
-  run-found n e = let f = scan-at-found run_line s at o n e in rw (f.stored 0 refl, f.stored 1 refl) f.is
+  run_found n e = let f = scan_at_found run_line s at o n e in rw (f.stored 0 refl, f.stored 1 refl) f.is
 
-  pub run-nowhere : r ≡ place.Nowhere → (us rest : List ℕ) → scan_of run_line (drop at s) ≡ found us rest → ⊥
+  pub run_nowhere : r ≡ place.Nowhere → (us rest : List ℕ) → scan_of run_line (drop at s) ≡ found us rest → ⊥
   unfolding holes
-  run-nowhere e = scan-at-nowhere run_line s at o e (omega arith)
+  run_nowhere e = scan_at_nowhere run_line s at o e (omega arith)
 
 -- ---- `count_runs`
 
-bad-is : {n : ℕ} → Bad ≡ Blocks n → ⊥
-bad-is h = let z : ◌≡◌ {A = ℕ} 0 1 = cc in omega arith
+bad_is : {n : ℕ} → Bad ≡ Blocks n → ⊥
+bad_is h = let z : ◌≡◌ {A = ℕ} 0 1 = cc in omega arith
 
 -- a text that starts with no run's line is that of no run, and empty
 no_line : (from end : ℕ) (l : List ℕ) → end ≤ largest → ((us rest : List ℕ) → scan_of run_line l ≡ found us rest → ⊥) → (rs : List Run) → RunsApart from end rs → runs_text rs ≡ l → l ≡ []
 unfolding runs_text
 no_line from end l h n [] a t = sym t
 no_line from end l h n (r ∷ rs) a t =
-    absurd (n _ _ (ap (scan_of run_line) (sym t) ∙ run-written r rs (omega (arith, a.2)) (omega (arith, a.2))))
+    absurd (n _ _ (ap (scan_of run_line) (sym t) ∙ run_written r rs (omega (arith, a.2)) (omega (arith, a.2))))
 
-pub counts-none : (from end sum : ℕ) (l : List ℕ) → end ≤ largest → 0 < length l → ((us rest : List ℕ) → scan_of run_line l ≡ found us rest → ⊥) → Counts from end sum l Bad
-counts-none from end sum l h p n =
+pub counts_none : (from end sum : ℕ) (l : List ℕ) → end ≤ largest → 0 < length l → ((us rest : List ℕ) → scan_of run_line l ≡ found us rest → ⊥) → Counts from end sum l Bad
+counts_none from end sum l h p n =
     record {
       whole = λ rs a t. let e : length l ≡ 0 = ap length (no_line from end l h n rs a t) in absurd (omega arith);
-      only = λ m e. absurd (bad-is e);
+      only = λ m e. absurd (bad_is e);
     }
 
 pub counts_end : (from end sum : ℕ) → end ≤ largest → Counts from end sum [] (Blocks sum)
@@ -97,7 +97,7 @@ counts_end from end sum h = record { whole = go; only = λ m e. ([], tt, refl, (
     go : (rs : List Run) → RunsApart from end rs → runs_text rs ≡ [] → Blocks sum ≡ Blocks (sum + total rs)
     go [] a t = let z : sum ≡ sum + 0 = omega arith in ap Blocks z
     go (r ∷ rs) a t =
-        absurd (missing (sym no_run ∙ ap (scan_of run_line) (sym t) ∙ run-written r rs (omega (arith, a.2)) (omega (arith, a.2))))
+        absurd (missing (sym no_run ∙ ap (scan_of run_line) (sym t) ∙ run_written r rs (omega (arith, a.2)) (omega (arith, a.2))))
 
 run_ok_lem : (first count from end : ℕ) → run_ok first count from end ≡ true → (from ≤ first) × (0 < count) × (first + count ≤ end)
 unfolding run_ok
@@ -105,9 +105,9 @@ run_ok_lem first count from end e =
     let r = and_right (leb from first) _ e in
     (leb-true from first (and_left (leb from first) _ e), ltb-true 0 count (and_left (ltb 0 count) _ r), leb-true (first + count) end (and_right (ltb 0 count) _ r))
 
-ok-run : (first count from end : ℕ) → from ≤ first → 0 < count → first + count ≤ end → run_ok first count from end ≡ true
+ok_run : (first count from end : ℕ) → from ≤ first → 0 < count → first + count ≤ end → run_ok first count from end ≡ true
 unfolding run_ok
-ok-run first count from end p q r = rw (le-leb from first p, lt-ltb 0 count q) (le-leb (first + count) end r)
+ok_run first count from end p q r = rw (le-leb from first p, lt-ltb 0 count q) (le-leb (first + count) end r)
 
 module _ (from end sum : ℕ) (l : List ℕ) (h : end ≤ largest) (first count : ℕ) (rest : List ℕ) (e : scan_of run_line l ≡ found (first ∷ count ∷ []) rest) where
   -- runs whose text is l start with this one
@@ -117,23 +117,23 @@ module _ (from end sum : ℕ) (l : List ℕ) (h : end ≤ largest) (first count 
   starts P [] a t f = absurd (missing (sym no_run ∙ ap (scan_of run_line) t ∙ e))
   starts P (r ∷ rs) a t f =
       let q : found (r.first ∷ r.count ∷ []) (runs_text rs) ≡ found (first ∷ count ∷ []) rest =
-      sym (run-written r rs (omega (arith, a.2)) (omega (arith, a.2))) ∙ ap (scan_of run_line) t ∙ e in
+      sym (run_written r rs (omega (arith, a.2)) (omega (arith, a.2))) ∙ ap (scan_of run_line) t ∙ e in
       let x : r.first ≡ first = cc in
       let y : r.count ≡ count = cc in
       let w : runs_text rs ≡ rest = cc in
       let z : r.first + r.count ≡ first + count = omega arith in
-      f rs (ok-run first count from end (omega (arith, a.0)) (omega (arith, a.1)) (omega (arith, a.2))) (rw z at a.3) w (rw y)
+      f rs (ok_run first count from end (omega (arith, a.0)) (omega (arith, a.1)) (omega (arith, a.2))) (rw z at a.3) w (rw y)
 
-  pub counts-bad : run_ok first count from end ≡ false → Counts from end sum l Bad
-  counts-bad n =
+  pub counts_bad : run_ok first count from end ≡ false → Counts from end sum l Bad
+  counts_bad n =
       record {
         whole = λ rs a t. starts (Bad ≡ Blocks (sum + total rs)) rs a t (λ qs y b u v. absurd (let z : ◌≡◌ {A = ℕ} 0 1 = cc in omega arith));
-        only = λ m q. absurd (bad-is q);
+        only = λ m q. absurd (bad_is q);
       }
 
-  pub counts-turn : (w : Counted) → run_ok first count from end ≡ true → Counts (suc (first + count)) end (sum + count) rest w → Counts from end sum l w
+  pub counts_turn : (w : Counted) → run_ok first count from end ≡ true → Counts (suc (first + count)) end (sum + count) rest w → Counts from end sum l w
   unfolding total runs_text holes
-  counts-turn w y c =
+  counts_turn w y c =
       let o = run_ok_lem first count from end y in
       record {
         whole =
@@ -144,7 +144,7 @@ module _ (from end sum : ℕ) (l : List ℕ) (h : end ≤ largest) (first count 
             λ m q.
             let d = c.only m q in
             let k = d.3 in
-            let p = (scan-read run_line l (first ∷ count ∷ []) rest e).1 in (
+            let p = (scan_read run_line l (first ∷ count ∷ []) rest e).1 in (
               record { first = first; count = count } ∷ d.0,
               (o.0, o.1, o.2, d.1),
               ap (λ (r : List ℕ). filled run_line (first ∷ count ∷ []) ++ r) d.2 ∙ p,
@@ -156,7 +156,7 @@ module _ (from end sum : ℕ) (l : List ℕ) (h : end ≤ largest) (first count 
   pub shorter : length rest < length l
   unfolding filled_from holes
   shorter =
-      let p = (scan-read run_line l (first ∷ count ∷ []) rest e).1 in
+      let p = (scan_read run_line l (first ∷ count ∷ []) rest e).1 in
       let q : length l ≡ length (filled run_line (first ∷ count ∷ []) ++ rest) = ap length (sym p) in
       let r = length-append (filled run_line (first ∷ count ∷ [])) rest in
       omega arith
@@ -164,8 +164,8 @@ module _ (from end sum : ℕ) (l : List ℕ) (h : end ≤ largest) (first count 
 line_at : (s l : List ℕ) (r : RunLine) → IsRunLine s l r → (f c n : ℕ) → r ≡ line.At f c n → scan_of run_line l ≡ found (f ∷ c ∷ []) (drop n s)
 line_at s l r h f c n e = let g : IsRunLine s l (line.At f c n) = rw e at h in g
 
-line-bad : (s l : List ℕ) (r : RunLine) → IsRunLine s l r → r ≡ line.Bad → (us rest : List ℕ) → scan_of run_line l ≡ found us rest → ⊥
-line-bad s l r h e = let g : IsRunLine s l line.Bad = rw e at h in g
+line_bad : (s l : List ℕ) (r : RunLine) → IsRunLine s l r → r ≡ line.Bad → (us rest : List ℕ) → scan_of run_line l ≡ found us rest → ⊥
+line_bad s l r h e = let g : IsRunLine s l line.Bad = rw e at h in g
 
 -- the loop stands at i of the text, with `sum` blocks in runs that end before block `from`: what is right for the text that is left is right for the whole
 pub record Reading (s : List ℕ) (at end i from sum : ℕ) : Type 0 where
@@ -173,43 +173,43 @@ pub record Reading (s : List ℕ) (at end i from sum : ℕ) : Type 0 where
   pub few : sum ≤ from
   pub inside : from ≤ end + 1
 
-pub reading-start : (s : List ℕ) (at end : ℕ) → Reading s at end at 0 0
-reading-start s at end = record { back = λ w c. c; few = omega arith; inside = omega arith }
+pub reading_start : (s : List ℕ) (at end : ℕ) → Reading s at end at 0 0
+reading_start s at end = record { back = λ w c. c; few = omega arith; inside = omega arith }
 
 module _ {s : List ℕ} {at end i from sum : ℕ} (h : end ≤ 1099511627776) (o : Reading s at end i from sum) where
-  left-long : i < length s → 0 < length (drop i s)
-  left-long p = let d = length-drop i s in omega arith
+  left_long : i < length s → 0 < length (drop i s)
+  left_long p = let d = length-drop i s in omega arith
 
   pub read_none : i < length s → (r : RunLine) → IsRunLine s (drop i s) r → r ≡ line.Bad → Counts 0 end 0 (drop at s) Bad
-  read_none p r q e = o.back Bad (counts-none from end sum (drop i s) (omega arith) (left-long p) (line-bad s (drop i s) r q e))
+  read_none p r q e = o.back Bad (counts_none from end sum (drop i s) (omega arith) (left_long p) (line_bad s (drop i s) r q e))
 
-  pub read-end : length s ≤ i → Counts 0 end 0 (drop at s) (Blocks sum)
-  read-end p = o.back (Blocks sum) (rw (drop_of_length-le s p) (counts_end from end sum (omega arith)))
+  pub read_end : length s ≤ i → Counts 0 end 0 (drop at s) (Blocks sum)
+  read_end p = o.back (Blocks sum) (rw (drop_of_length-le s p) (counts_end from end sum (omega arith)))
 
   module _ (r : RunLine) (q : IsRunLine s (drop i s) r) (f c n : ℕ) (e : r ≡ line.At f c n) (g : Bool) (t : g ≡ run_ok f c from end) where
-    pub read-bad : not g ≡ true → Counts 0 end 0 (drop at s) Bad
-    read-bad u =
-        o.back Bad (counts-bad from end sum (drop i s) (omega arith) f c (drop n s) (line_at s (drop i s) r q f c n e) (refused (run_ok f c from end) g t u))
+    pub read_bad : not g ≡ true → Counts 0 end 0 (drop at s) Bad
+    read_bad u =
+        o.back Bad (counts_bad from end sum (drop i s) (omega arith) f c (drop n s) (line_at s (drop i s) r q f c n e) (refused (run_ok f c from end) g t u))
 
-    pub read-sums : not g ≡ false → (sum + c ≤ end) × (f + c ≤ end)
-    read-sums u =
+    pub read_sums : not g ≡ false → (sum + c ≤ end) × (f + c ≤ end)
+    read_sums u =
         let k = run_ok_lem f c from end (passed (run_ok f c from end) g t u) in
         let a = k.0 in
         let b = k.2 in
         let d = o.few in
         (omega arith, b)
 
-    pub read-less : i < length s → length s - n < length s - i
-    read-less p =
+    pub read_less : i < length s → length s - n < length s - i
+    read_less p =
         let a = shorter from end sum (drop i s) (omega arith) f c (drop n s) (line_at s (drop i s) r q f c n e) in
         let b = length-drop i s in
         let d = length-drop n s in
         omega arith
 
-    pub read-turn : not g ≡ false → Reading s at end n (f + c + 1) (sum + c)
-    read-turn u =
+    pub read_turn : not g ≡ false → Reading s at end n (f + c + 1) (sum + c)
+    read_turn u =
         let y = passed (run_ok f c from end) g t u in
-        let k = read-sums u in
+        let k = read_sums u in
         let a = k.0 in
         let b = k.1 in
         let m = (run_ok_lem f c from end y).0 in
@@ -218,126 +218,126 @@ module _ {s : List ℕ} {at end i from sum : ℕ} (h : end ≤ 1099511627776) (o
         record {
           back =
               λ w v.
-              o.back w (counts-turn from end sum (drop i s) (omega arith) f c (drop n s) (line_at s (drop i s) r q f c n e) w y (rw z at v));
+              o.back w (counts_turn from end sum (drop i s) (omega arith) f c (drop n s) (line_at s (drop i s) r q f c n e) w y (rw z at v));
           few = omega arith;
           inside = omega arith;
         }
 
 -- ---- `lay_runs`
 
-nothing-there : scan_of run_line [] ≡ lost []
+nothing_there : scan_of run_line [] ≡ lost []
 unfolding scan_of byte_then
-nothing-there = refl
+nothing_there = refl
 
-same-outside : (entry : List ℕ) (end : ℕ) → Outside entry entry 0 end
-same-outside entry end = record { same_length = refl; same-before = λ n h. refl; same-past = λ n h. refl }
+same_outside : (entry : List ℕ) (end : ℕ) → Outside entry entry 0 end
+same_outside entry end = record { same_length = refl; same_before = λ n h. refl; same_past = λ n h. refl }
 
-then-outside : (entry mid exit : List ℕ) (f c end : ℕ) → f + c ≤ end → Outside entry mid f (f + c) → Outside mid exit 0 end → Outside entry exit 0 end
-then-outside entry mid exit f c end h a b =
+then_outside : (entry mid exit : List ℕ) (f c end : ℕ) → f + c ≤ end → Outside entry mid f (f + c) → Outside mid exit 0 end → Outside entry exit 0 end
+then_outside entry mid exit f c end h a b =
     record {
       same_length = b.same_length ∙ a.same_length;
-      same-before = λ n k. b.same-before n k ∙ a.same-before n (omega arith);
-      same-past = λ n k. b.same-past n k ∙ a.same-past n (omega arith);
+      same_before = λ n k. b.same_before n k ∙ a.same_before n (omega arith);
+      same_past = λ n k. b.same_past n k ∙ a.same_past n (omega arith);
     }
 
-lays-none : (l entry : List ℕ) → ((us rest : List ℕ) → scan_of run_line l ≡ found us rest → ⊥) → Lays l entry entry
+lays_none : (l entry : List ℕ) → ((us rest : List ℕ) → scan_of run_line l ≡ found us rest → ⊥) → Lays l entry entry
 unfolding laid_on
-lays-none l entry n = record { runs = []; starts = n; as-blocks = refl; long = refl; outside = λ from end a. same-outside entry end }
+lays_none l entry n = record { runs = []; starts = n; as_blocks = refl; long = refl; outside = λ from end a. same_outside entry end }
 
-lays-turn : (l rest : List ℕ) (f c : ℕ) (entry mid exit : List ℕ) → scan_of run_line l ≡ found (f ∷ c ∷ []) rest → Filled entry mid f c true → Lays rest mid exit → Lays l entry exit
+lays_turn : (l rest : List ℕ) (f c : ℕ) (entry mid exit : List ℕ) → scan_of run_line l ≡ found (f ∷ c ∷ []) rest → Filled entry mid f c true → Lays rest mid exit → Lays l entry exit
 unfolding laid_on
-lays-turn l rest f c entry mid exit e d o =
+lays_turn l rest f c entry mid exit e d o =
     record {
       runs = record { first = f; count = c } ∷ o.runs;
       starts = (rest, e, o.starts);
-      as-blocks = o.as-blocks ∙ ap (laid_on o.runs) d.as-blocks;
+      as_blocks = o.as_blocks ∙ ap (laid_on o.runs) d.as_blocks;
       long = o.long ∙ d.outside.same_length;
-      outside = λ from end a. then-outside entry mid exit f c end a.2 d.outside (o.outside (suc (f + c)) end a.3);
+      outside = λ from end a. then_outside entry mid exit f c end a.2 d.outside (o.outside (suc (f + c)) end a.3);
     }
 
 -- a text of runs that are apart starts with those, and with no others
-pub starts-are : (from end : ℕ) (rs qs : List Run) (l : List ℕ) → end ≤ largest → RunsApart from end rs → runs_text rs ≡ l → Starts l qs → qs ≡ rs
-starts-are from end [] [] l h a t s = refl
-starts-are from end [] (q ∷ qs) l h a t s = absurd (missing (sym no_run ∙ ap (scan_of run_line) t ∙ s.1))
-starts-are from end (r ∷ rs) [] l h a t s =
-    absurd (s _ _ (ap (scan_of run_line) (sym t) ∙ run-written r rs (omega (arith, a.2)) (omega (arith, a.2))))
-starts-are from end (r ∷ rs) (q ∷ qs) l h a t s =
+pub starts_are : (from end : ℕ) (rs qs : List Run) (l : List ℕ) → end ≤ largest → RunsApart from end rs → runs_text rs ≡ l → Starts l qs → qs ≡ rs
+starts_are from end [] [] l h a t s = refl
+starts_are from end [] (q ∷ qs) l h a t s = absurd (missing (sym no_run ∙ ap (scan_of run_line) t ∙ s.1))
+starts_are from end (r ∷ rs) [] l h a t s =
+    absurd (s _ _ (ap (scan_of run_line) (sym t) ∙ run_written r rs (omega (arith, a.2)) (omega (arith, a.2))))
+starts_are from end (r ∷ rs) (q ∷ qs) l h a t s =
     let p : found (r.first ∷ r.count ∷ []) (runs_text rs) ≡ found (q.first ∷ q.count ∷ []) s.0 =
-    sym (run-written r rs (omega (arith, a.2)) (omega (arith, a.2))) ∙ ap (scan_of run_line) t ∙ s.1 in
+    sym (run_written r rs (omega (arith, a.2)) (omega (arith, a.2))) ∙ ap (scan_of run_line) t ∙ s.1 in
     let x : r.first ≡ q.first = cc in
     let y : r.count ≡ q.count = cc in
     let w : runs_text rs ≡ s.0 = cc in
-    let i = starts-are (suc (r.first + r.count)) end rs qs s.0 h a.3 w s.2 in
+    let i = starts_are (suc (r.first + r.count)) end rs qs s.0 h a.3 w s.2 in
     let z = run_is r q x y in
     cc
 
 -- ---- one outcome
 
-starts-once : (l : List ℕ) (rs qs : List Run) → Starts l rs → Starts l qs → rs ≡ qs
-starts-once l [] [] a b = refl
-starts-once l [] (q ∷ qs) a b = absurd (a _ _ b.1)
-starts-once l (r ∷ rs) [] a b = absurd (b _ _ a.1)
-starts-once l (r ∷ rs) (q ∷ qs) a b =
+starts_once : (l : List ℕ) (rs qs : List Run) → Starts l rs → Starts l qs → rs ≡ qs
+starts_once l [] [] a b = refl
+starts_once l [] (q ∷ qs) a b = absurd (a _ _ b.1)
+starts_once l (r ∷ rs) [] a b = absurd (b _ _ a.1)
+starts_once l (r ∷ rs) (q ∷ qs) a b =
     let p : found (r.first ∷ r.count ∷ []) a.0 ≡ found (q.first ∷ q.count ∷ []) b.0 = sym a.1 ∙ b.1 in
     let x : r.first ≡ q.first = cc in
     let y : r.count ≡ q.count = cc in
     let w : a.0 ≡ b.0 = cc in
-    let i = starts-once a.0 rs qs a.2 (rw w b.2) in
+    let i = starts_once a.0 rs qs a.2 (rw w b.2) in
     let z = run_is r q x y in
     cc
 
 -- the bytes of a bitmap are below 256, as its type says
-pub lays-once : (l entry xs ys : List ℕ) → ((i : ℕ) → get_or xs i 0 < 256) → ((i : ℕ) → get_or ys i 0 < 256) → Lays l entry xs → Lays l entry ys → xs ≡ ys
-lays-once l entry xs ys p q a b =
-    blocks-tell xs ys p q (a.as-blocks ∙ ap (λ (rs : List Run). laid_on rs (blocks entry)) (starts-once l a.runs b.runs a.starts b.starts) ∙ sym b.as-blocks)
+pub lays_once : (l entry xs ys : List ℕ) → ((i : ℕ) → get_or xs i 0 < 256) → ((i : ℕ) → get_or ys i 0 < 256) → Lays l entry xs → Lays l entry ys → xs ≡ ys
+lays_once l entry xs ys p q a b =
+    blocks_tell xs ys p q (a.as_blocks ∙ ap (λ (rs : List Run). laid_on rs (blocks entry)) (starts_once l a.runs b.runs a.starts b.starts) ∙ sym b.as_blocks)
 
-pub counts-once : (from end sum : ℕ) (l : List ℕ) (a b : Counted) → Counts from end sum l a → Counts from end sum l b → a ≡ b
-counts-once from end sum l (Blocks n) b p q = let o = p.only n refl in ap Blocks o.3 ∙ sym (q.whole o.0 o.1 o.2)
-counts-once from end sum l Bad (Blocks n) p q = let o = q.only n refl in p.whole o.0 o.1 o.2 ∙ ap Blocks (sym o.3)
-counts-once from end sum l Bad Bad p q = refl
+pub counts_once : (from end sum : ℕ) (l : List ℕ) (a b : Counted) → Counts from end sum l a → Counts from end sum l b → a ≡ b
+counts_once from end sum l (Blocks n) b p q = let o = p.only n refl in ap Blocks o.3 ∙ sym (q.whole o.0 o.1 o.2)
+counts_once from end sum l Bad (Blocks n) p q = let o = q.only n refl in p.whole o.0 o.1 o.2 ∙ ap Blocks (sym o.3)
+counts_once from end sum l Bad Bad p q = refl
 
 -- the loop stands at i of the text: what is right for the text that is left is right for the whole
 pub record Setting (s : List ℕ) (at : ℕ) (entry : List ℕ) (i : ℕ) (cur : List ℕ) : Type 0 where
   pub back : (exit : List ℕ) → Lays (drop i s) cur exit → Lays (drop at s) entry exit
   pub long : length cur ≡ length entry
 
-pub setting-start : (s : List ℕ) (at : ℕ) (entry : List ℕ) → Setting s at entry at entry
-setting-start s at entry = record { back = λ x o. o; long = refl }
+pub setting_start : (s : List ℕ) (at : ℕ) (entry : List ℕ) → Setting s at entry at entry
+setting_start s at entry = record { back = λ x o. o; long = refl }
 
 module _ {s : List ℕ} {at : ℕ} {entry : List ℕ} {i : ℕ} {cur : List ℕ} (o : Setting s at entry i cur) where
-  pub set-none : (r : RunLine) → IsRunLine s (drop i s) r → r ≡ line.Bad → Lays (drop at s) entry cur
-  set-none r q e = o.back cur (lays-none (drop i s) cur (line-bad s (drop i s) r q e))
+  pub set_none : (r : RunLine) → IsRunLine s (drop i s) r → r ≡ line.Bad → Lays (drop at s) entry cur
+  set_none r q e = o.back cur (lays_none (drop i s) cur (line_bad s (drop i s) r q e))
 
-  pub set-end : length s ≤ i → Lays (drop at s) entry cur
-  set-end h = o.back cur (rw (drop_of_length-le s h) (lays-none [] cur empty))
+  pub set_end : length s ≤ i → Lays (drop at s) entry cur
+  set_end h = o.back cur (rw (drop_of_length-le s h) (lays_none [] cur empty))
     where
       empty : (us rest : List ℕ) → scan_of run_line [] ≡ found us rest → ⊥
-      empty us rest q = missing (sym nothing-there ∙ q)
+      empty us rest q = missing (sym nothing_there ∙ q)
 
   module _ (r : RunLine) (q : IsRunLine s (drop i s) r) (f c n : ℕ) (e : r ≡ line.At f c n) where
-    pub set-less : i < length s → length s - n < length s - i
-    set-less p =
+    pub set_less : i < length s → length s - n < length s - i
+    set_less p =
         let a = shorter 0 0 0 (drop i s) (omega arith) f c (drop n s) (line_at s (drop i s) r q f c n e) in
         let b = length-drop i s in
         let d = length-drop n s in
         omega arith
 
-    pub set-turn : (cur' : List ℕ) → Filled cur cur' f c true → Setting s at entry n cur'
-    set-turn cur' d =
+    pub set_turn : (cur' : List ℕ) → Filled cur cur' f c true → Setting s at entry n cur'
+    set_turn cur' d =
         record {
-          back = λ x v. o.back x (lays-turn (drop i s) (drop n s) f c cur cur' x (line_at s (drop i s) r q f c n e) d v);
+          back = λ x v. o.back x (lays_turn (drop i s) (drop n s) f c cur cur' x (line_at s (drop i s) r q f c n e) d v);
           long = d.outside.same_length ∙ o.long;
         }
 
 -- ---- how long the lines are
 
 -- no line is longer than 46 bytes, and each run has a block
-pub runs-short : (from end : ℕ) (rs : List Run) → end ≤ largest → RunsApart from end rs → length (runs_text rs) ≤ 46 * total rs
+pub runs_short : (from end : ℕ) (rs : List Run) → end ≤ largest → RunsApart from end rs → length (runs_text rs) ≤ 46 * total rs
 unfolding runs_text total holes
-runs-short from end [] h a = omega arith
-runs-short from end (r ∷ rs) h a =
+runs_short from end [] h a = omega arith
+runs_short from end (r ∷ rs) h a =
     let some = a.1 in
-    let l = filled-length 0 run_line (r.first ∷ r.count ∷ []) (omega (arith, a.2), (omega (arith, a.2), tt)) in
+    let l = filled_length 0 run_line (r.first ∷ r.count ∷ []) (omega (arith, a.2), (omega (arith, a.2), tt)) in
     let n = length-append (filled run_line (r.first ∷ r.count ∷ [])) (runs_text rs) in
-    let i = runs-short (suc (r.first + r.count)) end rs h a.3 in
+    let i = runs_short (suc (r.first + r.count)) end rs h a.3 in
     omega arith

@@ -14,34 +14,34 @@ sooner m l end [] q a = tt
 sooner m l end (r ∷ rs) q a = (omega (arith, a.0), a.1, a.2, a.3)
 
 -- ---- the runs of a list are apart
-closed-apart : (i n end : ℕ) (rs : List Run) → n ≤ i → i ≤ end → RunsApart (suc i) end rs → RunsApart (i - n) end (closed i n rs)
+closed_apart : (i n end : ℕ) (rs : List Run) → n ≤ i → i ≤ end → RunsApart (suc i) end rs → RunsApart (i - n) end (closed i n rs)
 unfolding closed
-closed-apart i zero end rs h k a = sooner (suc i) (i - 0) end rs (omega arith) a
-closed-apart i (suc n) end rs h k a =
+closed_apart i zero end rs h k a = sooner (suc i) (i - 0) end rs (omega arith) a
+closed_apart i (suc n) end rs h k a =
     let w : i - suc n + suc n ≡ i = omega arith in
     (omega arith, omega arith, omega arith, rw w a)
 
-pub runs-apart : (i n : ℕ) (bs : List Bool) → n ≤ i → RunsApart (i - n) (i + length bs) (runs_from i n bs)
+pub runs_apart : (i n : ℕ) (bs : List Bool) → n ≤ i → RunsApart (i - n) (i + length bs) (runs_from i n bs)
 unfolding runs_from
-runs-apart i n [] h = let z : i + 0 ≡ i = omega arith in rw z (closed-apart i n i [] h (omega arith) tt)
-runs-apart i n (true ∷ bs) h =
+runs_apart i n [] h = let z : i + 0 ≡ i = omega arith in rw z (closed_apart i n i [] h (omega arith) tt)
+runs_apart i n (true ∷ bs) h =
     let z : i + suc (length bs) ≡ suc i + length bs = omega arith in
     let y : i - n ≡ suc i - suc n = omega arith in
-    rw (z, y) (runs-apart (suc i) (suc n) bs (omega arith))
-runs-apart i n (false ∷ bs) h =
+    rw (z, y) (runs_apart (suc i) (suc n) bs (omega arith))
+runs_apart i n (false ∷ bs) h =
     let z : i + suc (length bs) ≡ suc i + length bs = omega arith in
     let y : suc i - 0 ≡ suc i = omega arith in
-    rw z (closed-apart i n (suc i + length bs) _ h (omega arith) (rw y at (runs-apart (suc i) 0 bs (omega arith))))
+    rw z (closed_apart i n (suc i + length bs) _ h (omega arith) (rw y at (runs_apart (suc i) 0 bs (omega arith))))
 
 -- ---- the runs spread again are the list
-one-clear : (i end : ℕ) (rs : List Run) → i < end → RunsApart (suc i) end rs → spread i end rs ≡ false ∷ spread (suc i) end rs
+one_clear : (i end : ℕ) (rs : List Run) → i < end → RunsApart (suc i) end rs → spread i end rs ≡ false ∷ spread (suc i) end rs
 unfolding spread
-one-clear i end [] h a = let w : end - i ≡ suc (end - suc i) = omega arith in rw w
-one-clear i end (r ∷ rs) h a = let p = a.0 in let w : r.first - i ≡ suc (r.first - suc i) = omega arith in rw w
+one_clear i end [] h a = let w : end - i ≡ suc (end - suc i) = omega arith in rw w
+one_clear i end (r ∷ rs) h a = let p = a.0 in let w : r.first - i ≡ suc (r.first - suc i) = omega arith in rw w
 
-ones-then : (n : ℕ) (bs : List Bool) → replicate n true ++ (true ∷ bs) ≡ replicate (suc n) true ++ bs
-ones-then zero bs = refl
-ones-then (suc n) bs = ap (λ (l : List Bool). true ∷ l) (ones-then n bs)
+ones_then : (n : ℕ) (bs : List Bool) → replicate n true ++ (true ∷ bs) ≡ replicate (suc n) true ++ bs
+ones_then zero bs = refl
+ones_then (suc n) bs = ap (λ (l : List Bool). true ∷ l) (ones_then n bs)
 
 closed-spread : (i n end : ℕ) (rs : List Run) → n ≤ i → spread (i - n) end (closed i n rs) ≡ replicate n true ++ spread i end rs
 unfolding closed spread
@@ -51,36 +51,36 @@ closed-spread i (suc n) end rs h =
     let w : i - suc n + suc n ≡ i = omega arith in
     rw (z, w)
 
-pub spread-runs : (i n : ℕ) (bs : List Bool) → n ≤ i → spread (i - n) (i + length bs) (runs_from i n bs) ≡ replicate n true ++ bs
+pub spread_runs : (i n : ℕ) (bs : List Bool) → n ≤ i → spread (i - n) (i + length bs) (runs_from i n bs) ≡ replicate n true ++ bs
 unfolding runs_from spread
-spread-runs i n [] h =
+spread_runs i n [] h =
     let z : i + 0 ≡ i = omega arith in
     let y : i - i ≡ 0 = omega arith in
     rw z (closed-spread i n i [] h ∙ ap (λ (l : List Bool). replicate n true ++ l) (none_left i y))
   where
     none_left : (i : ℕ) → i - i ≡ 0 → spread i i [] ≡ []
     none_left i y = rw y
-spread-runs i n (true ∷ bs) h =
+spread_runs i n (true ∷ bs) h =
     let z : i + suc (length bs) ≡ suc i + length bs = omega arith in
     let y : i - n ≡ suc i - suc n = omega arith in
-    rw (z, y) (spread-runs (suc i) (suc n) bs (omega arith) ∙ sym (ones-then n bs))
-spread-runs i n (false ∷ bs) h =
+    rw (z, y) (spread_runs (suc i) (suc n) bs (omega arith) ∙ sym (ones_then n bs))
+spread_runs i n (false ∷ bs) h =
     let z : i + suc (length bs) ≡ suc i + length bs = omega arith in
     let y : suc i - 0 ≡ suc i = omega arith in
     let rest = runs_from (suc i) 0 bs in
-    let a : RunsApart (suc i) (suc i + length bs) rest = rw y at (runs-apart (suc i) 0 bs (omega arith)) in
-    let s : spread (suc i) (suc i + length bs) rest ≡ bs = rw y at (spread-runs (suc i) 0 bs (omega arith)) in
-    rw z (closed-spread i n (suc i + length bs) rest h ∙ ap (λ (l : List Bool). replicate n true ++ l) (one-clear i (suc i + length bs) rest (omega arith) a ∙ ap (λ (l : List Bool). false ∷ l) s))
+    let a : RunsApart (suc i) (suc i + length bs) rest = rw y at (runs_apart (suc i) 0 bs (omega arith)) in
+    let s : spread (suc i) (suc i + length bs) rest ≡ bs = rw y at (spread_runs (suc i) 0 bs (omega arith)) in
+    rw z (closed-spread i n (suc i + length bs) rest h ∙ ap (λ (l : List Bool). replicate n true ++ l) (one_clear i (suc i + length bs) rest (omega arith) a ∙ ap (λ (l : List Bool). false ∷ l) s))
 
 -- a list has one list of runs, from which it comes back
 pub comes_back : (bs : List Bool) → spread 0 (length bs) (runs_of bs) ≡ bs
-comes_back bs = let z : 0 + length bs ≡ length bs = omega arith in rw z at (spread-runs 0 0 bs (omega arith))
+comes_back bs = let z : 0 + length bs ≡ length bs = omega arith in rw z at (spread_runs 0 0 bs (omega arith))
 
 -- ---- and runs that are apart are those of what they spread to
-pub skip-clear : (g i : ℕ) (bs : List Bool) → runs_from i 0 (replicate g false ++ bs) ≡ runs_from (i + g) 0 bs
+pub skip_clear : (g i : ℕ) (bs : List Bool) → runs_from i 0 (replicate g false ++ bs) ≡ runs_from (i + g) 0 bs
 unfolding runs_from closed
-skip-clear zero i bs = let z : i + 0 ≡ i = omega arith in rw z
-skip-clear (suc g) i bs = let z : i + suc g ≡ suc i + g = omega arith in rw z (skip-clear g (suc i) bs)
+skip_clear zero i bs = let z : i + 0 ≡ i = omega arith in rw z
+skip_clear (suc g) i bs = let z : i + suc g ≡ suc i + g = omega arith in rw z (skip_clear g (suc i) bs)
 
 pub count_set : (c i n : ℕ) (bs : List Bool) → runs_from i n (replicate c true ++ bs) ≡ runs_from (i + c) (n + c) bs
 unfolding runs_from
@@ -105,17 +105,17 @@ unfolding closed
 closed_run f zero rs h = absurd (omega arith)
 closed_run f (suc c) rs h = let w : f + suc c - suc c ≡ f = omega arith in rw w
 
-pub runs-spread : (i end : ℕ) (rs : List Run) → RunsApart i end rs → runs_from i 0 (spread i end rs) ≡ rs
+pub runs_spread : (i end : ℕ) (rs : List Run) → RunsApart i end rs → runs_from i 0 (spread i end rs) ≡ rs
 unfolding spread closed runs_from
-runs-spread i end [] a = let e = append-nil (replicate (end - i) false) in rw (← e) (skip-clear (end - i) i [])
-runs-spread i end (r ∷ rs) a =
+runs_spread i end [] a = let e = append-nil (replicate (end - i) false) in rw (← e) (skip_clear (end - i) i [])
+runs_spread i end (r ∷ rs) a =
     let p = a.0 in
     let behind = r.first + r.count in
     let w : i + (r.first - i) ≡ r.first = omega arith in
     let z : 0 + r.count ≡ r.count = omega arith in
     let rest = spread behind end rs in
-    let first = skip-clear (r.first - i) i (replicate r.count true ++ rest) in
+    let first = skip_clear (r.first - i) i (replicate r.count true ++ rest) in
     let second : runs_from r.first 0 (replicate r.count true ++ rest) ≡ runs_from behind r.count rest = rw z at (count_set r.count r.first 0 rest) in
     let third = run_ends behind r.count end rs a.2 a.3 in
-    let fourth = runs-spread behind end rs (sooner (suc behind) behind end rs (omega arith) a.3) in
+    let fourth = runs_spread behind end rs (sooner (suc behind) behind end rs (omega arith) a.3) in
     first ∙ rw w (second ∙ third ∙ ap (closed behind r.count) fourth ∙ closed_run r.first r.count rs a.1)

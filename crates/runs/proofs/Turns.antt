@@ -10,28 +10,28 @@ use lib.Dec.{ltb, leb}
 use lib.ListN.{length, drop, take, replicate, length-take, length-drop, length-append, drop_of_length-le}
 use lib.Seq.{length-sets, take_all, drop-cons, drop-drop, get_or-take}
 use Rattle.units.specs.Numbers.{saturated}
-use Rattle.units.proofs.Tests.{by-test}
+use Rattle.units.proofs.Tests.{by_test}
 use Rattle.text.specs.Decimal.{largest}
 use Rattle.text.specs.Putting.{Put}
 use Rattle.text.proofs.Puts.{then}
 use Rattle.forms.specs.Forms.{holes}
-use Rattle.forms.proofs.Laws.{filled-length}
+use Rattle.forms.proofs.Laws.{filled_length}
 use Rattle.bitmap.specs.Blocks.{block_at, every, range, all_are, next_in_state}
 use Rattle.bitmap.specs.declared.Found.{Found}
 use Rattle.bitmap.specs.declared.Found.TheVariants as found
-use Rattle.bitmap.proofs.Laws.{range-take, range_length, next-at, next-nothing}
+use Rattle.bitmap.proofs.Laws.{range-take, range_length, next_at, next_nothing}
 use Rattle.runs.specs.declared.NextRun.{NextRun}
 use Rattle.runs.specs.declared.NextRun.TheVariants as run
 use Rattle.runs.specs.Runs.{closed, runs_from, runs_of}
 use Rattle.runs.specs.Text.{run_line, line_of, runs_text}
 use Rattle.runs.specs.Next.{InARow, IsNext}
-use Rattle.runs.proofs.Runs.{skip-clear, count_set, closed_run}
-use Rattle.runs.proofs.Spread.{every-is, take-drop, end-clear}
+use Rattle.runs.proofs.Runs.{skip_clear, count_set, closed_run}
+use Rattle.runs.proofs.Spread.{every_is, take-drop, end_clear}
 
 -- ---- `count_from` and `next_run`, on the first `end` of the blocks bs
 
-first-length : (bs : List Bool) (end : ℕ) → length (take end bs) ≡ min end (length bs)
-first-length bs end = length-take end bs
+first_length : (bs : List Bool) (end : ℕ) → length (take end bs) ≡ min end (length bs)
+first_length bs end = length-take end bs
 
 block_of : (bs : List Bool) (end i : ℕ) → i < end → block_at (take end bs) i ≡ block_at bs i
 block_of bs end i h = get_or-take end bs i false h
@@ -42,7 +42,7 @@ alike cs v i n h e =
     let l = range_length cs i n in
     let k : length (range cs i n) ≡ n = omega arith in
     sym (take-drop n (drop i cs))
-    ∙ ap (λ (l : List Bool). l ++ drop n (drop i cs)) (every-is v (range cs i n) e ∙ ap (λ (m : ℕ). replicate m v) k)
+    ∙ ap (λ (l : List Bool). l ++ drop n (drop i cs)) (every_is v (range cs i n) e ∙ ap (λ (m : ℕ). replicate m v) k)
     ∙ ap (λ (l : List Bool). replicate n v ++ l) (drop-drop n i cs)
 
 past_end : (cs : List Bool) (i : ℕ) → length cs ≤ i → block_at cs i ≡ false
@@ -50,21 +50,21 @@ past_end [] i h = refl
 past_end (c ∷ cs) zero h = absurd (omega arith)
 past_end (c ∷ cs) (suc i) h = past_end cs i (omega arith)
 
-pub stop-after : (bs : List Bool) (end first : ℕ) (r : Found) → r ≡ next_in_state false bs first end → (stop : ℕ) → r ≡ found.At stop → first ≤ stop
-stop-after bs end first r e stop q = (next-at false bs first end stop (sym e ∙ q)).from_on
+pub stop_after : (bs : List Bool) (end first : ℕ) (r : Found) → r ≡ next_in_state false bs first end → (stop : ℕ) → r ≡ found.At stop → first ≤ stop
+stop_after bs end first r e stop q = (next_at false bs first end stop (sym e ∙ q)).from_on
 
 pub room_after : (bs : List Bool) (end first : ℕ) → first < length (take end bs) → (n : ℕ) → n ≡ min end (length bs) → first ≤ n
-room_after bs end first h n e = let s = first-length bs end in omega arith
+room_after bs end first h n e = let s = first_length bs end in omega arith
 
 module _ (bs : List Bool) (end first : ℕ) (there : first < length (take end bs)) where
   short : length (take end bs) ≡ min end (length bs)
-  short = first-length bs end
+  short = first_length bs end
 
-  pub row-stops : (r : Found) → r ≡ next_in_state false bs first end → (stop : ℕ) → r ≡ found.At stop → InARow (take end bs) first (stop - first)
-  row-stops r e stop q =
-      let low = next-at false bs first end stop (sym e ∙ q) in
+  pub row_stops : (r : Found) → r ≡ next_in_state false bs first end → (stop : ℕ) → r ≡ found.At stop → InARow (take end bs) first (stop - first)
+  row_stops r e stop q =
+      let low = next_at false bs first end stop (sym e ∙ q) in
       let a = low.from_on in
-      let b = low.before-end in
+      let b = low.before_end in
       let c = low.exists in
       let s = short in
       let z : first + (stop - first) ≡ stop = omega arith in
@@ -79,7 +79,7 @@ module _ (bs : List Bool) (end first : ℕ) (there : first < length (take end bs
   row_ends r e q n k =
       let s = short in
       let z : first + (n - first) ≡ length (take end bs) = omega arith in
-      let all : all_are bs first (end - first) true ≡ true = next-nothing false bs first end (sym e ∙ q) in
+      let all : all_are bs first (end - first) true ≡ true = next_nothing false bs first end (sym e ∙ q) in
       let same : range (take end bs) first (end - first) ≡ range bs first (end - first) = range-take end bs first (end - first) (omega arith) in
       let d = length-drop first (take end bs) in
       let whole : range (take end bs) first (n - first) ≡ range (take end bs) first (end - first) =
@@ -91,29 +91,29 @@ module _ (bs : List Bool) (end first : ℕ) (there : first < length (take end bs
       }
 
 -- a run ends where a clear block stands, or the list ends
-run-closes : (cs : List Bool) (i n : ℕ) → block_at cs i ≡ false → runs_from i n (drop i cs) ≡ closed i n (runs_from i 0 (drop i cs))
+run_closes : (cs : List Bool) (i n : ℕ) → block_at cs i ≡ false → runs_from i n (drop i cs) ≡ closed i n (runs_from i 0 (drop i cs))
 unfolding runs_from closed
-run-closes cs i n e =
-    by-test (ltb i (length cs))
+run_closes cs i n e =
+    by_test (ltb i (length cs))
     (λ t. let d = drop-cons cs i false (ltb-true i (length cs) t) in rw (d, e))
     (λ t. let d = drop_of_length-le cs {i = i} (ltb-false i (length cs) t) in rw d)
 
 module _ (bs : List Bool) (end from : ℕ) (r : Found) (e : r ≡ next_in_state true bs from end) where
-  pub next-found : (first n : ℕ) → r ≡ found.At first → (first < length (take end bs)) × (InARow (take end bs) first n → IsNext (take end bs) from (run.At first n))
-  next-found first n q =
+  pub next_found : (first n : ℕ) → r ≡ found.At first → (first < length (take end bs)) × (InARow (take end bs) first n → IsNext (take end bs) from (run.At first n))
+  next_found first n q =
       let cs = take end bs in
-      let low = next-at true bs from end first (sym e ∙ q) in
+      let low = next_at true bs from end first (sym e ∙ q) in
       let a = low.from_on in
-      let b = low.before-end in
+      let b = low.before_end in
       let c = low.exists in
-      let s = first-length bs end in
+      let s = first_length bs end in
       let z : from + (first - from) ≡ first = omega arith in
       let y : 0 + n ≡ n = omega arith in
       let set : block_at (take end bs) first ≡ true = block_of bs end first b ∙ low.found in
       let clear : all_are (take end bs) from (first - from) false ≡ true = ap (every false) (range-take end bs from (first - from) (omega arith)) ∙ low.none_below in
       let skip : runs_from from 0 (drop from (take end bs)) ≡ runs_from first 0 (drop first (take end bs)) =
       ap (runs_from from 0) (alike (take end bs) false from (first - from) (omega arith) clear)
-      ∙ skip-clear (first - from) from (drop (from + (first - from)) (take end bs))
+      ∙ skip_clear (first - from) from (drop (from + (first - from)) (take end bs))
       ∙ ap (λ (i : ℕ). runs_from i 0 (drop i (take end bs))) z in (
         omega arith,
         λ row.
@@ -125,7 +125,7 @@ module _ (bs : List Bool) (end from : ℕ) (r : Found) (e : r ≡ next_in_state 
                   ∙ ap (runs_from first 0) row.set
                   ∙ count_set n first 0 (drop (first + n) (take end bs))
                   ∙ ap (λ (m : ℕ). runs_from (first + n) m (drop (first + n) (take end bs))) y
-                  ∙ run-closes (take end bs) (first + n) n row.ends
+                  ∙ run_closes (take end bs) (first + n) n row.ends
                   ∙ closed_run first n (runs_from (first + n) 0 (drop (first + n) (take end bs))) some,
             ),
       )
@@ -134,20 +134,20 @@ module _ (bs : List Bool) (end from : ℕ) (r : Found) (e : r ≡ next_in_state 
       not_none cs first zero p q = let w : first + 0 ≡ first = omega arith in let u : true ≡ false = sym p ∙ ap (block_at cs) (sym w) ∙ q in let k : ◌≡◌ {A = ℕ} 0 1 = cc in absurd (omega arith)
       not_none cs first (suc n) p q = omega arith
 
-  pub next-none : r ≡ found.Nothing → runs_from from 0 (drop from (take end bs)) ≡ []
+  pub next_none : r ≡ found.Nothing → runs_from from 0 (drop from (take end bs)) ≡ []
   unfolding closed
-  next-none q =
+  next_none q =
       let cs = take end bs in
-      let all : all_are bs from (end - from) false ≡ true = next-nothing true bs from end (sym e ∙ q) in
-      let s = first-length bs end in
+      let all : all_are bs from (end - from) false ≡ true = next_nothing true bs from end (sym e ∙ q) in
+      let s = first_length bs end in
       let d = length-drop from (take end bs) in
       let same : drop from (take end bs) ≡ range bs from (end - from) =
-      sym (take_all (end - from) (drop from (take end bs)) (omega arith)) ∙ range-cut bs end from in
-      ap (runs_from from 0) (same ∙ every-is false (range bs from (end - from)) all) ∙ end-clear from 0 (length (range bs from (end - from)))
+      sym (take_all (end - from) (drop from (take end bs)) (omega arith)) ∙ range_cut bs end from in
+      ap (runs_from from 0) (same ∙ every_is false (range bs from (end - from)) all) ∙ end_clear from 0 (length (range bs from (end - from)))
     where
-      range-cut : (bs : List Bool) (end from : ℕ) → range (take end bs) from (end - from) ≡ range bs from (end - from)
-      range-cut bs end from =
-          by-test (leb from end)
+      range_cut : (bs : List Bool) (end from : ℕ) → range (take end bs) from (end - from) ≡ range bs from (end - from)
+      range_cut bs end from =
+          by_test (leb from end)
           (λ t. let h = leb-true from end t in range-take end bs from (end - from) (omega arith))
           (λ t. let h = leb-false from end t in let z : end - from ≡ 0 = omega arith in rw z)
 
@@ -159,16 +159,16 @@ pub record Walk (bs : List Bool) (done : List ℕ) (i : ℕ) : Type 0 where
 pub walk_start : (bs : List Bool) → Walk bs [] 0
 walk_start bs = record { rest = refl }
 
-next-is : (bs : List Bool) (i : ℕ) (r : NextRun) → IsNext bs i r → (f n : ℕ) → r ≡ run.At f n → IsNext bs i (run.At f n)
-next-is bs i r h f n e = let g : IsNext bs i (run.At f n) = rw e at h in g
+next_is : (bs : List Bool) (i : ℕ) (r : NextRun) → IsNext bs i r → (f n : ℕ) → r ≡ run.At f n → IsNext bs i (run.At f n)
+next_is bs i r h f n e = let g : IsNext bs i (run.At f n) = rw e at h in g
 
 none_is : (bs : List Bool) (i : ℕ) (r : NextRun) → IsNext bs i r → r ≡ run.Nothing → IsNext bs i run.Nothing
 none_is bs i r h e = let g : IsNext bs i run.Nothing = rw e at h in g
 
 module _ {bs : List Bool} {done : List ℕ} {i : ℕ} (o : Walk bs done i) where
-  walk-run : (f n : ℕ) → IsNext bs i (run.At f n) → Walk bs (done ++ line_of f n) (f + n)
+  walk_run : (f n : ℕ) → IsNext bs i (run.At f n) → Walk bs (done ++ line_of f n) (f + n)
   unfolding runs_text
-  walk-run f n h =
+  walk_run f n h =
       record {
         rest =
             append_assoc done (line_of f n) (runs_text (runs_from (f + n) 0 (drop (f + n) bs)))
@@ -192,37 +192,37 @@ pub record Going (before : List ℕ) (at : ℕ) (bs : List Bool) (out : List ℕ
 pub going_start : (out : List ℕ) (at : ℕ) (bs : List Bool) (to : ℕ) → to ≡ min at (length out + 1) → Going out at bs out to 0
 going_start out at bs to e = record { done = []; put = record { held = refl; next = omega arith }; walk = walk_start bs }
 
-pub put-long : {before after text : List ℕ} {at r : ℕ} → Put before at text after r → length after ≡ length before
-put-long {before} {after} {text} {at} p = let h = p.held in ap length h ∙ length-sets before at text
+pub put_long : {before after text : List ℕ} {at r : ℕ} → Put before at text after r → length after ≡ length before
+put_long {before} {after} {text} {at} p = let h = p.held in ap length h ∙ length-sets before at text
 
 module _ {before : List ℕ} {at : ℕ} (bs : List Bool) {out : List ℕ} {to i : ℕ} (end : ℕ) (o : Going before at (take end bs) out to i) (r : NextRun) (h : IsNext (take end bs) i r) where
-  pub going-run : (f n : ℕ) → r ≡ run.At f n → {out' : List ℕ} {to' : ℕ} → Put out to (line_of f n) out' to' → Going before at (take end bs) out' to' (f + n)
-  going-run f n e p = record { done = o.done ++ line_of f n; put = then o.put p; walk = walk-run o.walk f n (next-is (take end bs) i r h f n e) }
+  pub going_run : (f n : ℕ) → r ≡ run.At f n → {out' : List ℕ} {to' : ℕ} → Put out to (line_of f n) out' to' → Going before at (take end bs) out' to' (f + n)
+  going_run f n e p = record { done = o.done ++ line_of f n; put = then o.put p; walk = walk_run o.walk f n (next_is (take end bs) i r h f n e) }
 
-  pub going-none : r ≡ run.Nothing → Put before at (runs_text (runs_of (take end bs))) out to
-  going-none e = let w = walk_none o.walk (none_is (take end bs) i r h e) in rw (← w) o.put
+  pub going_none : r ≡ run.Nothing → Put before at (runs_text (runs_of (take end bs))) out to
+  going_none e = let w = walk_none o.walk (none_is (take end bs) i r h e) in rw (← w) o.put
 
-pub going-long : {before : List ℕ} {at : ℕ} {bs : List Bool} {out : List ℕ} {to i : ℕ} → Going before at bs out to i → length out ≡ length before
-going-long {before} {at} o = put-long o.put
+pub going_long : {before : List ℕ} {at : ℕ} {bs : List Bool} {out : List ℕ} {to i : ℕ} → Going before at bs out to i → length out ≡ length before
+going_long {before} {at} o = put_long o.put
 
 pub going_end : {before : List ℕ} {at : ℕ} (bs : List Bool) {out : List ℕ} {to i : ℕ} (end : ℕ) → Going before at (take end bs) out to i → end ≤ i → Put before at (runs_text (runs_of (take end bs))) out to
-going_end bs end o h = let l = first-length bs end in let w = walk_end o.walk (omega arith) in rw (← w) o.put
+going_end bs end o h = let l = first_length bs end in let w = walk_end o.walk (omega arith) in rw (← w) o.put
 
 -- a run ends at or before the end, and behind the block where the walk stood
 pub run_inside : (bs : List Bool) (end i : ℕ) (r : NextRun) → IsNext (take end bs) i r → (f n : ℕ) → r ≡ run.At f n → (f + n ≤ end) × (i < f + n)
 run_inside bs end i r h f n e =
-    let g = next-is (take end bs) i r h f n e in
-    let l = first-length bs end in
+    let g = next_is (take end bs) i r h f n e in
+    let l = first_length bs end in
     let a = g.0 in
     let b = g.1 in
     let c = g.2 in
     (omega arith, omega arith)
 
 -- ---- `line_length`: no line is longer than 46 bytes
-pub line-is : {line line' : List ℕ} (first count r : ℕ) → length line ≡ 64 → first ≤ largest → count ≤ largest → Put line 0 (line_of first count) line' r → r ≡ length (line_of first count)
+pub line_is : {line line' : List ℕ} (first count r : ℕ) → length line ≡ 64 → first ≤ largest → count ≤ largest → Put line 0 (line_of first count) line' r → r ≡ length (line_of first count)
 unfolding holes
-line-is first count r l h k p =
-    let s = filled-length 0 run_line (first ∷ count ∷ []) (h, (k, tt)) in
+line_is first count r l h k p =
+    let s = filled_length 0 run_line (first ∷ count ∷ []) (h, (k, tt)) in
     let e = p.next in
     omega arith
 
@@ -232,22 +232,22 @@ pub record Measured (bs : List Bool) (sum i : ℕ) : Type 0 where
   pub is_sum : sum ≡ saturated (length done)
   pub walk : Walk bs done i
 
-pub measured-start : (bs : List Bool) → Measured bs 0 0
-measured-start bs = record { done = []; is_sum = omega arith; walk = walk_start bs }
+pub measured_start : (bs : List Bool) → Measured bs 0 0
+measured_start bs = record { done = []; is_sum = omega arith; walk = walk_start bs }
 
 module _ (bs : List Bool) {sum i : ℕ} (end : ℕ) (o : Measured (take end bs) sum i) where
   sum_is : o.done ≡ runs_text (runs_of (take end bs)) → sum ≡ saturated (length (runs_text (runs_of (take end bs))))
   sum_is e = o.is_sum ∙ ap (λ (t : List ℕ). saturated (length t)) e
 
-  pub measured-end : end ≤ i → sum ≡ saturated (length (runs_text (runs_of (take end bs))))
-  measured-end h = let l = first-length bs end in sum_is (walk_end o.walk (omega arith))
+  pub measured_end : end ≤ i → sum ≡ saturated (length (runs_text (runs_of (take end bs))))
+  measured_end h = let l = first_length bs end in sum_is (walk_end o.walk (omega arith))
 
   module _ (r : NextRun) (h : IsNext (take end bs) i r) where
-    pub measured-none : r ≡ run.Nothing → sum ≡ saturated (length (runs_text (runs_of (take end bs))))
-    measured-none e = sum_is (walk_none o.walk (none_is (take end bs) i r h e))
+    pub measured_none : r ≡ run.Nothing → sum ≡ saturated (length (runs_text (runs_of (take end bs))))
+    measured_none e = sum_is (walk_none o.walk (none_is (take end bs) i r h e))
 
-    pub measured-run : (f n line sum' : ℕ) → r ≡ run.At f n → line ≡ length (line_of f n) → sum' ≡ saturated (sum + line) → Measured (take end bs) sum' (f + n)
-    measured-run f n line sum' e p q =
+    pub measured_run : (f n line sum' : ℕ) → r ≡ run.At f n → line ≡ length (line_of f n) → sum' ≡ saturated (sum + line) → Measured (take end bs) sum' (f + n)
+    measured_run f n line sum' e p q =
         let s = o.is_sum in
         let l = length-append o.done (line_of f n) in
-        record { done = o.done ++ line_of f n; is_sum = omega arith; walk = walk-run o.walk f n (next-is (take end bs) i r h f n e) }
+        record { done = o.done ++ line_of f n; is_sum = omega arith; walk = walk_run o.walk f n (next_is (take end bs) i r h f n e) }

@@ -32,6 +32,6 @@ Starts l (r ∷ rs) = (rest : List ℕ) × (scan_of run_line l ≡ found (r.firs
 pub record Lays (l entry exit : List ℕ) : Type 0 where
   pub runs : List Run
   pub starts : Starts l runs
-  pub as-blocks : blocks exit ≡ laid_on runs (blocks entry)
+  pub as_blocks : blocks exit ≡ laid_on runs (blocks entry)
   pub long : length exit ≡ length entry
   pub outside : (from end : ℕ) → RunsApart from end runs → Outside entry exit 0 end

@@ -9,13 +9,13 @@ use borrow.Author.Tests.{ltb-true, lt-ltb}
 use lib.ListN.{length, drop, get_or, length-drop}
 use Rattle.text.specs.Decimal.{largest, decimal}
 use Rattle.text.specs.Reading.{is_digit, digit_of}
-use Rattle.text.proofs.Laws.{word-written}
+use Rattle.text.proofs.Laws.{word_written}
 use Rattle.forms.specs.Forms.{holes, filled, filled_from}
 use Rattle.forms.specs.Scanning.{Scan, found, lost, push, hole_then, byte_then, scan_of}
-use Rattle.forms.proofs.Laws.{scan-filled, scan-read}
+use Rattle.forms.proofs.Laws.{scan_filled, scan_read}
 use Rattle.runs.specs.Runs.{runs_of}
 use Rattle.runs.specs.Text.{runs_text}
-use Rattle.bitmap.proofs.Bytes.{blocks-tell}
+use Rattle.bitmap.proofs.Bytes.{blocks_tell}
 use Rattle.save.specs.declared.Fields.{Fields}
 use Rattle.save.specs.declared.Wrote.{Wrote}
 use Rattle.save.specs.declared.Checked.{Checked}
@@ -25,19 +25,19 @@ use Rattle.save.specs.declared.Got.TheVariants as got
 use Rattle.save.specs.Text.{form_line, Says}
 use Rattle.save.specs.Writing.{Writes}
 use Rattle.save.specs.Reading.{later_form, is_later, Accepts, Checks, HoldsBlocks, Takes, AtMost, no_room, ReadsState}
-use Rattle.save.proofs.Text.{one-text}
+use Rattle.save.proofs.Text.{one_text}
 
 -- ---- one outcome
 
-pub writes-once : {f : Fields} {bitmap before xs ys : List ℕ} {r q : Wrote} → Writes f bitmap before xs r → Writes f bitmap before ys q → (r ≡ q) × (xs ≡ ys)
-writes-once {f} {bitmap} {before} {xs} {ys} {r} {q} a b =
+pub writes_once : {f : Fields} {bitmap before xs ys : List ℕ} {r q : Wrote} → Writes f bitmap before xs r → Writes f bitmap before ys q → (r ≡ q) × (xs ≡ ys)
+writes_once {f} {bitmap} {before} {xs} {ys} {r} {q} a b =
     let e : r ≡ q = a.answer ∙ sym b.answer in
     (e, rw (a.buffer, e, b.buffer))
 
 -- what a text says, with where its runs start
-accepts-once : (s : List ℕ) (f g : Fields) (m n : ℕ) → Accepts s f m → Accepts s g n → (f ≡ g) × (m ≡ n)
-accepts-once s f g m n a b =
-    let o = one-text s f g a.bs b.bs a.says b.says in
+accepts_once : (s : List ℕ) (f g : Fields) (m n : ℕ) → Accepts s f m → Accepts s g n → (f ≡ g) × (m ≡ n)
+accepts_once s f g m n a b =
+    let o = one_text s f g a.bs b.bs a.says b.says in
     let i = a.inside in
     let j = b.inside in
     let e : drop m s ≡ drop n s = sym a.rest ∙ ap (λ (bs : List Bool). runs_text (runs_of bs)) o.1 ∙ b.rest in
@@ -46,49 +46,49 @@ accepts-once s f g m n a b =
     let q = length-drop n s in
     (o.0, omega arith)
 
-pub checks-once : (s : List ℕ) (a b : Checked) → Checks s a → Checks s b → a ≡ b
-checks-once s (checked.State f m) (checked.State g n) p q = let o = accepts-once s f g m n p q in rw (o.0, o.1)
-checks-once s (checked.State f m) (checked.Refused k) p q = absurd (q.no-state f p.bs p.says)
-checks-once s (checked.Refused k) (checked.State g n) p q = absurd (p.no-state g q.bs q.says)
-checks-once s (checked.Refused k) (checked.Refused l) p q = let e : k ≡ l = p.number_is ∙ sym q.number_is in rw e
+pub checks_once : (s : List ℕ) (a b : Checked) → Checks s a → Checks s b → a ≡ b
+checks_once s (checked.State f m) (checked.State g n) p q = let o = accepts_once s f g m n p q in rw (o.0, o.1)
+checks_once s (checked.State f m) (checked.Refused k) p q = absurd (q.no_state f p.bs p.says)
+checks_once s (checked.Refused k) (checked.State g n) p q = absurd (p.no_state g q.bs q.says)
+checks_once s (checked.Refused k) (checked.Refused l) p q = let e : k ≡ l = p.number_is ∙ sym q.number_is in rw e
 
 -- the bytes of a bitmap are below 256, as its type says
-pub holds-once : (bs : List Bool) (before xs ys : List ℕ) → ((i : ℕ) → get_or xs i 0 < 256) → ((i : ℕ) → get_or ys i 0 < 256) → HoldsBlocks bs before xs → HoldsBlocks bs before ys → xs ≡ ys
-holds-once bs before xs ys p q a b = blocks-tell xs ys p q (a.as-blocks ∙ sym b.as-blocks)
+pub holds_once : (bs : List Bool) (before xs ys : List ℕ) → ((i : ℕ) → get_or xs i 0 < 256) → ((i : ℕ) → get_or ys i 0 < 256) → HoldsBlocks bs before xs → HoldsBlocks bs before ys → xs ≡ ys
+holds_once bs before xs ys p q a b = blocks_tell xs ys p q (a.as_blocks ∙ sym b.as_blocks)
 
 -- a text that is taken says one state; one that is not has one number
-pub takes-once : (short : Bool) (Fits : Fields → List Bool → Type 0) (s : List ℕ) (f g : Fields) (bs cs : List Bool)
+pub takes_once : (short : Bool) (Fits : Fields → List Bool → Type 0) (s : List ℕ) (f g : Fields) (bs cs : List Bool)
     → Takes short Fits s f bs → Takes short Fits s g cs → (f ≡ g) × (bs ≡ cs)
-takes-once short Fits s f g bs cs a b = one-text s f g bs cs a.says b.says
+takes_once short Fits s f g bs cs a b = one_text s f g bs cs a.says b.says
 
-pub reads-once : (s : List ℕ) (most : ℕ) (before xs ys : List ℕ) (a b : Got) → ((i : ℕ) → get_or xs i 0 < 256) → ((i : ℕ) → get_or ys i 0 < 256)
+pub reads_once : (s : List ℕ) (most : ℕ) (before xs ys : List ℕ) (a b : Got) → ((i : ℕ) → get_or xs i 0 < 256) → ((i : ℕ) → get_or ys i 0 < 256)
     → ReadsState s most before xs a → ReadsState s most before ys b → (a ≡ b) × (xs ≡ ys)
-reads-once s most before xs ys (got.Fields f) (got.Fields g) p q x y =
-    let o = takes-once (no_room before) (AtMost most) s f g x.0 y.0 x.1 y.1 in
-    (ap got.Fields o.0, holds-once x.0 before xs ys p q x.2 (rw o.1 y.2))
-reads-once s most before xs ys (got.Fields f) (got.Refused k) p q x y = absurd (y.0.none f x.0 x.1)
-reads-once s most before xs ys (got.Refused k) (got.Fields g) p q x y = absurd (x.0.none g y.0 y.1)
-reads-once s most before xs ys (got.Refused k) (got.Refused l) p q x y =
+reads_once s most before xs ys (got.Fields f) (got.Fields g) p q x y =
+    let o = takes_once (no_room before) (AtMost most) s f g x.0 y.0 x.1 y.1 in
+    (ap got.Fields o.0, holds_once x.0 before xs ys p q x.2 (rw o.1 y.2))
+reads_once s most before xs ys (got.Fields f) (got.Refused k) p q x y = absurd (y.0.none f x.0 x.1)
+reads_once s most before xs ys (got.Refused k) (got.Fields g) p q x y = absurd (x.0.none g y.0 y.1)
+reads_once s most before xs ys (got.Refused k) (got.Refused l) p q x y =
     (ap got.Refused (x.0.number_is ∙ sym y.0.number_is), x.1 ∙ sym y.1)
 
 -- ---- a state's text is accepted
 
 pub accepted : (s : List ℕ) (f : Fields) (bs : List Bool) → Says s f bs → (r : Checked) → Checks s r → (n : ℕ) × (r ≡ checked.State f n)
-accepted s f bs h (checked.State g n) c = let o = one-text s g f c.bs bs c.says h in (n, ap (λ (x : Fields). checked.State x n) o.0)
-accepted s f bs h (checked.Refused k) c = absurd (c.no-state f bs h)
+accepted s f bs h (checked.State g n) c = let o = one_text s g f c.bs bs c.says h in (n, ap (λ (x : Fields). checked.State x n) o.0)
+accepted s f bs h (checked.Refused k) c = absurd (c.no_state f bs h)
 
 -- ---- 19 in words: exactly the texts that begin `form=N` and a newline, N a number of 64 bits above 2
 
-pub later-says : (s : List ℕ) → is_later s ≡ true → (n : ℕ) × (rest : List ℕ) × (2 < n) × (n ≤ largest) × (filled form_line (n ∷ []) ++ rest ≡ s)
+pub later_says : (s : List ℕ) → is_later s ≡ true → (n : ℕ) × (rest : List ℕ) × (2 < n) × (n ≤ largest) × (filled form_line (n ∷ []) ++ rest ≡ s)
 unfolding later_form holes
-later-says s e = go (scan_of form_line s) refl e
+later_says s e = go (scan_of form_line s) refl e
   where
     go : (w : Scan) → scan_of form_line s ≡ w → later_form w ≡ true → (n : ℕ) × (rest : List ℕ) × (2 < n) × (n ≤ largest) × (filled form_line (n ∷ []) ++ rest ≡ s)
     go (found [] rest) p q = let z : ◌≡◌ {A = ℕ} 0 1 = cc in absurd (omega arith)
-    go (found (n ∷ []) rest) p q = let r = scan-read form_line s (n ∷ []) rest p in (n, rest, ltb-true 2 n q, r.0.0, r.1)
-    go (found (n ∷ m ∷ us) rest) p q = let c = (scan-filled form_line s (n ∷ m ∷ us) rest p).count in absurd (omega arith)
+    go (found (n ∷ []) rest) p q = let r = scan_read form_line s (n ∷ []) rest p in (n, rest, ltb-true 2 n q, r.0.0, r.1)
+    go (found (n ∷ m ∷ us) rest) p q = let c = (scan_filled form_line s (n ∷ m ∷ us) rest p).count in absurd (omega arith)
     go (lost us) p q = let z : ◌≡◌ {A = ℕ} 0 1 = cc in absurd (omega arith)
 
-pub says-later : (n : ℕ) (rest : List ℕ) → 2 < n → n ≤ largest → is_later (filled form_line (n ∷ []) ++ rest) ≡ true
+pub says_later : (n : ℕ) (rest : List ℕ) → 2 < n → n ≤ largest → is_later (filled form_line (n ∷ []) ++ rest) ≡ true
 unfolding scan_of filled_from hole_then byte_then push later_form is_digit digit_of
-says-later n rest h k = rw (append_assoc (decimal n) (10 ∷ []) rest, word-written n (10 ∷ rest) k (omega arith)) (lt-ltb 2 n h)
+says_later n rest h k = rw (append_assoc (decimal n) (10 ∷ []) rest, word_written n (10 ∷ rest) k (omega arith)) (lt-ltb 2 n h)

@@ -9,19 +9,19 @@ use borrow.Author.Tests.{ltb-true, ltb-false, le-ltb, le-leb, lt-leb}
 use lib.Dec.{eqb, ltb, leb}
 use lib.ListN.{length, drop, take, replicate, length-take, length-append}
 use lib.Seq.{sets}
-use Rattle.units.proofs.Tests.{by-test, refused, passed}
+use Rattle.units.proofs.Tests.{by_test, refused, passed}
 use Rattle.units.specs.Numbers.{saturated, top}
 use Rattle.text.specs.Putting.{Put}
 use Rattle.text.proofs.Puts.{then}
 use Rattle.forms.specs.Forms.{holes, filled}
-use Rattle.forms.proofs.Laws.{Words, filled-length}
+use Rattle.forms.proofs.Laws.{Words, filled_length}
 use Rattle.bitmap.specs.Blocks.{blocks, every, all_are, ones, range, fill, Outside, Filled}
-use Rattle.bitmap.proofs.Laws.{blocks-length, range-take, range_length, ones-length, fill-left, fill-whole}
+use Rattle.bitmap.proofs.Laws.{blocks-length, range-take, range_length, ones-length, fill_left, fill_whole}
 use Rattle.runs.specs.Runs.{Run, runs_of, laid_on}
 use Rattle.runs.specs.Text.{runs_text}
 use Rattle.runs.specs.Reading.{Lays}
-use Rattle.runs.proofs.Spread.{take-drop, runs-ones, runs-laid}
-use Rattle.runs.proofs.Lines.{runs-short, starts-are}
+use Rattle.runs.proofs.Spread.{take-drop, runs_ones, runs_laid}
+use Rattle.runs.proofs.Lines.{runs_short, starts_are}
 use Rattle.save.specs.declared.Fields.{Fields}
 use Rattle.save.specs.declared.Wrote.{Wrote}
 use Rattle.save.specs.declared.Wrote.TheVariants.{Text, Refused}
@@ -30,17 +30,17 @@ use Rattle.save.specs.declared.Checked.TheVariants as checked
 use Rattle.save.specs.Text.{form_line, field_lines, fields_of, head_text, state_text, shape_ok, all_of, used_of, valid_of, IsState}
 use Rattle.save.specs.Writing.{blocks_for, is_short, valid_in, text_in, length_of, wrote_of}
 use Rattle.save.specs.Reading.{Refuses, Accepts, Checks, HoldsBlocks, Takes, NotTaken, AtMost, no_room}
-use Rattle.save.proofs.Text.{shape_is, in_blocks, state-few, state-apart, one-text}
-use Rattle.save.proofs.Heading.{not-later}
+use Rattle.save.proofs.Text.{shape_is, in_blocks, state_few, state_apart, one_text}
+use Rattle.save.proofs.Heading.{not_later}
 
 -- ---- `is_short`
 
-pub whole-bytes : (len n : ℕ) → n % 8 ≡ 0 → ltb len (n / 8) ≡ ltb len ((n + 7) / 8)
-whole-bytes len n e = let z : n / 8 ≡ (n + 7) / 8 = omega arith in ap (ltb len) z
+pub whole_bytes : (len n : ℕ) → n % 8 ≡ 0 → ltb len (n / 8) ≡ ltb len ((n + 7) / 8)
+whole_bytes len n e = let z : n / 8 ≡ (n + 7) / 8 = omega arith in ap (ltb len) z
 
-pub part-byte : (len n : ℕ) → (n % 8 ≡ 0 → ⊥) → leb len (n / 8) ≡ ltb len ((n + 7) / 8)
-part-byte len n e =
-    by-test (ltb len ((n + 7) / 8))
+pub part_byte : (len n : ℕ) → (n % 8 ≡ 0 → ⊥) → leb len (n / 8) ≡ ltb len ((n + 7) / 8)
+part_byte len n e =
+    by_test (ltb len ((n + 7) / 8))
     (λ t. let l = ltb-true len ((n + 7) / 8) t in let k : len ≤ n / 8 = rest len n e l in le-leb len (n / 8) k ∙ sym t)
     (λ t. let l = ltb-false len ((n + 7) / 8) t in let k : n / 8 < len = past len n e l in lt-leb len (n / 8) k ∙ sym t)
   where
@@ -53,38 +53,38 @@ part-byte len n e =
 -- ---- `valid`
 
 module _ (f : Fields) (m : List ℕ) (r : Bool) (p : r ≡ shape_ok f) where
-  pub shape-bad : not r ≡ true → false ≡ valid_in f m
+  pub shape_bad : not r ≡ true → false ≡ valid_in f m
   unfolding valid_of
-  shape-bad q = let s = refused (shape_ok f) r p q in rw s
+  shape_bad q = let s = refused (shape_ok f) r p q in rw s
 
   module _ (q : not r ≡ false) (all used : ℕ) (a : all ≡ all_of f) (u : used ≡ used_of f) where
     good : shape_ok f ≡ true
     good = passed (shape_ok f) r p q
 
-    pub used-in : used ≤ all
-    used-in =
-        let h = (shape_is f good).usable-in in
+    pub used_in : used ≤ all
+    used_in =
+        let h = (shape_is f good).usable_in in
         let x = in_blocks f good f.region in
         let y = in_blocks f good f.usable in
         omega arith
 
-    same-past : all_are (take all (blocks m)) used (all - used) false ≡ all_are (blocks m) used (all - used) false
-    same-past = let h = used-in in ap (every false) (range-take all (blocks m) used (all - used) (omega arith))
+    same_past : all_are (take all (blocks m)) used (all - used) false ≡ all_are (blocks m) used (all - used) false
+    same_past = let h = used_in in ap (every false) (range-take all (blocks m) used (all - used) (omega arith))
 
-    valid-is : valid_in f m ≡ (all_are (blocks m) used (all - used) false && eqb f.plugged (ones (take all (blocks m)) * f.block))
+    valid_is : valid_in f m ≡ (all_are (blocks m) used (all - used) false && eqb f.plugged (ones (take all (blocks m)) * f.block))
     unfolding valid_of
-    valid-is = rw (good, ← a, ← u, same-past)
+    valid_is = rw (good, ← a, ← u, same_past)
 
     module _ (t : Bool) (w : t ≡ all_are (blocks m) used (all - used) false) where
-      pub past-bad : not t ≡ true → false ≡ valid_in f m
-      past-bad o = let z = refused (all_are (blocks m) used (all - used) false) t w o in sym (valid-is ∙ rw z)
+      pub past_bad : not t ≡ true → false ≡ valid_in f m
+      past_bad o = let z = refused (all_are (blocks m) used (all - used) false) t w o in sym (valid_is ∙ rw z)
 
-      pub plugged-is : not t ≡ false → (set : ℕ) → set ≡ ones (range (blocks m) 0 all) → eqb f.plugged (set * f.block) ≡ valid_in f m
-      plugged-is o set e = let z = passed (all_are (blocks m) used (all - used) false) t w o in sym (valid-is ∙ rw (z, ← e))
+      pub plugged_is : not t ≡ false → (set : ℕ) → set ≡ ones (range (blocks m) 0 all) → eqb f.plugged (set * f.block) ≡ valid_in f m
+      plugged_is o set e = let z = passed (all_are (blocks m) used (all - used) false) t w o in sym (valid_is ∙ rw (z, ← e))
 
-    pub set-few : (set : ℕ) → set ≡ ones (range (blocks m) 0 all) → set * f.block ≤ 1099511627776
-    set-few set o =
-        let h = (shape_is f good).region-top in
+    pub set_few : (set : ℕ) → set ≡ ones (range (blocks m) 0 all) → set * f.block ≤ 1099511627776
+    set_few set o =
+        let h = (shape_is f good).region_top in
         let b = in_blocks f good f.region in
         let x = ones-length (range (blocks m) 0 all) in
         let y = range_length (blocks m) 0 all in
@@ -93,69 +93,69 @@ module _ (f : Fields) (m : List ℕ) (r : Bool) (p : r ≡ shape_ok f) where
 
 -- ---- `head_length`
 
-head-short : (f : Fields) → Words (fields_of f) → length (head_text 2 f) ≤ 200
+head_short : (f : Fields) → Words (fields_of f) → length (head_text 2 f) ≤ 200
 unfolding holes
-head-short f w =
-    let a = filled-length 0 form_line (2 ∷ []) (omega arith, tt) in
-    let b = filled-length 0 (field_lines 2) (fields_of f) w in
+head_short f w =
+    let a = filled_length 0 form_line (2 ∷ []) (omega arith, tt) in
+    let b = filled_length 0 (field_lines 2) (fields_of f) w in
     let n = length-append (filled form_line (2 ∷ [])) (filled (field_lines 2) (fields_of f)) in
     omega arith
 
-pub head-is : {head head' : List ℕ} (f : Fields) (r : ℕ) → length head ≡ 256 → Words (fields_of f) → Put head 0 (head_text 2 f) head' r → r ≡ length (head_text 2 f)
-head-is f r l w p = let s = head-short f w in let e = p.next in omega arith
+pub head_is : {head head' : List ℕ} (f : Fields) (r : ℕ) → length head ≡ 256 → Words (fields_of f) → Put head 0 (head_text 2 f) head' r → r ≡ length (head_text 2 f)
+head_is f r l w p = let s = head_short f w in let e = p.next in omega arith
 
 -- ---- `text_length`
 
 module _ (f : Fields) (m : List ℕ) (all : ℕ) (a : all ≡ all_of f) (t : Bool) (s : t ≡ ltb (length m) ((all + 7) / 8)) where
-  is-test : is_short f m ≡ t
-  is-test = sym (s ∙ ap (λ (n : ℕ). ltb (length m) ((n + 7) / 8)) a)
+  is_test : is_short f m ≡ t
+  is_test = sym (s ∙ ap (λ (n : ℕ). ltb (length m) ((n + 7) / 8)) a)
 
-  pub length-short : t ≡ true → Refused 11 ≡ length_of f m
+  pub length_short : t ≡ true → Refused 11 ≡ length_of f m
   unfolding length_of
-  length-short y = let e = is-test ∙ y in rw e
+  length_short y = let e = is_test ∙ y in rw e
 
   module _ (n : t ≡ false) (v : Bool) (w : v ≡ valid_in f m) where
     long : is_short f m ≡ false
-    long = is-test ∙ n
+    long = is_test ∙ n
 
-    pub length-bad : not v ≡ true → Refused 18 ≡ length_of f m
+    pub length_bad : not v ≡ true → Refused 18 ≡ length_of f m
     unfolding length_of
-    length-bad y = let e = long in let z = refused (valid_in f m) v w y in rw (e, z)
+    length_bad y = let e = long in let z = refused (valid_in f m) v w y in rw (e, z)
 
     module _ (y : not v ≡ false) where
-      state-in : IsState f (blocks_for f m)
-      state-in =
+      state_in_lem : IsState f (blocks_for f m)
+      state_in_lem =
           let b = blocks-length m in
           let l = length-take (all_of f) (blocks m) in
           let k = ltb-false (length m) ((all_of f + 7) / 8) long in
           record { all = omega arith; valid = passed (valid_in f m) v w y }
 
       module _ (head runs : ℕ) (h : head ≡ length (head_text 2 f)) (k : runs ≡ saturated (length (runs_text (runs_of (take all (blocks m)))))) where
-        runs-few : length (runs_text (runs_of (blocks_for f m))) ≤ 12058624
-        runs-few =
-            let st = state-in in
-            let few = state-few st in
-            let x = runs-short 0 (length (blocks_for f m)) (runs_of (blocks_for f m)) (omega arith) (state-apart st) in
-            let y = runs-ones (blocks_for f m) in
+        runs_few : length (runs_text (runs_of (blocks_for f m))) ≤ 12058624
+        runs_few =
+            let st = state_in_lem in
+            let few = state_few st in
+            let x = runs_short 0 (length (blocks_for f m)) (runs_of (blocks_for f m)) (omega arith) (state_apart st) in
+            let y = runs_ones (blocks_for f m) in
             let z = ones-length (blocks_for f m) in
             omega arith
 
-        runs-is : runs ≡ length (runs_text (runs_of (blocks_for f m)))
-        runs-is =
+        runs_is : runs ≡ length (runs_text (runs_of (blocks_for f m)))
+        runs_is =
             let e : length (runs_text (runs_of (take all (blocks m)))) ≡ length (runs_text (runs_of (blocks_for f m))) =
             ap (λ (n : ℕ). length (runs_text (runs_of (take n (blocks m))))) a in
-            let x = runs-few in
+            let x = runs_few in
             omega arith
 
-        pub length-fits : Words (fields_of f) → head + runs ≤ top
-        length-fits ws = let x = runs-few in let y = runs-is in let z = head-short f ws in omega arith
+        pub length_fits : Words (fields_of f) → head + runs ≤ top
+        length_fits ws = let x = runs_few in let y = runs_is in let z = head_short f ws in omega arith
 
-        pub length-is : Text (head + runs) ≡ length_of f m
+        pub length_is : Text (head + runs) ≡ length_of f m
         unfolding length_of state_text
-        length-is =
+        length_is =
             let e = long in
             let z = passed (valid_in f m) v w y in
-            let x = runs-is in
+            let x = runs_is in
             let sum : head + runs ≡ length (head_text 2 f ++ runs_text (runs_of (blocks_for f m))) =
             ap (λ (n : ℕ). n + runs) h ∙ ap (λ (n : ℕ). length (head_text 2 f) + n) x ∙ sym (length-append (head_text 2 f) (runs_text (runs_of (blocks_for f m)))) in
             rw (e, z) (ap Text sum)
@@ -169,13 +169,13 @@ unlike : {A : Type 0} {a b : ℕ} → Text a ≡ Refused b → A
 unlike e = let z : ◌≡◌ {A = ℕ} 0 1 = cc in absurd (omega arith)
 
 module _ (f : Fields) (m : List ℕ) (r : Wrote) (l : r ≡ length_of f m) where
-  pub write-refused : (k room : ℕ) → r ≡ Refused k → Refused k ≡ wrote_of f m room
+  pub write_refused : (k room : ℕ) → r ≡ Refused k → Refused k ≡ wrote_of f m room
   unfolding length_of wrote_of
-  write-refused k room e =
-      by-test (is_short f m)
+  write_refused k room e =
+      by_test (is_short f m)
       (λ t. let x : Refused k ≡ Refused 11 = sym e ∙ l ∙ rw t in rw t x)
       (λ t.
-      by-test (valid_in f m)
+      by_test (valid_in f m)
       (λ v. let x : r ≡ Text (length (text_in f m)) = l ∙ rw (t, v) in unlike (sym x ∙ e))
       (λ v. let x : Refused k ≡ Refused 18 = sym e ∙ l ∙ rw (t, v) in rw (t, v) x))
 
@@ -183,16 +183,16 @@ module _ (f : Fields) (m : List ℕ) (r : Wrote) (l : r ≡ length_of f m) where
     went : (is_short f m ≡ false) × (valid_in f m ≡ true) × (n ≡ length (text_in f m))
     unfolding length_of
     went =
-        by-test (is_short f m)
+        by_test (is_short f m)
         (λ t. let x : r ≡ Refused 11 = l ∙ rw t in unlike (sym e ∙ x))
         (λ t.
-        by-test (valid_in f m)
+        by_test (valid_in f m)
         (λ v. let x : r ≡ Text (length (text_in f m)) = l ∙ rw (t, v) in (t, v, text_same (sym e ∙ x)))
         (λ v. let x : r ≡ Refused 18 = l ∙ rw (t, v) in unlike (sym e ∙ x)))
 
-    pub write-short : (room : ℕ) → room < n → Refused 18 ≡ wrote_of f m room
+    pub write_short : (room : ℕ) → room < n → Refused 18 ≡ wrote_of f m room
     unfolding wrote_of
-    write-short room h =
+    write_short room h =
         let w = went in
         let q = w.2 in
         let t = w.0 in
@@ -200,9 +200,9 @@ module _ (f : Fields) (m : List ℕ) (r : Wrote) (l : r ≡ length_of f m) where
         let z = lt-leb (length (text_in f m)) room (omega arith) in
         rw (t, v, z)
 
-    pub write-fits : (room : ℕ) → n ≤ room → Text n ≡ wrote_of f m room
+    pub write_fits : (room : ℕ) → n ≤ room → Text n ≡ wrote_of f m room
     unfolding wrote_of
-    write-fits room h =
+    write_fits room h =
         let w = went in
         let q = w.2 in
         let t = w.0 in
@@ -210,83 +210,83 @@ module _ (f : Fields) (m : List ℕ) (r : Wrote) (l : r ≡ length_of f m) where
         let z = le-leb (length (text_in f m)) room (omega arith) in
         rw (t, v, z) (ap Text q)
 
-pub text-put : (f : Fields) (m : List ℕ) (all : ℕ) → all ≡ all_of f → {before mid after : List ℕ} {to r : ℕ} → Put before 0 (head_text 2 f) mid to → Put mid to (runs_text (runs_of (take all (blocks m)))) after r
+pub text_put : (f : Fields) (m : List ℕ) (all : ℕ) → all ≡ all_of f → {before mid after : List ℕ} {to r : ℕ} → Put before 0 (head_text 2 f) mid to → Put mid to (runs_text (runs_of (take all (blocks m)))) after r
     → after ≡ sets before 0 (text_in f m)
 unfolding state_text
-text-put f m all a {before} p q =
+text_put f m all a {before} p q =
     (then p q).held ∙ ap (λ (n : ℕ). sets before 0 (head_text 2 f ++ runs_text (runs_of (take n (blocks m))))) a
 
 -- ---- the runs of a text that was accepted, laid where nothing is set
 
 module _ (s : List ℕ) (f : Fields) (runs : ℕ) (a : Accepts s f runs) where
-  pub laid-holds : (before mid after : List ℕ) → blocks mid ≡ replicate (length a.bs) false ++ drop (length a.bs) (blocks before)
+  pub laid_holds : (before mid after : List ℕ) → blocks mid ≡ replicate (length a.bs) false ++ drop (length a.bs) (blocks before)
       → Outside before mid 0 (length a.bs) → Lays (drop runs s) mid after → HoldsBlocks a.bs before after
-  laid-holds before mid after e o l =
+  laid_holds before mid after e o l =
       let st = a.says.state in
-      let few = state-few st in
+      let few = state_few st in
       let same : l.runs ≡ runs_of a.bs =
-      starts-are 0 (length a.bs) (runs_of a.bs) l.runs (drop runs s) (omega arith) (state-apart st) a.rest l.starts in
-      let p = l.outside 0 (length a.bs) (rw same (state-apart st)) in
+      starts_are 0 (length a.bs) (runs_of a.bs) l.runs (drop runs s) (omega arith) (state_apart st) a.rest l.starts in
+      let p = l.outside 0 (length a.bs) (rw same (state_apart st)) in
       record {
-        as-blocks =
-            l.as-blocks ∙ ap (λ (rs : List Run). laid_on rs (blocks mid)) same ∙ ap (laid_on (runs_of a.bs)) e ∙ runs-laid a.bs (drop (length a.bs) (blocks before));
+        as_blocks =
+            l.as_blocks ∙ ap (λ (rs : List Run). laid_on rs (blocks mid)) same ∙ ap (laid_on (runs_of a.bs)) e ∙ runs_laid a.bs (drop (length a.bs) (blocks before));
         outside = record {
           same_length = p.same_length ∙ o.same_length;
-          same-before = λ n h. p.same-before n h ∙ o.same-before n h;
-          same-past = λ n h. p.same-past n h ∙ o.same-past n h;
+          same_before = λ n h. p.same_before n h ∙ o.same_before n h;
+          same_past = λ n h. p.same_past n h ∙ o.same_past n h;
         };
       }
 
-  pub blocks-few : length a.bs ≤ 262144
-  blocks-few = state-few a.says.state
+  pub blocks_few : length a.bs ≤ 262144
+  blocks_few = state_few a.says.state
 
 cleared : (l : List Bool) (n : ℕ) → n ≤ length l → fill l 0 n false ≡ replicate n false ++ drop n l
 cleared l n h =
     let t = length-take n l in
     let k : length (take n l) ≡ n = omega arith in
     ap (λ (x : List Bool). fill x 0 n false) (sym (take-drop n l))
-    ∙ fill-left (take n l) (drop n l) 0 n false (omega arith)
-    ∙ ap (λ (x : List Bool). x ++ drop n l) (fill-whole (take n l) n false (omega arith) ∙ ap (λ (x : ℕ). replicate x false) k)
+    ∙ fill_left (take n l) (drop n l) 0 n false (omega arith)
+    ∙ ap (λ (x : List Bool). x ++ drop n l) (fill_whole (take n l) n false (omega arith) ∙ ap (λ (x : ℕ). replicate x false) k)
 
 -- ---- `read`
 
-pub accepts-at : (s : List ℕ) (r : Checked) → Checks s r → (f : Fields) (n : ℕ) → r ≡ checked.State f n → Accepts s f n
-accepts-at s r h f n e = let g : Checks s (checked.State f n) = rw e at h in g
+pub accepts_at : (s : List ℕ) (r : Checked) → Checks s r → (f : Fields) (n : ℕ) → r ≡ checked.State f n → Accepts s f n
+accepts_at s r h f n e = let g : Checks s (checked.State f n) = rw e at h in g
 
-pub refuses-at : (s : List ℕ) (r : Checked) → Checks s r → (k : ℕ) → r ≡ checked.Refused k → Refuses s k
-refuses-at s r h k e = let g : Checks s (checked.Refused k) = rw e at h in g
+pub refuses_at : (s : List ℕ) (r : Checked) → Checks s r → (k : ℕ) → r ≡ checked.Refused k → Refuses s k
+refuses_at s r h k e = let g : Checks s (checked.Refused k) = rw e at h in g
 
 -- the ways in which a text is not taken: what is lent is too short, it is the text of no state, or the state does not fit
 module _ (short : Bool) (Fits : Fields → List Bool → Type 0) (s : List ℕ) where
   pub too_short : short ≡ true → NotTaken short Fits s 11
   too_short e = record { number_is = rw e; none = λ f bs t. let l = t.long in let z : ◌≡◌ {A = ℕ} 0 1 = cc in omega arith }
 
-  pub not-read : (k : ℕ) → short ≡ false → Refuses s k → NotTaken short Fits s k
-  not-read k e h = record { number_is = rw e h.number_is; none = λ f bs t. h.no-state f bs t.says }
+  pub not_read : (k : ℕ) → short ≡ false → Refuses s k → NotTaken short Fits s k
+  not_read k e h = record { number_is = rw e h.number_is; none = λ f bs t. h.no_state f bs t.says }
 
-  pub not-fitting : short ≡ false → (f : Fields) (n : ℕ) (a : Accepts s f n) → (Fits f a.bs → ⊥) → NotTaken short Fits s 18
-  not-fitting e f n a unfit =
-      let l = not-later a.says in
+  pub not_fitting : short ≡ false → (f : Fields) (n : ℕ) (a : Accepts s f n) → (Fits f a.bs → ⊥) → NotTaken short Fits s 18
+  not_fitting e f n a unfit =
+      let l = not_later a.says in
       record {
         number_is = rw (e, l);
-        none = λ g cs t. let o = one-text s f g a.bs cs a.says t.says in unfit (rw (o.0, o.1) t.fits);
+        none = λ g cs t. let o = one_text s f g a.bs cs a.says t.says in unfit (rw (o.0, o.1) t.fits);
       }
 
 module _ (s before mid after : List ℕ) (long : 32768 ≤ length before) (r : Checked) (h : Checks s r) (f : Fields) (n : ℕ) (e : r ≡ checked.State f n) (all : ℕ) (w : all ≡ all_of f) (most : ℕ) where
   there : Accepts s f n
-  there = accepts-at s r h f n e
+  there = accepts_at s r h f n e
 
-  blocks-of : all ≡ length there.bs
-  blocks-of = w ∙ sym there.says.state.all
+  blocks_of : all ≡ length there.bs
+  blocks_of = w ∙ sym there.says.state.all
 
-  pub read-large : most < all → NotTaken (no_room before) (AtMost most) s 18
-  read-large l = not-fitting (no_room before) (AtMost most) s (le-ltb (length before) 32768 long) f n there (λ q. let k = blocks-of in omega arith)
+  pub read_large : most < all → NotTaken (no_room before) (AtMost most) s 18
+  read_large l = not_fitting (no_room before) (AtMost most) s (le-ltb (length before) 32768 long) f n there (λ q. let k = blocks_of in omega arith)
 
-  pub read-state : all ≤ most → Filled before mid 0 all false → Lays (drop n s) mid after
+  pub read_state : all ≤ most → Filled before mid 0 all false → Lays (drop n s) mid after
       → (bs : List Bool) × Takes (no_room before) (AtMost most) s f bs × HoldsBlocks bs before after
-  read-state q d l =
-      let k = blocks-of in
-      let few = blocks-few s f n there in
+  read_state q d l =
+      let k = blocks_of in
+      let few = blocks_few s f n there in
       let b = blocks-length before in
       let c = cleared (blocks before) (length there.bs) (omega arith) in
       let d' : Filled before mid 0 (length there.bs) false = rw k at d in
@@ -294,5 +294,5 @@ module _ (s before mid after : List ℕ) (long : 32768 ≤ length before) (r : C
       let o : Outside before mid 0 (length there.bs) = rw z at d'.outside in (
         there.bs,
         record { long = le-ltb (length before) 32768 long; says = there.says; fits = omega arith },
-        laid-holds s f n there before mid after (d'.as-blocks ∙ c) o l,
+        laid_holds s f n there before mid after (d'.as_blocks ∙ c) o l,
       )

@@ -36,7 +36,7 @@ NoState s = (f : Fields) (bs : List Bool) → Says s f bs → ⊥
 
 pub record Refuses (s : List ℕ) (number : ℕ) : Type 0 where
   pub number_is : number ≡ refusal_of s
-  pub no-state : NoState s
+  pub no_state : NoState s
 
 -- ---- the parts of a text
 
@@ -80,7 +80,7 @@ Checks s (checked.Refused number) = Refuses s number
 
 -- the bitmap's first blocks are bs, and no other block and no byte past them changed
 pub record HoldsBlocks (bs : List Bool) (before after : List ℕ) : Type 0 where
-  pub as-blocks : blocks after ≡ bs ++ drop (length bs) (blocks before)
+  pub as_blocks : blocks after ≡ bs ++ drop (length bs) (blocks before)
   pub outside : Outside before after 0 (length bs)
 
 -- a text is taken where nothing is too short, it is that of a state, and the state fits what it is read for

@@ -8,6 +8,6 @@ use Rattle.jambcopper.proofs.jambcopper_restore.Kinds.{ps as restore-ps, r as re
 use Rattle.jambcopper.proofs.jambcopper_restore.Reads.{Learnt as Restore-learnt}
 
 -- a are the arguments, in their order; e are the lent slices afterwards; z is what is returned
-pub restore-promises : (κs : Lfts 3) (a : Dens κs restore-ps) (z : (res_t restore-r κs).Denot) (e : AtExit (ended_of 3 restore-ps restore-r) κs) → Restore-learnt κs a z e
+pub restore_promises : (κs : Lfts 3) (a : Dens κs restore-ps) (z : (res_t restore-r κs).Denot) (e : AtExit (ended_of 3 restore-ps restore-r) κs) → Restore-learnt κs a z e
     → RestoreTold a.1.1.0.now a.0.now e.0.now a.1.0.now e.1.0.now z
-restore-promises κs a z e p = p
+restore_promises κs a z e p = p

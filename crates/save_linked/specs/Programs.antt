@@ -12,16 +12,16 @@ use Rattle.save_linked.specs.Restores.{RestoreCalled, held_then, starts_at}
 
 -- what it holds, and where the definition's run stands. A refused restore leaves what is held, so it is no step here
 pub data Program : Held → Story → Type 0 where
-  by-making : (m : Making) (words : List ℕ) (d : Device) → Makes m words → made_by m ≡ MadeDevice d → Program (first words) (begun d)
-  by-export : {h : Held} {s : Story} → Program h s → (u : Use) → One h u → Program (leaves h u) (next s (call_of u))
-  by-restoring : {h : Held} {s : Story} → Program h s → (text words' bitmap' : List ℕ) (f : Fields) (bs : List Bool) → RestoreCalled h text words' bitmap' 0 → Says text f bs
+  by_making : (m : Making) (words : List ℕ) (d : Device) → Makes m words → made_by m ≡ MadeDevice d → Program (first words) (begun d)
+  by_export : {h : Held} {s : Story} → Program h s → (u : Use) → One h u → Program (leaves h u) (next s (call_of u))
+  by_restoring : {h : Held} {s : Story} → Program h s → (text words' bitmap' : List ℕ) (f : Fields) (bs : List Bool) → RestoreCalled h text words' bitmap' 0 → Says text f bs
       → Program (held_then h words' bitmap') (starts_at s.world f bs)
 
 -- what it holds means where a run of `history` stands, and demand 3 holds of it
 pub record ProgramStands (h : Held) (s : Story) : Type 0 where
   pub means : Means h s.world
   pub reached : Reached s
-  pub demand-3 : Demand3 (in_hand h) s.events
+  pub demand_3 : Demand3 (in_hand h) s.events
 
 abbrev pub Demand3OfPrograms : Type 0
 Demand3OfPrograms = (h : Held) (s : Story) → Program h s → ProgramStands h s

@@ -58,8 +58,8 @@ AfterEveryRunThen P = (h' : Held) (s : Story) (text : List ℕ) (l : SaveLinked 
 
 -- ---- a refused restore changes nothing, whatever is lent to it
 pub record RestoreUntouched (words words' bitmap bitmap' : List ℕ) : Type 0 where
-  pub same-words : words' ≡ words
-  pub same-bitmap : bitmap' ≡ bitmap
+  pub same_words : words' ≡ words
+  pub same_bitmap : bitmap' ≡ bitmap
 
 abbrev pub RefusedRestoreChangesNothing : Type 0
 RefusedRestoreChangesNothing = (text words words' bitmap bitmap' : List ℕ) (number : ℕ) → RestoreTold text words words' bitmap bitmap' number → (number ≡ 0 → ⊥)

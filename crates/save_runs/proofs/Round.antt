@@ -8,7 +8,7 @@ use Rattle.save.specs.declared.Fields.{Fields}
 use Rattle.save.specs.Text.{Says}
 use Rattle.saving.specs.declared.Restored.{Restored}
 use Rattle.saving.specs.Restoring.{TakenOn, RestoresText}
-use Rattle.saving.proofs.Round.{saved-says, is-laid, saved-again}
+use Rattle.saving.proofs.Round.{saved_says, is_laid, saved_again}
 use Rattle.save_runs.specs.Round.{Fitting, ComesBack, SavedIsKept}
 
 -- the text of any state comes back
@@ -16,10 +16,10 @@ comes_back : (text : List ℕ) (f : Fields) (bs : List Bool) → Says text f bs 
     → Fitting d bitmap f → RestoresText d text bitmap bitmap' r → ComesBack text f bs d bitmap bitmap' r
 comes_back text f bs s d bitmap bitmap' r h p =
     let t : TakenOn d text bitmap f bs = record { long = h.long; says = s; fits = h.fits } in
-    let l = is-laid d text bitmap bitmap' f bs h.admitted t r p in
-    record { laid = l.0; holds = l.1; again = λ u. saved-again d text bitmap bitmap' f bs h.admitted t u l.1 }
+    let l = is_laid d text bitmap bitmap' f bs h.admitted t r p in
+    record { laid = l.0; holds = l.1; again = λ u. saved_again d text bitmap bitmap' f bs h.admitted t u l.1 }
 
-pub saved-is-kept : SavedIsKept
-saved-is-kept d bitmap before after n s =
-    let says = saved-says d bitmap before after n s in
+pub saved_is_kept : SavedIsKept
+saved_is_kept d bitmap before after n s =
+    let says = saved_says d bitmap before after n s in
     record { says = says; back = comes_back _ _ _ says }

@@ -25,7 +25,7 @@ pub record StartsWith (w : World) (requested : ℕ) (plugs : List Event) (w' : W
   pub leads : w' ≡ after_restore w requested plugs
   -- so a run that has led to w goes on, and what was good stays good, with all that is proved of either
   pub goes_on : (s : Story) → Reached s → s.world ≡ w → Reached (starts w' plugs)
-  pub stays-good : (s : Story) → Good s → s.world ≡ w → Good (starts w' plugs)
+  pub stays_good : (s : Story) → Good s → s.world ≡ w → Good (starts w' plugs)
   -- and demand 3 holds from there on after any calls, none included, whatever led to w
   pub told : (cs : List Call) → let s = after (starts w' plugs) cs in Demand3 s.world s.events
 

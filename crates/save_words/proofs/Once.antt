@@ -13,62 +13,62 @@ use Rattle.save.specs.declared.Fields.{Fields}
 use Rattle.save.specs.declared.Wrote.{Wrote}
 use Rattle.save.specs.declared.Got.{Got}
 use Rattle.saving.specs.declared.Restored.{Restored}
-use Rattle.saving.proofs.Once.{restores-once}
-use Rattle.old_form.proofs.Once.{to-new-once, to-old-once}
+use Rattle.saving.proofs.Once.{restores_once}
+use Rattle.old_form.proofs.Once.{to_new_once, to_old_once}
 use Rattle.save_words.specs.Told.{fields_from, WroteTold, SaveTold, restored_number, restored_words, RestoresFrom, RestoreTold, NewIf, ToNewTold, got_number, got_words, OldIf, ToOldTold}
 
-pub wrote-told-once : (w : Wrote) (len us vs : List ℕ) (m n : ℕ) → WroteTold w len us m → WroteTold w len vs n → (m ≡ n) × (us ≡ vs)
-wrote-told-once w len us vs m n x y = (x.numbered ∙ sym y.numbered, x.told ∙ sym y.told)
+pub wrote_told_once : (w : Wrote) (len us vs : List ℕ) (m n : ℕ) → WroteTold w len us m → WroteTold w len vs n → (m ≡ n) × (us ≡ vs)
+wrote_told_once w len us vs m n x y = (x.numbered ∙ sym y.numbered, x.told ∙ sym y.told)
 
-pub save-told-once : (words bitmap text len xs ys us vs : List ℕ) (m n : ℕ) → SaveTold words bitmap text xs len us m → SaveTold words bitmap text ys len vs n
+pub save_told_once : (words bitmap text len xs ys us vs : List ℕ) (m n : ℕ) → SaveTold words bitmap text xs len us m → SaveTold words bitmap text ys len vs n
     → (m ≡ n) × (xs ≡ ys) × (us ≡ vs)
-save-told-once words bitmap text len xs ys us vs m n x y =
-    let o = wrote-told-once _ len us vs m n x.told y.told in (o.0, x.buffer ∙ sym y.buffer, o.1)
+save_told_once words bitmap text len xs ys us vs m n x y =
+    let o = wrote_told_once _ len us vs m n x.told y.told in (o.0, x.buffer ∙ sym y.buffer, o.1)
 
 -- the bytes of a bitmap are below 256, as its type says
 module _ (bitmap xs ys : List ℕ) (p : (i : ℕ) → get_or xs i 0 < 256) (q : (i : ℕ) → get_or ys i 0 < 256) where
-  laid-once : (r : Decoded) (text words us vs : List ℕ) (m n : ℕ) → RestoresFrom r text words us bitmap xs m → RestoresFrom r text words vs bitmap ys n → (m ≡ n) × (us ≡ vs) × (xs ≡ ys)
+  laid_once : (r : Decoded) (text words us vs : List ℕ) (m n : ℕ) → RestoresFrom r text words us bitmap xs m → RestoresFrom r text words vs bitmap ys n → (m ≡ n) × (us ≡ vs) × (xs ≡ ys)
   unfolding RestoresFrom
-  laid-once (Is d) text words us vs m n x y =
-      let o = restores-once d text bitmap xs ys x.answer y.answer p q x.restores y.restores in (
+  laid_once (Is d) text words us vs m n x y =
+      let o = restores_once d text bitmap xs ys x.answer y.answer p q x.restores y.restores in (
         x.numbered ∙ ap (λ (r : Restored). restored_number r) o.0 ∙ sym y.numbered,
         x.recorded ∙ ap (λ (r : Restored). restored_words r words) o.0 ∙ sym y.recorded,
         o.1,
       )
-  laid-once NoRecord text words us vs m n x y =
+  laid_once NoRecord text words us vs m n x y =
       (x.numbered ∙ sym y.numbered, x.recorded ∙ sym y.recorded, x.marked ∙ sym y.marked)
 
-  pub restore-told-once : (text words us vs : List ℕ) (m n : ℕ) → RestoreTold text words us bitmap xs m → RestoreTold text words vs bitmap ys n → (m ≡ n) × (us ≡ vs) × (xs ≡ ys)
-  restore-told-once text words us vs m n x y = laid-once (decoded_of words) text words us vs m n x y
+  pub restore_told_once : (text words us vs : List ℕ) (m n : ℕ) → RestoreTold text words us bitmap xs m → RestoreTold text words vs bitmap ys n → (m ≡ n) × (us ≡ vs) × (xs ≡ ys)
+  restore_told_once text words us vs m n x y = laid_once (decoded_of words) text words us vs m n x y
 
-  new-once : (b : Bool) (f : Fields) (old text us vs len ks ls : List ℕ) (m n : ℕ) → NewIf b f old bitmap xs text us len ks m → NewIf b f old bitmap ys text vs len ls n
+  new_once : (b : Bool) (f : Fields) (old text us vs len ks ls : List ℕ) (m n : ℕ) → NewIf b f old bitmap xs text us len ks m → NewIf b f old bitmap ys text vs len ls n
       → (m ≡ n) × (xs ≡ ys) × (us ≡ vs) × (ks ≡ ls)
   unfolding NewIf
-  new-once true f old text us vs len ks ls m n x y =
-      let o = to-new-once bitmap xs ys p q f old text us vs x.answer y.answer x.moves y.moves in
-      let w = wrote-told-once x.answer len ks ls m n x.told (rw o.0 y.told) in
+  new_once true f old text us vs len ks ls m n x y =
+      let o = to_new_once bitmap xs ys p q f old text us vs x.answer y.answer x.moves y.moves in
+      let w = wrote_told_once x.answer len ks ls m n x.told (rw o.0 y.told) in
       (w.0, o.1, o.2, w.1)
-  new-once false f old text us vs len ks ls m n x y =
-      (x.numbered ∙ sym y.numbered, x.scratch-same ∙ sym y.scratch-same, x.bytes_same ∙ sym y.bytes_same, x.words_same ∙ sym y.words_same)
+  new_once false f old text us vs len ks ls m n x y =
+      (x.numbered ∙ sym y.numbered, x.scratch_same ∙ sym y.scratch_same, x.bytes_same ∙ sym y.bytes_same, x.words_same ∙ sym y.words_same)
 
-  pub to-new-told-once : (fields old text us vs len ks ls : List ℕ) (m n : ℕ) → ToNewTold fields old bitmap xs text us len ks m → ToNewTold fields old bitmap ys text vs len ls n
+  pub to_new_told_once : (fields old text us vs len ks ls : List ℕ) (m n : ℕ) → ToNewTold fields old bitmap xs text us len ks m → ToNewTold fields old bitmap ys text vs len ls n
       → (m ≡ n) × (xs ≡ ys) × (us ≡ vs) × (ks ≡ ls)
-  to-new-told-once fields old text us vs len ks ls m n x y =
-      new-once (leb 6 (length fields) && leb 1 (length len)) (fields_from fields) old text us vs len ks ls m n x y
+  to_new_told_once fields old text us vs len ks ls m n x y =
+      new_once (leb 6 (length fields) && leb 1 (length len)) (fields_from fields) old text us vs len ks ls m n x y
 
-  old-once : (b : Bool) (text old us vs fields ks ls : List ℕ) (m n : ℕ) → OldIf b text bitmap xs old us fields ks m → OldIf b text bitmap ys old vs fields ls n
+  old_once : (b : Bool) (text old us vs fields ks ls : List ℕ) (m n : ℕ) → OldIf b text bitmap xs old us fields ks m → OldIf b text bitmap ys old vs fields ls n
       → (m ≡ n) × (xs ≡ ys) × (us ≡ vs) × (ks ≡ ls)
   unfolding OldIf
-  old-once true text old us vs fields ks ls m n x y =
-      let o = to-old-once bitmap xs ys p q text old us vs x.answer y.answer x.moves y.moves in (
+  old_once true text old us vs fields ks ls m n x y =
+      let o = to_old_once bitmap xs ys p q text old us vs x.answer y.answer x.moves y.moves in (
         x.numbered ∙ ap (λ (g : Got). got_number g) o.0 ∙ sym y.numbered,
         o.1,
         o.2,
         x.told ∙ ap (λ (g : Got). got_words g fields) o.0 ∙ sym y.told,
       )
-  old-once false text old us vs fields ks ls m n x y =
-      (x.numbered ∙ sym y.numbered, x.scratch-same ∙ sym y.scratch-same, x.bytes_same ∙ sym y.bytes_same, x.words_same ∙ sym y.words_same)
+  old_once false text old us vs fields ks ls m n x y =
+      (x.numbered ∙ sym y.numbered, x.scratch_same ∙ sym y.scratch_same, x.bytes_same ∙ sym y.bytes_same, x.words_same ∙ sym y.words_same)
 
-  pub to-old-told-once : (text old us vs fields ks ls : List ℕ) (m n : ℕ) → ToOldTold text bitmap xs old us fields ks m → ToOldTold text bitmap ys old vs fields ls n
+  pub to_old_told_once : (text old us vs fields ks ls : List ℕ) (m n : ℕ) → ToOldTold text bitmap xs old us fields ks m → ToOldTold text bitmap ys old vs fields ls n
       → (m ≡ n) × (xs ≡ ys) × (us ≡ vs) × (ks ≡ ls)
-  to-old-told-once text old us vs fields ks ls m n x y = old-once (leb 6 (length fields)) text old us vs fields ks ls m n x y
+  to_old_told_once text old us vs fields ks ls m n x y = old_once (leb 6 (length fields)) text old us vs fields ks ls m n x y

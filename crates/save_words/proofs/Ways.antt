@@ -25,45 +25,45 @@ use Rattle.save_words.specs.Told.{fields_from, fields_words, WroteTold, on_recor
 
 -- ---- `tell_wrote`
 
-pub told-number : (w : Wrote) (len : List ℕ) (k : ℕ) → w ≡ Refused k → WroteTold w len len k
-told-number w len k e = rw e (record { numbered = refl; told = refl })
+pub told_number : (w : Wrote) (len : List ℕ) (k : ℕ) → w ≡ Refused k → WroteTold w len len k
+told_number w len k e = rw e (record { numbered = refl; told = refl })
 
-pub told-length : (w : Wrote) (len len' : List ℕ) (n : ℕ) → w ≡ Text n → len' ≡ put len 0 (n ∷ []) → WroteTold w len len' 0
-told-length w len len' n e p = rw e (record { numbered = refl; told = p })
+pub told_length : (w : Wrote) (len len' : List ℕ) (n : ℕ) → w ≡ Text n → len' ≡ put len 0 (n ∷ []) → WroteTold w len len' 0
+told_length w len len' n e p = rw e (record { numbered = refl; told = p })
 
 -- ---- `tell_save_length` and `tell_save`
 
 module _ (words bitmap len : List ℕ) where
-  pub length-no-room : length len < 1 → WroteTold (length_from words bitmap len) len len 18
-  length-no-room h = let t = lt-leb 1 (length len) h in rw t (record { numbered = refl; told = refl })
+  pub length_no_room : length len < 1 → WroteTold (length_from words bitmap len) len len 18
+  length_no_room h = let t = lt-leb 1 (length len) h in rw t (record { numbered = refl; told = refl })
 
-  pub save-no-room : (text : List ℕ) → length len < 1 → SaveTold words bitmap text text len len 18
-  save-no-room text h = let t = lt-leb 1 (length len) h in record { told = rw t (record { numbered = refl; told = refl }); buffer = rw t }
+  pub save_no_room : (text : List ℕ) → length len < 1 → SaveTold words bitmap text text len len 18
+  save_no_room text h = let t = lt-leb 1 (length len) h in record { told = rw t (record { numbered = refl; told = refl }); buffer = rw t }
 
   module _ (h : 1 ≤ length len) (r : Decoded) (e : r ≡ decoded_of words) where
-    pub length-foreign : r ≡ NoRecord → WroteTold (length_from words bitmap len) len len 12
+    pub length_foreign : r ≡ NoRecord → WroteTold (length_from words bitmap len) len len 12
     unfolding on_record
-    length-foreign q = let t = le-leb 1 (length len) h in let k = sym e ∙ q in rw (t, k) (record { numbered = refl; told = refl })
+    length_foreign q = let t = le-leb 1 (length len) h in let k = sym e ∙ q in rw (t, k) (record { numbered = refl; told = refl })
 
-    pub save-foreign : (text : List ℕ) → r ≡ NoRecord → SaveTold words bitmap text text len len 12
+    pub save_foreign : (text : List ℕ) → r ≡ NoRecord → SaveTold words bitmap text text len len 12
     unfolding on_record
-    save-foreign text q =
+    save_foreign text q =
         let t = le-leb 1 (length len) h in
         let k = sym e ∙ q in
         record { told = rw (t, k) (record { numbered = refl; told = refl }); buffer = rw (t, k) }
 
     module _ (d : Device) (q : r ≡ Is d) (w : Wrote) (len' : List ℕ) (number : ℕ) (o : WroteTold w len len' number) where
-      pub length-told : w ≡ saved_length d bitmap → WroteTold (length_from words bitmap len) len len' number
+      pub length_told : w ≡ saved_length d bitmap → WroteTold (length_from words bitmap len) len len' number
       unfolding on_record
-      length-told p =
+      length_told p =
           let t = le-leb 1 (length len) h in
           let k = sym e ∙ q in
           let same : length_from words bitmap len ≡ w = rw (t, k) (sym p) in
           rw same o
 
-      pub save-told : (text text' : List ℕ) → Saves d bitmap text text' w → SaveTold words bitmap text text' len len' number
+      pub save_told : (text text' : List ℕ) → Saves d bitmap text text' w → SaveTold words bitmap text text' len len' number
       unfolding on_record text_from
-      save-told text text' s =
+      save_told text text' s =
           let t = le-leb 1 (length len) h in
           let k = sym e ∙ q in
           let same : saved_from words bitmap text len ≡ w = rw (t, k) (sym s.answer) in
@@ -73,32 +73,32 @@ module _ (words bitmap len : List ℕ) where
 -- ---- `tell_restore`
 
 module _ (text words bitmap : List ℕ) (r : Decoded) (e : r ≡ decoded_of words) where
-  pub restore-foreign : r ≡ NoRecord → RestoreTold text words words bitmap bitmap 12
+  pub restore_foreign : r ≡ NoRecord → RestoreTold text words words bitmap bitmap 12
   unfolding RestoresFrom
-  restore-foreign q = let k = sym e ∙ q in rw k (record { numbered = refl; recorded = refl; marked = refl })
+  restore_foreign q = let k = sym e ∙ q in rw k (record { numbered = refl; recorded = refl; marked = refl })
 
   module _ (d : Device) (q : r ≡ Is d) (bitmap' : List ℕ) (a : Restored) (h : RestoresText d text bitmap bitmap' a) where
-    pub restore-refused : (n : ℕ) → a ≡ restored.Refused n → RestoreTold text words words bitmap bitmap' n
+    pub restore_refused : (n : ℕ) → a ≡ restored.Refused n → RestoreTold text words words bitmap bitmap' n
     unfolding RestoresFrom
-    restore-refused n p = let k = sym e ∙ q in rw k (record { answer = a; restores = h; numbered = rw p; recorded = rw p })
+    restore_refused n p = let k = sym e ∙ q in rw k (record { answer = a; restores = h; numbered = rw p; recorded = rw p })
 
-    pub restore-laid : (d' : Device) → a ≡ restored.Device d' → (words' : List ℕ) → words' ≡ put words 0 (words_of d') → RestoreTold text words words' bitmap bitmap' 0
+    pub restore_laid : (d' : Device) → a ≡ restored.Device d' → (words' : List ℕ) → words' ≡ put words 0 (words_of d') → RestoreTold text words words' bitmap bitmap' 0
     unfolding RestoresFrom
-    restore-laid d' p words' w = let k = sym e ∙ q in rw k (record { answer = a; restores = h; numbered = rw p; recorded = rw p w })
+    restore_laid d' p words' w = let k = sym e ∙ q in rw k (record { answer = a; restores = h; numbered = rw p; recorded = rw p w })
 
 -- ---- `tell_new`
 
 module _ (fields old scratch text len : List ℕ) where
   pub no_fields : length fields < 6 → ToNewTold fields old scratch scratch text text len len 18
   unfolding NewIf
-  no_fields h = let t = lt-leb 6 (length fields) h in rw t (record { numbered = refl; scratch-same = refl; bytes_same = refl; words_same = refl })
+  no_fields h = let t = lt-leb 6 (length fields) h in rw t (record { numbered = refl; scratch_same = refl; bytes_same = refl; words_same = refl })
 
   pub no_length : 6 ≤ length fields → length len < 1 → ToNewTold fields old scratch scratch text text len len 18
   unfolding NewIf
   no_length h l =
       let t = le-leb 6 (length fields) h in
       let u = lt-leb 1 (length len) l in
-      rw (t, u) (record { numbered = refl; scratch-same = refl; bytes_same = refl; words_same = refl })
+      rw (t, u) (record { numbered = refl; scratch_same = refl; bytes_same = refl; words_same = refl })
 
   pub new_told : 6 ≤ length fields → 1 ≤ length len → (f : Fields) → f ≡ fields_from fields → (scratch' text' len' : List ℕ) (w : Wrote) (number : ℕ)
       → ToNew f old scratch scratch' text text' w → WroteTold w len len' number → ToNewTold fields old scratch scratch' text text' len len' number
@@ -111,15 +111,15 @@ module _ (fields old scratch text len : List ℕ) where
 -- ---- `tell_old`
 
 module _ (text scratch old fields : List ℕ) where
-  pub old-no-room : length fields < 6 → ToOldTold text scratch scratch old old fields fields 18
+  pub old_no_room : length fields < 6 → ToOldTold text scratch scratch old old fields fields 18
   unfolding OldIf
-  old-no-room h = let t = lt-leb 6 (length fields) h in rw t (record { numbered = refl; scratch-same = refl; bytes_same = refl; words_same = refl })
+  old_no_room h = let t = lt-leb 6 (length fields) h in rw t (record { numbered = refl; scratch_same = refl; bytes_same = refl; words_same = refl })
 
   module _ (h : 6 ≤ length fields) (scratch' old' : List ℕ) (g : Got) (m : ToOld text scratch scratch' old old' g) where
-    pub old-refused : (n : ℕ) → g ≡ got.Refused n → ToOldTold text scratch scratch' old old' fields fields n
+    pub old_refused : (n : ℕ) → g ≡ got.Refused n → ToOldTold text scratch scratch' old old' fields fields n
     unfolding OldIf
-    old-refused n e = let t = le-leb 6 (length fields) h in rw t (record { answer = g; moves = m; numbered = rw e; told = rw e })
+    old_refused n e = let t = le-leb 6 (length fields) h in rw t (record { answer = g; moves = m; numbered = rw e; told = rw e })
 
-    pub old-told : (f : Fields) → g ≡ got.Fields f → (fields' : List ℕ) → fields' ≡ put fields 0 (fields_words f) → ToOldTold text scratch scratch' old old' fields fields' 0
+    pub old_told : (f : Fields) → g ≡ got.Fields f → (fields' : List ℕ) → fields' ≡ put fields 0 (fields_words f) → ToOldTold text scratch scratch' old old' fields fields' 0
     unfolding OldIf
-    old-told f e fields' w = let t = le-leb 6 (length fields) h in rw t (record { answer = g; moves = m; numbered = rw e; told = rw e w })
+    old_told f e fields' w = let t = le-leb 6 (length fields) h in rw t (record { answer = g; moves = m; numbered = rw e; told = rw e w })

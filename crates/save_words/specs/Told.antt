@@ -105,7 +105,7 @@ pub record NewTold (f : Fields) (old scratch scratch' text text' length length' 
 -- R19.7: no room, 18, and nothing is written
 pub record NoRoom (scratch scratch' bytes bytes' words words' : List ℕ) (number : ℕ) : Type 0 where
   pub numbered : number ≡ 18
-  pub scratch-same : scratch' ≡ scratch
+  pub scratch_same : scratch' ≡ scratch
   pub bytes_same : bytes' ≡ bytes
   pub words_same : words' ≡ words
 

@@ -14,12 +14,12 @@ use Rattle.text.specs.Putting.{Put}
 use Rattle.sentences.specs.Summary.{mark, row_text, same_row}
 
 -- nothing is put
-pub put-none : (out : List ℕ) (at r : ℕ) → r ≡ min at (length out + 1) → Put out at [] out r
-put-none out at r e = record { held = refl; next = omega arith }
+pub put_none : (out : List ℕ) (at r : ℕ) → r ≡ min at (length out + 1) → Put out at [] out r
+put_none out at r e = record { held = refl; next = omega arith }
 
 -- what is put into keeps its length
-pub put-long : {b : List ℕ} {at : ℕ} {text b1 : List ℕ} {r : ℕ} → Put b at text b1 r → length b1 ≡ length b
-put-long {b} {at} {text} p = ap length p.held ∙ length-sets b at text
+pub put_long : {b : List ℕ} {at : ℕ} {text b1 : List ℕ} {r : ℕ} → Put b at text b1 r → length b1 ≡ length b
+put_long {b} {at} {text} p = ap length p.held ∙ length-sets b at text
 
 pub row_more : (bs : List Bool) (first i : ℕ) → row_text bs first (i + 1) ≡ row_text bs first i ++ mark (block_at bs (first + i)) ∷ []
 unfolding row_text

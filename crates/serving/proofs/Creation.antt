@@ -7,7 +7,7 @@ use mathlib.Core.List.{List, []}
 use lib.Dec.{leb, ltb}
 use borrow.Author.Tests.{leb-true, leb-false, lt-ltb, le-ltb}
 use Rattle.units.specs.Numbers.{top}
-use Rattle.units.proofs.Tests.{by-test}
+use Rattle.units.proofs.Tests.{by_test}
 use Rattle.bitmap.specs.Blocks.{blocks}
 use Rattle.rows.specs.declared.MapRow.{MapRow}
 use Rattle.rows.specs.Rows.{written}
@@ -54,8 +54,8 @@ by_parts o o' s bm tb tb' bytes d a r b left m =
 pub heard : (d : Device) (bm tb : List ℕ) (g : Guest) (ok : Bool) (host i last : ℕ) (s : Answered) (tb' : List ℕ) → Gives (host_answer (Create i last) (world_of d [] tb) no_guest ok host) (lent [] tb []) (lent [] tb' []) s → Gives (host_answer (Create i last) (world_of d bm tb) g ok host) (lent bm tb g.mem) (lent bm tb' g.mem) s
 unfolding host_answer
 heard d bm tb g ok host i last s tb' =
-    by-test ok
-    (λ u. by-test (ltb top (host + covered_by (world_of d [] []) i last))
+    by_test ok
+    (λ u. by_test (ltb top (host + covered_by (world_of d [] []) i last))
     (λ v. rw (u, v) (by_parts _ _ s bm tb tb' g.mem refl refl refl refl refl))
     (λ v. rw (u, v) (by_parts _ _ s bm tb tb' g.mem refl refl refl refl refl)))
     (λ u. rw u (by_parts _ _ s bm tb tb' g.mem refl refl refl refl refl))

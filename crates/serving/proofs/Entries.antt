@@ -22,7 +22,7 @@ use Rattle.record.specs.declared.Pending.{Pending}
 use Rattle.record.specs.declared.Pending.TheVariants.{Nothing, Discard, DiscardOne}
 use Rattle.record.specs.Shape.{shaped_of}
 use Rattle.record.specs.Changes.{plugged_to, pending_to}
-use Rattle.record.proofs.Laws.{block-less-keeps}
+use Rattle.record.proofs.Laws.{block_less_keeps}
 use Rattle.step.specs.declared.Answered.{Answered}
 use Rattle.step.specs.World.{World, Guest, Request, HostAnswer, world_of}
 use Rattle.step.specs.Promise.{lent, Gives}
@@ -34,84 +34,84 @@ abbrev NotRequest : Parsed → Type 0
 NotRequest p = (req : VirtioMemReq) (status : GuestAddr) → p ≡ Got req status → ⊥
 
 -- a chain that is no request
-bad-is : (p : Parsed) → NotRequest p → (reason : ℕ) → reason ≡ reason_of p → (w : World) (g : Guest) → request p w g ≡ unserved reason w g
+bad_is : (p : Parsed) → NotRequest p → (reason : ℕ) → reason ≡ reason_of p → (w : World) (g : Guest) → request p w g ≡ unserved reason w g
 unfolding request
-bad-is (Got req status) k reason e w g = absurd (k req status refl)
-bad-is (Bad n) k reason e w g = rw e
+bad_is (Got req status) k reason e w g = absurd (k req status refl)
+bad_is (Bad n) k reason e w g = rw e
 
 module _ (d : Device) (bitmap table : List ℕ) (number : ℕ) where
   module _ (number_is : number ≡ ready_refusal d (8 * length bitmap) (rows_in (length table))) where
-    same-ready : ready_refusal d (length (blocks bitmap)) (length (rows_of table)) ≡ number
-    same-ready = rw (blocks-length bitmap, count table, ← number_is)
+    same_ready : ready_refusal d (length (blocks bitmap)) (length (rows_of table)) ≡ number
+    same_ready = rw (blocks-length bitmap, count table, ← number_is)
 
     module _ (g : Guest) (at head : ℕ) where
-      pub request-refused : (number ≡ 0 → ⊥) → step (world_of d bitmap table) (Request g at head) ≡ refused_with number (world_of d bitmap table) g.mem
+      pub request_refused : (number ≡ 0 → ⊥) → step (world_of d bitmap table) (Request g at head) ≡ refused_with number (world_of d bitmap table) g.mem
       unfolding step unless
-      request-refused h = rw (same-ready, ne_eqb number 0 h)
+      request_refused h = rw (same_ready, ne_eqb number 0 h)
 
       module _ (h : number ≡ 0) (p : Parsed) (e : p ≡ parsed g.mem g.base at head) where
-        request-ready : step (world_of d bitmap table) (Request g at head) ≡ request p (world_of d bitmap table) g
+        request_ready : step (world_of d bitmap table) (Request g at head) ≡ request p (world_of d bitmap table) g
         unfolding step unless
-        request-ready = rw (same-ready, eq-eqb number 0 h, ← e)
+        request_ready = rw (same_ready, eq-eqb number 0 h, ← e)
 
-        pub request-bad : NotRequest p → (reason : ℕ) → reason ≡ reason_of p → step (world_of d bitmap table) (Request g at head) ≡ unserved reason (world_of d bitmap table) g
-        request-bad k reason r = request-ready ∙ bad-is p k reason r (world_of d bitmap table) g
+        pub request_bad : NotRequest p → (reason : ℕ) → reason ≡ reason_of p → step (world_of d bitmap table) (Request g at head) ≡ unserved reason (world_of d bitmap table) g
+        request_bad k reason r = request_ready ∙ bad_is p k reason r (world_of d bitmap table) g
 
-        pub request-got : (req : VirtioMemReq) (status : GuestAddr) → p ≡ Got req status → step (world_of d bitmap table) (Request g at head) ≡ serve (world_of d bitmap table) req status.0 g
+        pub request_got : (req : VirtioMemReq) (status : GuestAddr) → p ≡ Got req status → step (world_of d bitmap table) (Request g at head) ≡ serve (world_of d bitmap table) req status.0 g
         unfolding request
-        request-got req status q = request-ready ∙ rw q
+        request_got req status q = request_ready ∙ rw q
 
   module _ (number_is : number ≡ pending_refusal d (8 * length bitmap) (rows_in (length table))) where
-    same-pending : pending_refusal d (length (blocks bitmap)) (length (rows_of table)) ≡ number
-    same-pending = rw (blocks-length bitmap, count table, ← number_is)
+    same_pending : pending_refusal d (length (blocks bitmap)) (length (rows_of table)) ≡ number
+    same_pending = rw (blocks-length bitmap, count table, ← number_is)
 
     module _ (g : Guest) (ok : Bool) (host : ℕ) where
-      pub answer-refused : (number ≡ 0 → ⊥) → step (world_of d bitmap table) (HostAnswer g ok host) ≡ refused_with number (world_of d bitmap table) g.mem
+      pub answer_refused : (number ≡ 0 → ⊥) → step (world_of d bitmap table) (HostAnswer g ok host) ≡ refused_with number (world_of d bitmap table) g.mem
       unfolding step unless
-      answer-refused h = rw (same-pending, ne_eqb number 0 h)
+      answer_refused h = rw (same_pending, ne_eqb number 0 h)
 
-      pub answer-ready : number ≡ 0 → step (world_of d bitmap table) (HostAnswer g ok host) ≡ host_answer d.pending (world_of d bitmap table) g ok host
+      pub answer_ready : number ≡ 0 → step (world_of d bitmap table) (HostAnswer g ok host) ≡ host_answer d.pending (world_of d bitmap table) g ok host
       unfolding step unless
-      answer-ready h = rw (same-pending, eq-eqb number 0 h)
+      answer_ready h = rw (same_pending, eq-eqb number 0 h)
 
 -- ---- the host's answer, by its pending case
 module _ (w : World) (g : Guest) (ok : Bool) where
   -- the case that is pending
-  pub case-is : (p q : Pending) → p ≡ q → (host : ℕ) → host_answer p w g ok host ≡ host_answer q w g ok host
-  case-is p q e host = ap (λ (p : Pending). host_answer p w g ok host) e
+  pub case_is : (p q : Pending) → p ≡ q → (host : ℕ) → host_answer p w g ok host ≡ host_answer q w g ok host
+  case_is p q e host = ap (λ (p : Pending). host_answer p w g ok host) e
 
   -- a discard's answer is the same whatever host address it brings
-  pub any-host : (first count : ℕ) (status : GuestAddr) (host : ℕ) → host_answer (Discard first count status) w g ok host ≡ host_answer (Discard first count status) w g ok 0
+  pub any_host : (first count : ℕ) (status : GuestAddr) (host : ℕ) → host_answer (Discard first count status) w g ok host ≡ host_answer (Discard first count status) w g ok 0
   unfolding host_answer
-  any-host first count status host = refl
+  any_host first count status host = refl
 
-  pub any-host-one : (block : ℕ) (status : GuestAddr) (host : ℕ) → host_answer (DiscardOne block status) w g ok host ≡ host_answer (DiscardOne block status) w g ok 0
+  pub any_host_one : (block : ℕ) (status : GuestAddr) (host : ℕ) → host_answer (DiscardOne block status) w g ok host ≡ host_answer (DiscardOne block status) w g ok 0
   unfolding host_answer
-  any-host-one block status host = refl
+  any_host_one block status host = refl
 
   -- with nothing pending, which the refusals leave out
-  pub none-pending : (host : ℕ) → host_answer Nothing w g ok host ≡ refused_with 8 w g.mem
+  pub none_pending : (host : ℕ) → host_answer Nothing w g ok host ≡ refused_with 8 w g.mem
   unfolding host_answer
-  none-pending host = refl
+  none_pending host = refl
 
 -- one block less, and nothing pending
-pub less-shaped : (d d' d'' : Device) (n : ℕ) → shaped_of d ≡ true → n ≡ d.config.plugged_size - d.config.block_size → d' ≡ plugged_to n d → d'' ≡ pending_to Nothing d' → shaped_of d'' ≡ true
-less-shaped d d' d'' n shape less same same' = rw (same', same, less) (block-less-keeps d shape)
+pub less_shaped : (d d' d'' : Device) (n : ℕ) → shaped_of d ≡ true → n ≡ d.config.plugged_size - d.config.block_size → d' ≡ plugged_to n d → d'' ≡ pending_to Nothing d' → shaped_of d'' ≡ true
+less_shaped d d' d'' n shape less same same' = rw (same', same, less) (block_less_keeps d shape)
 
 module _ (d : Device) (bitmap table : List ℕ) (shape : shaped_of d ≡ true) (g : Guest) (s : Answered) {bytes : List ℕ} (ok : Bool) (status : GuestAddr) where
-  pub unplug-fails : (first count : ℕ) → ok ≡ false → Responded g status.0 (error failed_discard) (pending_to Nothing d) s bytes → Gives (host_answer (Discard first count status) (world_of d bitmap table) g ok 0) (lent bitmap table g.mem) (lent bitmap table bytes) s
+  pub unplug_fails : (first count : ℕ) → ok ≡ false → Responded g status.0 (error failed_discard) (pending_to Nothing d) s bytes → Gives (host_answer (Discard first count status) (world_of d bitmap table) g ok 0) (lent bitmap table g.mem) (lent bitmap table bytes) s
   unfolding host_answer
-  unplug-fails first count t p = rw t (serves g status.0 _ bitmap p refl refl)
+  unplug_fails first count t p = rw t (serves g status.0 _ bitmap p refl refl)
 
-  pub unplug-done : (first count : ℕ) → ok ≡ true → (bitmap' : List ℕ) → Filled bitmap bitmap' first count false → (d' d'' : Device) → d' ≡ plugged_to (d.config.plugged_size - bytes_of d.config.block_size count) d → d'' ≡ pending_to Nothing d' → Responded g status.0 ack d'' s bytes → Gives (host_answer (Discard first count status) (world_of d bitmap table) g ok 0) (lent bitmap table g.mem) (lent bitmap' table bytes) s
+  pub unplug_done : (first count : ℕ) → ok ≡ true → (bitmap' : List ℕ) → Filled bitmap bitmap' first count false → (d' d'' : Device) → d' ≡ plugged_to (d.config.plugged_size - bytes_of d.config.block_size count) d → d'' ≡ pending_to Nothing d' → Responded g status.0 ack d'' s bytes → Gives (host_answer (Discard first count status) (world_of d bitmap table) g ok 0) (lent bitmap table g.mem) (lent bitmap' table bytes) s
   unfolding host_answer
-  unplug-done first count t bitmap' filled d' d'' same same' p =
-      rw t (serves g status.0 _ bitmap' (rw (same', same) at p) filled.as-blocks refl)
+  unplug_done first count t bitmap' filled d' d'' same same' p =
+      rw t (serves g status.0 _ bitmap' (rw (same', same) at p) filled.as_blocks refl)
 
-  pub one-fails : (block : ℕ) → ok ≡ false → Responded g status.0 (error failed_discard) (pending_to Nothing d) s bytes → Gives (host_answer (DiscardOne block status) (world_of d bitmap table) g ok 0) (lent bitmap table g.mem) (lent bitmap table bytes) s
+  pub one_fails : (block : ℕ) → ok ≡ false → Responded g status.0 (error failed_discard) (pending_to Nothing d) s bytes → Gives (host_answer (DiscardOne block status) (world_of d bitmap table) g ok 0) (lent bitmap table g.mem) (lent bitmap table bytes) s
   unfolding host_answer
-  one-fails block t p = rw t (serves g status.0 _ bitmap p refl refl)
+  one_fails block t p = rw t (serves g status.0 _ bitmap p refl refl)
 
-  pub one-done : (block : ℕ) → ok ≡ true → (bitmap' : List ℕ) → Filled bitmap bitmap' block 1 false → (n : ℕ) → n ≡ d.config.plugged_size - d.config.block_size → (d' d'' : Device) → d' ≡ plugged_to n d → d'' ≡ pending_to Nothing d' → Gives (unplug_all (world_of d'' bitmap' table) (block + 1) status.0 g) (lent bitmap' table g.mem) (lent bitmap' table bytes) s → Gives (host_answer (DiscardOne block status) (world_of d bitmap table) g ok 0) (lent bitmap table g.mem) (lent bitmap' table bytes) s
+  pub one_done : (block : ℕ) → ok ≡ true → (bitmap' : List ℕ) → Filled bitmap bitmap' block 1 false → (n : ℕ) → n ≡ d.config.plugged_size - d.config.block_size → (d' d'' : Device) → d' ≡ plugged_to n d → d'' ≡ pending_to Nothing d' → Gives (unplug_all (world_of d'' bitmap' table) (block + 1) status.0 g) (lent bitmap' table g.mem) (lent bitmap' table bytes) s → Gives (host_answer (DiscardOne block status) (world_of d bitmap table) g ok 0) (lent bitmap table g.mem) (lent bitmap' table bytes) s
   unfolding host_answer
-  one-done block t bitmap' filled n less d' d'' same same' m = rw t (relent refl (rw (same', same, less, filled.as-blocks) at m))
+  one_done block t bitmap' filled n less d' d'' same same' m = rw t (relent refl (rw (same', same, less, filled.as_blocks) at m))

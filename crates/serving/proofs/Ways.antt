@@ -13,7 +13,7 @@ use Rattle.units.specs.declared.HostAddr.{HostAddr}
 use Rattle.bitmap.specs.declared.Found.{Found}
 use Rattle.bitmap.specs.declared.Found.TheVariants.{At, Nothing as NoneSet}
 use Rattle.bitmap.specs.Blocks.{blocks, block_at, next_set, Filled}
-use Rattle.bitmap.proofs.Laws.{next-at}
+use Rattle.bitmap.proofs.Laws.{next_at}
 use Rattle.rows.specs.Rows.{rows_of}
 use Rattle.rows.proofs.Words.{count}
 use Rattle.change.specs.declared.Change.{Change}
@@ -21,7 +21,7 @@ use Rattle.change.specs.declared.Change.TheVariants.{Legal, Outside, WrongState,
 use Rattle.change.specs.declared.Part.TheVariants.{PastUsable}
 use Rattle.change.specs.declared.HostRange.{HostRange}
 use Rattle.change.specs.declared.HostRange.TheVariants.{At as HostAt, CrossesBorder, Unmapped, SumPasses}
-use Rattle.change.proofs.Laws.{one-plugged}
+use Rattle.change.proofs.Laws.{one_plugged}
 use Rattle.change.specs.Change.{host_of, legal_at, change_of}
 use Rattle.change.specs.Why.{part_why, host_why, change_why}
 use Rattle.wire.specs.declared.VirtioMemReq.{VirtioMemReq}
@@ -31,7 +31,7 @@ use Rattle.record.specs.declared.Pending.{Pending}
 use Rattle.record.specs.declared.Pending.TheVariants.{Nothing, Discard, DiscardOne}
 use Rattle.record.specs.Shape.{shaped_of}
 use Rattle.record.specs.Changes.{plugged_to, pending_to}
-use Rattle.record.proofs.Laws.{shaped-is}
+use Rattle.record.proofs.Laws.{shaped_is}
 use Rattle.step.specs.declared.Verdict.{Verdict}
 use Rattle.step.specs.declared.Answered.{Answered}
 use Rattle.step.specs.declared.Answer.TheVariants.{Refused, Wants}
@@ -52,19 +52,19 @@ NotLegal ch = (first : ℕ) (offset : RegionOffset) (host : HostAddr) → ch ≡
 abbrev pub NotAt : HostRange → Type 0
 NotAt found = (host : HostAddr) → found ≡ HostAt host → ⊥
 
-plug-error : (ch : Change) → NotLegal ch → (w : World) (count status : ℕ) (g : Guest) → plug_as ch w count status g ≡ served (error (change_why ch)) status w g
+plug_error : (ch : Change) → NotLegal ch → (w : World) (count status : ℕ) (g : Guest) → plug_as ch w count status g ≡ served (error (change_why ch)) status w g
 unfolding plug_as change_why
-plug-error (Legal first offset host) k w count status g = absurd (k first offset host refl)
-plug-error (Outside part) k w count status g = refl
-plug-error WrongState k w count status g = refl
-plug-error (NoHost part) k w count status g = refl
+plug_error (Legal first offset host) k w count status g = absurd (k first offset host refl)
+plug_error (Outside part) k w count status g = refl
+plug_error WrongState k w count status g = refl
+plug_error (NoHost part) k w count status g = refl
 
 module _ (d : Device) (bitmap table : List ℕ) (shape : shaped_of d ≡ true) (addr count status : ℕ) (g : Guest) (s : Answered) (bytes : List ℕ)
     (size : ℕ) (size_is : size ≡ bytes_of d.config.block_size count) (within : Bool) (within-is : within ≡ leb (d.config.plugged_size + size) d.config.requested_size) where
   -- (a) failed
-  pub plug-nacks : within ≡ false → Responded g status nack d s bytes → Gives (plug (world_of d bitmap table) addr count status g) (lent bitmap table g.mem) (lent bitmap table bytes) s
+  pub plug_nacks : within ≡ false → Responded g status nack d s bytes → Gives (plug (world_of d bitmap table) addr count status g) (lent bitmap table g.mem) (lent bitmap table bytes) s
   unfolding plug
-  plug-nacks t p =
+  plug_nacks t p =
       let h = leb-false (d.config.plugged_size + size) d.config.requested_size (sym within-is ∙ t) in
       let e : ltb d.config.requested_size (d.config.plugged_size + bytes_of d.config.block_size count) ≡ true = rw (← size_is) (lt-ltb d.config.requested_size (d.config.plugged_size + size) h) in
       rw e (serves g status (world_of d bitmap table) bitmap p refl refl)
@@ -77,109 +77,109 @@ module _ (d : Device) (bitmap table : List ℕ) (shape : shaped_of d ≡ true) (
         let e : ltb d.config.requested_size (d.config.plugged_size + bytes_of d.config.block_size count) ≡ false = rw (← size_is) (le-ltb d.config.requested_size (d.config.plugged_size + size) h) in
         rw (e, ← ch-is)
 
-    pub plug-errs : NotLegal ch → (why : ℕ) → why ≡ change_why ch → Responded g status (error why) d s bytes → Gives (plug (world_of d bitmap table) addr count status g) (lent bitmap table g.mem) (lent bitmap table bytes) s
-    plug-errs k why why-is p = rw (asks, plug-error ch k (world_of d bitmap table) count status g) (serves g status (world_of d bitmap table) bitmap (rw why-is at p) refl refl)
+    pub plug_errs : NotLegal ch → (why : ℕ) → why ≡ change_why ch → Responded g status (error why) d s bytes → Gives (plug (world_of d bitmap table) addr count status g) (lent bitmap table g.mem) (lent bitmap table bytes) s
+    plug_errs k why why-is p = rw (asks, plug_error ch k (world_of d bitmap table) count status g) (serves g status (world_of d bitmap table) bitmap (rw why-is at p) refl refl)
 
-    pub plug-acks : (first : ℕ) (offset : RegionOffset) (host : HostAddr) → ch ≡ Legal first offset host → (bitmap' : List ℕ) → Filled bitmap bitmap' first count true → (d' : Device) → d' ≡ plugged_to (d.config.plugged_size + size) d → Responded g status ack d' s bytes → Gives (plug (world_of d bitmap table) addr count status g) (lent bitmap table g.mem) (lent bitmap' table bytes) s
+    pub plug_acks : (first : ℕ) (offset : RegionOffset) (host : HostAddr) → ch ≡ Legal first offset host → (bitmap' : List ℕ) → Filled bitmap bitmap' first count true → (d' : Device) → d' ≡ plugged_to (d.config.plugged_size + size) d → Responded g status ack d' s bytes → Gives (plug (world_of d bitmap table) addr count status g) (lent bitmap table g.mem) (lent bitmap' table bytes) s
     unfolding plug_as
-    plug-acks first offset host legal bitmap' filled d' same p =
-        rw (asks, legal) (serves g status _ bitmap' (rw (same, size_is) at p) filled.as-blocks refl)
+    plug_acks first offset host legal bitmap' filled d' same p =
+        rw (asks, legal) (serves g status _ bitmap' (rw (same, size_is) at p) filled.as_blocks refl)
 
-unplug-error : (ch : Change) → NotLegal ch → (w : World) (count status : ℕ) (g : Guest) → unplug_as ch w count status g ≡ served (error (change_why ch)) status w g
+unplug_error : (ch : Change) → NotLegal ch → (w : World) (count status : ℕ) (g : Guest) → unplug_as ch w count status g ≡ served (error (change_why ch)) status w g
 unfolding unplug_as change_why
-unplug-error (Legal first offset host) k w count status g = absurd (k first offset host refl)
-unplug-error (Outside part) k w count status g = refl
-unplug-error WrongState k w count status g = refl
-unplug-error (NoHost part) k w count status g = refl
+unplug_error (Legal first offset host) k w count status g = absurd (k first offset host refl)
+unplug_error (Outside part) k w count status g = refl
+unplug_error WrongState k w count status g = refl
+unplug_error (NoHost part) k w count status g = refl
 
-one-error : (found : HostRange) → NotAt found → (w : World) (b offset block status : ℕ) (g : Guest) → one_as (legal_at b offset found) w block status g ≡ stops (host_why found) w status g
+one_error : (found : HostRange) → NotAt found → (w : World) (b offset block status : ℕ) (g : Guest) → one_as (legal_at b offset found) w block status g ≡ stops (host_why found) w status g
 unfolding one_as legal_at host_why
-one-error (HostAt host) k w b offset block status g = absurd (k host refl)
-one-error CrossesBorder k w b offset block status g = refl
-one-error Unmapped k w b offset block status g = refl
-one-error SumPasses k w b offset block status g = refl
+one_error (HostAt host) k w b offset block status g = absurd (k host refl)
+one_error CrossesBorder k w b offset block status g = refl
+one_error Unmapped k w b offset block status g = refl
+one_error SumPasses k w b offset block status g = refl
 
 module _ (d : Device) (bitmap table : List ℕ) (shape : shaped_of d ≡ true) (status : ℕ) (g : Guest) (s : Answered) where
   module _ (addr count : ℕ) (ch : Change) (ch-is : ch ≡ change_of d.config.block_size d.config.addr.0 d.config.usable_region_size d.several addr count false (blocks bitmap) (rows_of table)) where
-    same-change : changing (world_of d bitmap table) addr count false ≡ ch
-    same-change = sym ch-is
+    same_change : changing (world_of d bitmap table) addr count false ≡ ch
+    same_change = sym ch-is
 
-    pub unplug-errs : {bytes : List ℕ} → NotLegal ch → (why : ℕ) → why ≡ change_why ch → Responded g status (error why) d s bytes → Gives (unplug (world_of d bitmap table) addr count status g) (lent bitmap table g.mem) (lent bitmap table bytes) s
-    unplug-errs k why why-is p = rw (same-change, unplug-error ch k (world_of d bitmap table) count status g) (serves g status (world_of d bitmap table) bitmap (rw why-is at p) refl refl)
+    pub unplug_errs : {bytes : List ℕ} → NotLegal ch → (why : ℕ) → why ≡ change_why ch → Responded g status (error why) d s bytes → Gives (unplug (world_of d bitmap table) addr count status g) (lent bitmap table g.mem) (lent bitmap table bytes) s
+    unplug_errs k why why-is p = rw (same_change, unplug_error ch k (world_of d bitmap table) count status g) (serves g status (world_of d bitmap table) bitmap (rw why-is at p) refl refl)
 
     module _ (first : ℕ) (offset : RegionOffset) (host : HostAddr) (legal : ch ≡ Legal first offset host) (size : ℕ) (size_is : size ≡ bytes_of d.config.block_size count) where
       -- larger than the plugged size
-      pub unplug-refuses : d.config.plugged_size < size → s ≡ record { device = d; answer = Refused 12 } → Gives (unplug (world_of d bitmap table) addr count status g) (lent bitmap table g.mem) (lent bitmap table g.mem) s
+      pub unplug_refuses : d.config.plugged_size < size → s ≡ record { device = d; answer = Refused 12 } → Gives (unplug (world_of d bitmap table) addr count status g) (lent bitmap table g.mem) (lent bitmap table g.mem) s
       unfolding unplug_as
-      unplug-refuses h e =
+      unplug_refuses h e =
           let larger : ltb d.config.plugged_size (bytes_of d.config.block_size count) ≡ true = rw (← size_is) (lt-ltb d.config.plugged_size size h) in
-          rw (same-change, legal, larger) (answers (world_of d bitmap table) (Refused 12) e refl refl)
+          rw (same_change, legal, larger) (answers (world_of d bitmap table) (Refused 12) e refl refl)
 
-      pub unplug-asks : size ≤ d.config.plugged_size → s ≡ asked d (Discard first count (record { 0 = status })) offset size host → Gives (unplug (world_of d bitmap table) addr count status g) (lent bitmap table g.mem) (lent bitmap table g.mem) s
+      pub unplug_asks : size ≤ d.config.plugged_size → s ≡ asked d (Discard first count (record { 0 = status })) offset size host → Gives (unplug (world_of d bitmap table) addr count status g) (lent bitmap table g.mem) (lent bitmap table g.mem) s
       unfolding unplug_as
-      unplug-asks h e =
+      unplug_asks h e =
           let fits : ltb d.config.plugged_size (bytes_of d.config.block_size count) ≡ false = rw (← size_is) (le-ltb d.config.plugged_size size h) in
-          rw (same-change, legal, fits) (answers _ _ (rw size_is at e) refl refl)
+          rw (same_change, legal, fits) (answers _ _ (rw size_is at e) refl refl)
 
   -- one plugged block of an unplug-all: past the test of the usable size, (d) decides
   module _ (block : ℕ) (inside : block < blocks_in d.config.block_size d.config.region_size) (set : block_at (blocks bitmap) block ≡ true) where
-    one-change : changing (world_of d bitmap table) (d.config.addr.0 + bytes_of d.config.block_size block) 1 false
+    one_change : changing (world_of d bitmap table) (d.config.addr.0 + bytes_of d.config.block_size block) 1 false
         ≡ cond (leb d.config.usable_region_size (bytes_of d.config.block_size block)) (Outside PastUsable)
         (legal_at d.config.block_size (bytes_of d.config.block_size block) (host_of d.several (rows_of table) (bytes_of d.config.block_size block) d.config.block_size))
-    one-change =
-        let h = shaped-is d shape in
+    one_change =
+        let h = shaped_is d shape in
         let e = h.block_size in
         let i : block < blocks_in 4194304 d.config.region_size = rw e at inside in
-        let end : d.config.addr.0 + bytes_of 4194304 (suc block) ≤ top = omega (arith, h.start-region) in
-        one-plugged d.config.block_size d.config.addr.0 d.config.usable_region_size d.several block (blocks bitmap) (rows_of table)
-        (omega arith) (rw e h.start-blocks) (rw e h.usable-blocks) (rw e end) (omega (arith, h.start-region, h.usable-in)) set
+        let end : d.config.addr.0 + bytes_of 4194304 (suc block) ≤ top = omega (arith, h.start_region) in
+        one_plugged d.config.block_size d.config.addr.0 d.config.usable_region_size d.several block (blocks bitmap) (rows_of table)
+        (omega arith) (rw e h.start_blocks) (rw e h.usable_blocks_lem) (rw e end) (omega (arith, h.start_region, h.usable_in)) set
 
-    pub one-past : {bytes : List ℕ} → d.config.usable_region_size ≤ bytes_of d.config.block_size block → Responded g status (error 5) (pending_to Nothing d) s bytes → Gives (unplug_one (world_of d bitmap table) block status g) (lent bitmap table g.mem) (lent bitmap table bytes) s
+    pub one_past : {bytes : List ℕ} → d.config.usable_region_size ≤ bytes_of d.config.block_size block → Responded g status (error 5) (pending_to Nothing d) s bytes → Gives (unplug_one (world_of d bitmap table) block status g) (lent bitmap table g.mem) (lent bitmap table bytes) s
     unfolding one_as part_why
-    one-past k p =
-        rw (one-change, le-leb d.config.usable_region_size (bytes_of d.config.block_size block) k) (serves g status _ bitmap p refl refl)
+    one_past k p =
+        rw (one_change, le-leb d.config.usable_region_size (bytes_of d.config.block_size block) k) (serves g status _ bitmap p refl refl)
 
     module _ (usable : bytes_of d.config.block_size block < d.config.usable_region_size) (found : HostRange) (found-is : found ≡ host_of d.several (rows_of table) (bytes_of d.config.block_size block) d.config.block_size) where
-      by-host : changing (world_of d bitmap table) (d.config.addr.0 + bytes_of d.config.block_size block) 1 false ≡ legal_at d.config.block_size (bytes_of d.config.block_size block) found
-      by-host = rw (one-change, lt-leb d.config.usable_region_size (bytes_of d.config.block_size block) usable, ← found-is)
+      by_host : changing (world_of d bitmap table) (d.config.addr.0 + bytes_of d.config.block_size block) 1 false ≡ legal_at d.config.block_size (bytes_of d.config.block_size block) found
+      by_host = rw (one_change, lt-leb d.config.usable_region_size (bytes_of d.config.block_size block) usable, ← found-is)
 
-      pub one-errs : {bytes : List ℕ} → NotAt found → (why : ℕ) → why ≡ host_why found → Responded g status (error why) (pending_to Nothing d) s bytes → Gives (unplug_one (world_of d bitmap table) block status g) (lent bitmap table g.mem) (lent bitmap table bytes) s
-      one-errs k why why-is p =
-          rw (by-host, one-error found k (world_of d bitmap table) d.config.block_size (bytes_of d.config.block_size block) block status g) (serves g status _ bitmap (rw why-is at p) refl refl)
+      pub one_errs : {bytes : List ℕ} → NotAt found → (why : ℕ) → why ≡ host_why found → Responded g status (error why) (pending_to Nothing d) s bytes → Gives (unplug_one (world_of d bitmap table) block status g) (lent bitmap table g.mem) (lent bitmap table bytes) s
+      one_errs k why why-is p =
+          rw (by_host, one_error found k (world_of d bitmap table) d.config.block_size (bytes_of d.config.block_size block) block status g) (serves g status _ bitmap (rw why-is at p) refl refl)
 
-      pub one-asks : (host : HostAddr) → found ≡ HostAt host → s ≡ asked d (DiscardOne block (record { 0 = status })) (record { 0 = bytes_of d.config.block_size block }) d.config.block_size host → Gives (unplug_one (world_of d bitmap table) block status g) (lent bitmap table g.mem) (lent bitmap table g.mem) s
+      pub one_asks : (host : HostAddr) → found ≡ HostAt host → s ≡ asked d (DiscardOne block (record { 0 = status })) (record { 0 = bytes_of d.config.block_size block }) d.config.block_size host → Gives (unplug_one (world_of d bitmap table) block status g) (lent bitmap table g.mem) (lent bitmap table g.mem) s
       unfolding one_as legal_at
-      one-asks host legal e =
+      one_asks host legal e =
           let same : d.config.block_size ≡ bytes_of d.config.block_size 1 = omega arith in
-          rw (by-host, legal) (answers _ _ (e ∙ ap (λ n. asked d (DiscardOne block (record { 0 = status })) (record { 0 = bytes_of d.config.block_size block }) n host) same) refl refl)
+          rw (by_host, legal) (answers _ _ (e ∙ ap (λ n. asked d (DiscardOne block (record { 0 = status })) (record { 0 = bytes_of d.config.block_size block }) n host) same) refl refl)
 
   -- the next block of an unplug-all
   module _ (from last : ℕ) (last-is : last ≡ blocks_in d.config.block_size d.config.region_size) (found : Found) (found-is : found ≡ next_set (blocks bitmap) from last) where
-    same-found : next_set (blocks bitmap) from (blocks_in d.config.block_size d.config.region_size) ≡ found
-    same-found = rw (← last-is, ← found-is)
+    same_found : next_set (blocks bitmap) from (blocks_in d.config.block_size d.config.region_size) ≡ found
+    same_found = rw (← last-is, ← found-is)
 
-    pub all-ends : {bytes : List ℕ} → found ≡ NoneSet → (d' d'' : Device) → d' ≡ plugged_to 0 d → d'' ≡ pending_to Nothing d' → Responded g status ack d'' s bytes → Gives (unplug_all (world_of d bitmap table) from status g) (lent bitmap table g.mem) (lent bitmap table bytes) s
+    pub all_ends : {bytes : List ℕ} → found ≡ NoneSet → (d' d'' : Device) → d' ≡ plugged_to 0 d → d'' ≡ pending_to Nothing d' → Responded g status ack d'' s bytes → Gives (unplug_all (world_of d bitmap table) from status g) (lent bitmap table g.mem) (lent bitmap table bytes) s
     unfolding next_as
-    all-ends e d' d'' same same' p = rw (same-found, e) (serves g status _ bitmap (rw (same', same) at p) refl refl)
+    all_ends e d' d'' same same' p = rw (same_found, e) (serves g status _ bitmap (rw (same', same) at p) refl refl)
 
-    pub all-goes-on : {bytes : List ℕ} (block : ℕ) → found ≡ At block → Gives (unplug_one (world_of d bitmap table) block status g) (lent bitmap table g.mem) (lent bitmap table bytes) s → Gives (unplug_all (world_of d bitmap table) from status g) (lent bitmap table g.mem) (lent bitmap table bytes) s
+    pub all_goes_on : {bytes : List ℕ} (block : ℕ) → found ≡ At block → Gives (unplug_one (world_of d bitmap table) block status g) (lent bitmap table g.mem) (lent bitmap table bytes) s → Gives (unplug_all (world_of d bitmap table) from status g) (lent bitmap table g.mem) (lent bitmap table bytes) s
     unfolding next_as
-    all-goes-on block e m = rw (same-found, e) m
+    all_goes_on block e m = rw (same_found, e) m
 
 -- the block that an unplug-all finds is one of the region, and plugged
 pub block_inside : (b region from last : ℕ) (bs : List Bool) {found : Found} (block : ℕ) → last ≡ blocks_in b region → found ≡ next_set bs from last → found ≡ At block → block < blocks_in b region
-block_inside b region from last bs block last-is found-is e = rw last-is at (next-at true bs from last block (sym found-is ∙ e)).before-end
+block_inside b region from last bs block last-is found-is e = rw last-is at (next_at true bs from last block (sym found-is ∙ e)).before_end
 
 -- and where it starts fits
-pub block-fits : (d : Device) → shaped_of d ≡ true → (block : ℕ) → block < blocks_in d.config.block_size d.config.region_size → bytes_of d.config.block_size block ≤ top
-block-fits d shape block inside =
-    let h = shaped-is d shape in
+pub block_fits : (d : Device) → shaped_of d ≡ true → (block : ℕ) → block < blocks_in d.config.block_size d.config.region_size → bytes_of d.config.block_size block ≤ top
+block_fits d shape block inside =
+    let h = shaped_is d shape in
     let i : block < blocks_in 4194304 d.config.region_size = rw h.block_size at inside in
-    let fits : bytes_of 4194304 block ≤ top = omega (arith, h.region-top) in
+    let fits : bytes_of 4194304 block ≤ top = omega (arith, h.region_top) in
     rw h.block_size fits
 
-pub block-plugged : (bs : List Bool) (from last : ℕ) {found : Found} (block : ℕ) → found ≡ next_set bs from last → found ≡ At block → block_at bs block ≡ true
-block-plugged bs from last block found-is e = (next-at true bs from last block (sym found-is ∙ e)).found
+pub block_plugged : (bs : List Bool) (from last : ℕ) {found : Found} (block : ℕ) → found ≡ next_set bs from last → found ≡ At block → block_at bs block ≡ true
+block_plugged bs from last block found-is e = (next_at true bs from last block (sym found-is ∙ e)).found
 
 module _ (w : World) (req : VirtioMemReq) (status : ℕ) (g : Guest) where
   pub serve-plug : req.req_type ≡ 0 → serve w req status g ≡ plug w req.addr.0 req.nb_blocks status g
@@ -190,19 +190,19 @@ module _ (w : World) (req : VirtioMemReq) (status : ℕ) (g : Guest) where
   unfolding serve
   serve-unplug e = rw e
 
-  pub serve-unplug-all : req.req_type ≡ 2 → serve w req status g ≡ unplug_all w 0 status g
+  pub serve-unplug_all : req.req_type ≡ 2 → serve w req status g ≡ unplug_all w 0 status g
   unfolding serve
-  serve-unplug-all e = rw e
+  serve-unplug_all e = rw e
 
-  pub serve-state : req.req_type ≡ 3 → serve w req status g ≡ served (state_verdict w req.addr.0 req.nb_blocks) status w g
+  pub serve_state : req.req_type ≡ 3 → serve w req status g ≡ served (state_verdict w req.addr.0 req.nb_blocks) status w g
   unfolding serve
-  serve-state e = rw e
+  serve_state e = rw e
 
-  pub serve-unknown : (req.req_type ≡ 0 → ⊥) → (req.req_type ≡ 1 → ⊥) → (req.req_type ≡ 2 → ⊥) → (req.req_type ≡ 3 → ⊥) → serve w req status g ≡ unserved 0 w g
+  pub serve_unknown : (req.req_type ≡ 0 → ⊥) → (req.req_type ≡ 1 → ⊥) → (req.req_type ≡ 2 → ⊥) → (req.req_type ≡ 3 → ⊥) → serve w req status g ≡ unserved 0 w g
   unfolding serve
-  serve-unknown e0 e1 e2 e3 =
+  serve_unknown e0 e1 e2 e3 =
       rw (ne_eqb req.req_type 0 e0, ne_eqb req.req_type 1 e1, ne_eqb req.req_type 2 e2, ne_eqb req.req_type 3 e3)
 
 pub states : {bytes : List ℕ} (d : Device) (bitmap table : List ℕ) (req : VirtioMemReq) (status : ℕ) (g : Guest) (s : Answered) → req.req_type ≡ 3 → (v : Verdict) → v ≡ state_verdict (world_of d bitmap []) req.addr.0 req.nb_blocks → Responded g status v d s bytes → Gives (serve (world_of d bitmap table) req status g) (lent bitmap table g.mem) (lent bitmap table bytes) s
 states d bitmap table req status g s t v e p =
-    rw (serve-state (world_of d bitmap table) req status g t) (serves g status (world_of d bitmap table) bitmap (rw e at p) refl refl)
+    rw (serve_state (world_of d bitmap table) req status g t) (serves g status (world_of d bitmap table) bitmap (rw e at p) refl refl)

@@ -21,7 +21,7 @@ use Rattle.record.specs.declared.HostCall.TheVariants.{Create as CreateCall, Dis
 use Rattle.record.specs.declared.Pending.{Pending}
 use Rattle.record.specs.declared.Pending.TheVariants.{Nothing, Create, Discard, DiscardOne}
 use Rattle.record.specs.Changes.{requested_to}
-use Rattle.record.proofs.Laws.{Parts, shaped-is as facts-of, whole as shaped-when}
+use Rattle.record.proofs.Laws.{Parts, shaped_is as facts-of, whole as shaped-when}
 use Rattle.step.specs.declared.Answer.{Answer}
 use Rattle.step.specs.Answers.{served_with, question, response}
 use Rattle.step.specs.World.{World, Guest, Call, Place, SetRequestedSize, Request, HostAnswer, ReadConfig, WriteConfig, Outcome}
@@ -29,11 +29,11 @@ use Rattle.step.specs.Step.{start, sizes, asks_create, placing, step, request, s
 use Rattle.history.specs.History.{present}
 use Rattle.history.specs.Rules.{is_place}
 use Rattle.history.specs.Good.{InMemory}
-use Rattle.history.proofs.Shaped.{clash, cleared-shaped}
-use Rattle.history.proofs.Cases.{by_cond, Entered, on-ready, on-unplaced, on-pending, plug-cases, unplug-cases, unplug-all-cases, serve-cases, resized-cases, place-cases, size-cases, read-cases, write-cases}
+use Rattle.history.proofs.Shaped.{clash, cleared_shaped}
+use Rattle.history.proofs.Cases.{by_cond, Entered, on_ready, on_unplaced, on_pending, plug_cases, unplug_cases, unplug_all_cases, serve_cases, resized_cases, place_cases, size_cases, read_cases, write_cases}
 use Rattle.standard.specs.Requests.{response_of, AsksFor, Hears, Awaits, OneAnswered, lent_by, status_of_pending, status_for}
-use Rattle.standard.proofs.Requests.{one-standard, answered, heard}
-use Rattle.standard.proofs.Memory.{asks-outside}
+use Rattle.standard.proofs.Requests.{one_standard, answered, heard}
+use Rattle.standard.proofs.Memory.{asks_outside}
 
 -- ---- a call that is no part of a request
 -- a response, or a question for a discard
@@ -64,8 +64,8 @@ CreatesNothing o = (guest : GuestAddr) (size slot : ℕ) → AsksFor o (CreateCa
 pub record Quiet (w : World) (c : Call) (o : Outcome) : Type 0 where
   pub silent : speaks o.answer ≡ false
   pub same_bytes : is_config_call c ≡ false → o.bytes ≡ (lent_by c).mem
-  pub keeps-status : (call : HostCall) → AsksFor o call → status_of_pending o.world.device.pending ≡ status_for w c
-  pub creates-outside : InMemory w → CreatesPast w o
+  pub keeps_status : (call : HostCall) → AsksFor o call → status_of_pending o.world.device.pending ≡ status_for w c
+  pub creates_outside : InMemory w → CreatesPast w o
   -- but for a placing of a device that is not placed
   pub same_blocks : (is_place c ≡ true → w.device.placed ≡ true) → o.world.blocks ≡ w.blocks
 
@@ -76,64 +76,64 @@ pub data Says (g : Guest) (status : ℕ) (o : Outcome) : Type 0 where
 
 pub record Leaf (w : World) (g : Guest) (status : ℕ) (o : Outcome) : Type 0 where
   pub says : Says g status o
-  pub keeps-status : (call : HostCall) → AsksFor o call → status_of_pending o.world.device.pending ≡ some status
-  pub no-creation : CreatesNothing o
+  pub keeps_status : (call : HostCall) → AsksFor o call → status_of_pending o.world.device.pending ≡ some status
+  pub no_creation : CreatesNothing o
 
 module _ (w : World) (g : Guest) (status : ℕ) where
-  leaf-served : (v : Verdict) (w' : World) → Leaf w g status (served v status w' g)
-  leaf-served v w' =
-      record { says = Responded v refl refl; keeps-status = λ call e. let z : ◌≡◌ {A = ℕ} 0 1 = cc in absurd (omega arith); no-creation = λ guest size slot e. let z : ◌≡◌ {A = ℕ} 0 1 = cc in omega arith }
+  leaf_served : (v : Verdict) (w' : World) → Leaf w g status (served v status w' g)
+  leaf_served v w' =
+      record { says = Responded v refl refl; keeps_status = λ call e. let z : ◌≡◌ {A = ℕ} 0 1 = cc in absurd (omega arith); no_creation = λ guest size slot e. let z : ◌≡◌ {A = ℕ} 0 1 = cc in omega arith }
 
-  leaf-silent : (o : Outcome) → response_of o.answer ≡ none → o.bytes ≡ g.mem → ((call : HostCall) → AsksFor o call → status_of_pending o.world.device.pending ≡ some status)
+  leaf_silent : (o : Outcome) → response_of o.answer ≡ none → o.bytes ≡ g.mem → ((call : HostCall) → AsksFor o call → status_of_pending o.world.device.pending ≡ some status)
       → CreatesNothing o → Leaf w g status o
-  leaf-silent o n hush k never = record { says = Silent n hush; keeps-status = k; no-creation = never }
+  leaf_silent o n hush k never = record { says = Silent n hush; keeps_status = k; no_creation = never }
 
   module _ (shaped : Parts w.device) where
-    leaf-serve : (req : VirtioMemReq) → Leaf w g status (serve w req status g)
+    leaf_serve : (req : VirtioMemReq) → Leaf w g status (serve w req status g)
     unfolding response status_of_pending
-    leaf-serve req =
+    leaf_serve req =
         let P = Leaf w g status in
-        serve-cases P w req status g
-        (λ _. plug-cases P w shaped status g req.addr.0 req.nb_blocks (λ _ _ _ _. leaf-served _ _) (λ _. leaf-served _ _) (leaf-served _ _))
-        (λ _ _. unplug-cases P w shaped status g req.addr.0 req.nb_blocks
-        (λ _ _ _ _ _ _. leaf-silent _ refl refl (λ _ _. refl) (λ _ _ _ e. let z : ◌≡◌ {A = ℕ} 0 1 = cc in omega arith))
-        (λ _ _ _ _. leaf-silent _ refl refl (λ call e. let z : ◌≡◌ {A = ℕ} 0 1 = cc in absurd (omega arith)) (λ _ _ _ e. let z : ◌≡◌ {A = ℕ} 0 1 = cc in omega arith))
-        (λ _. leaf-served _ _))
-        (λ _ _ _. unplug-all-cases P w shaped status g 0
-        (λ _. leaf-served _ _)
-        (λ _ _ _ _ _. leaf-silent _ refl refl (λ _ _. refl) (λ _ _ _ e. let z : ◌≡◌ {A = ℕ} 0 1 = cc in omega arith))
-        (λ _. leaf-served _ _))
-        (λ _ _ _. leaf-served _ _)
-        (leaf-silent _ refl refl (λ call e. let z : ◌≡◌ {A = ℕ} 0 1 = cc in absurd (omega arith)) (λ _ _ _ e. let z : ◌≡◌ {A = ℕ} 0 1 = cc in omega arith))
+        serve_cases P w req status g
+        (λ _. plug_cases P w shaped status g req.addr.0 req.nb_blocks (λ _ _ _ _. leaf_served _ _) (λ _. leaf_served _ _) (leaf_served _ _))
+        (λ _ _. unplug_cases P w shaped status g req.addr.0 req.nb_blocks
+        (λ _ _ _ _ _ _. leaf_silent _ refl refl (λ _ _. refl) (λ _ _ _ e. let z : ◌≡◌ {A = ℕ} 0 1 = cc in omega arith))
+        (λ _ _ _ _. leaf_silent _ refl refl (λ call e. let z : ◌≡◌ {A = ℕ} 0 1 = cc in absurd (omega arith)) (λ _ _ _ e. let z : ◌≡◌ {A = ℕ} 0 1 = cc in omega arith))
+        (λ _. leaf_served _ _))
+        (λ _ _ _. unplug_all_cases P w shaped status g 0
+        (λ _. leaf_served _ _)
+        (λ _ _ _ _ _. leaf_silent _ refl refl (λ _ _. refl) (λ _ _ _ e. let z : ◌≡◌ {A = ℕ} 0 1 = cc in omega arith))
+        (λ _. leaf_served _ _))
+        (λ _ _ _. leaf_served _ _)
+        (leaf_silent _ refl refl (λ call e. let z : ◌≡◌ {A = ℕ} 0 1 = cc in absurd (omega arith)) (λ _ _ _ e. let z : ◌≡◌ {A = ℕ} 0 1 = cc in omega arith))
 
-pub leaf-unplug : (w : World) (g : Guest) (first count : ℕ) (status : GuestAddr) (ok : Bool) (host : ℕ) → Leaf w g status.0 (host_answer (Discard first count status) w g ok host)
+pub leaf_unplug : (w : World) (g : Guest) (first count : ℕ) (status : GuestAddr) (ok : Bool) (host : ℕ) → Leaf w g status.0 (host_answer (Discard first count status) w g ok host)
 unfolding host_answer
-leaf-unplug w g first count status true host = leaf-served w g status.0 _ _
-leaf-unplug w g first count status false host = leaf-served w g status.0 _ _
+leaf_unplug w g first count status true host = leaf_served w g status.0 _ _
+leaf_unplug w g first count status false host = leaf_served w g status.0 _ _
 
-leaf-one : (w : World) (g : Guest) → Parts w.device → (j : ℕ) (status : GuestAddr) (ok : Bool) (host : ℕ) → Leaf w g status.0 (host_answer (DiscardOne j status) w g ok host)
+leaf_one : (w : World) (g : Guest) → Parts w.device → (j : ℕ) (status : GuestAddr) (ok : Bool) (host : ℕ) → Leaf w g status.0 (host_answer (DiscardOne j status) w g ok host)
 unfolding host_answer response status_of_pending
-leaf-one w g shaped j status true host =
-    unplug-all-cases (Leaf w g status.0) (cleared w j) (cleared-shaped w j shaped) status.0 g (j + 1)
-    (λ _. leaf-served w g status.0 _ _)
-    (λ _ _ _ _ _. leaf-silent w g status.0 _ refl refl (λ _ _. refl) (λ _ _ _ e. let z : ◌≡◌ {A = ℕ} 0 1 = cc in omega arith))
-    (λ _. leaf-served w g status.0 _ _)
-leaf-one w g shaped j status false host = leaf-served w g status.0 _ _
+leaf_one w g shaped j status true host =
+    unplug_all_cases (Leaf w g status.0) (cleared w j) (cleared_shaped w j shaped) status.0 g (j + 1)
+    (λ _. leaf_served w g status.0 _ _)
+    (λ _ _ _ _ _. leaf_silent w g status.0 _ refl refl (λ _ _. refl) (λ _ _ _ e. let z : ◌≡◌ {A = ℕ} 0 1 = cc in omega arith))
+    (λ _. leaf_served w g status.0 _ _)
+leaf_one w g shaped j status false host = leaf_served w g status.0 _ _
 
 -- ---- every call is one of these
 pub record Ways (w : World) (K : Call → Outcome → Type 0) : Type 0 where
   pub quiet : (c : Call) (o : Outcome) → Quiet w c o → K c o
   pub hears : (g : Guest) (descriptors head : ℕ) (req : VirtioMemReq) (status : GuestAddr) → Hears w g descriptors head req status → Leaf w g status.0 (step w (Request g descriptors head))
       → K (Request g descriptors head) (step w (Request g descriptors head))
-  pub unplug-ends : (first count : ℕ) (status : GuestAddr) → Awaits w (Discard first count status) → (g : Guest) (ok : Bool) (host : ℕ)
+  pub unplug_ends : (first count : ℕ) (status : GuestAddr) → Awaits w (Discard first count status) → (g : Guest) (ok : Bool) (host : ℕ)
       → K (HostAnswer g ok host) (host_answer (Discard first count status) w g ok host)
-  pub one-ends : (j : ℕ) (status : GuestAddr) → Awaits w (DiscardOne j status) → (g : Guest) (ok : Bool) (host : ℕ) (o : Outcome) → OneAnswered w j ok o → Leaf w g status.0 o
+  pub one_ends : (j : ℕ) (status : GuestAddr) → Awaits w (DiscardOne j status) → (g : Guest) (ok : Bool) (host : ℕ) (o : Outcome) → OneAnswered w j ok o → Leaf w g status.0 o
       → K (HostAnswer g ok host) o
 
 -- the tables fit where a call is not refused
 fitting : (w : World) (quiet : Bool) → Entered w.device (length w.blocks) (length w.rows) quiet → tables_fit w.device (length w.blocks) (length w.rows) ≡ true
 unfolding tables_fit
-fitting w quiet e = rw (le-leb _ _ e.is-long, le-leb _ _ e.has-rows)
+fitting w quiet e = rw (le-leb _ _ e.is_long, le-leb _ _ e.has_rows)
 
 module _ (w : World) (K : Call → Outcome → Type 0) (k : Ways w K) where
   -- nothing is asked of the host
@@ -144,8 +144,8 @@ module _ (w : World) (K : Call → Outcome → Type 0) (k : Ways w K) where
       (record {
         silent = mute;
         same_bytes = bytes;
-        keeps-status = λ call e. absurd (never call e);
-        creates-outside = λ _ guest size slot e. absurd (never _ e);
+        keeps_status = λ call e. absurd (never call e);
+        creates_outside = λ _ guest size slot e. absurd (never _ e);
         same_blocks = blocks;
       })
 
@@ -170,65 +170,65 @@ module _ (w : World) (K : Call → Outcome → Type 0) (k : Ways w K) where
       (record {
         silent = refl;
         same_bytes = λ _. rw lends;
-        keeps-status = λ _ _. rw nowhere;
-        creates-outside = λ m guest bytes slot e. let at : record { 0 = start w₁ + i * map_region } ≡ guest = cc in rw (← at) (omega (arith, past m));
+        keeps_status = λ _ _. rw nowhere;
+        creates_outside = λ m guest bytes slot e. let at : record { 0 = start w₁ + i * map_region } ≡ guest = cc in rw (← at) (omega (arith, past m));
         same_blocks = blocks;
       })
 
-  by-pending : (g : Guest) (ok : Bool) (host : ℕ) (p : Pending) → w.device.pending ≡ p → Entered w.device (length w.blocks) (length w.rows) false → K (HostAnswer g ok host) (host_answer p w g ok host)
+  by_pending : (g : Guest) (ok : Bool) (host : ℕ) (p : Pending) → w.device.pending ≡ p → Entered w.device (length w.blocks) (length w.rows) false → K (HostAnswer g ok host) (host_answer p w g ok host)
   unfolding host_answer response question lent_by is_config_call
-  by-pending g ok host Nothing q e = refusal (HostAnswer g ok host) 8 g.mem (λ _. refl)
-  by-pending g true host (Create i last) q e =
+  by_pending g ok host Nothing q e = refusal (HostAnswer g ok host) 8 g.mem (λ _. refl)
+  by_pending g true host (Create i last) q e =
       by_cond (K (HostAnswer g true host)) (ltb top (host + covered_by w i last)) _ _ (λ _. refusal (HostAnswer g true host) 9 g.mem (λ _. refl))
       (λ _. hush (HostAnswer g true host) _ refl (λ _. refl) (λ call f. let z : ◌≡◌ {A = ℕ} 0 1 = cc in omega arith) (λ _. refl))
-  by-pending g false host (Create i last) q e =
+  by_pending g false host (Create i last) q e =
       hush (HostAnswer g false host) _ refl (λ _. refl) (λ call f. let z : ◌≡◌ {A = ℕ} 0 1 = cc in omega arith) (λ _. refl)
-  by-pending g ok host (Discard first count status) q e =
-      k.unplug-ends first count status (record { shaped = shaped-when w.device e.is-shaped; waits = q; fits = fitting w false e }) g ok host
-  by-pending g ok host (DiscardOne j status) q e =
-      let a : Awaits w (DiscardOne j status) = record { shaped = shaped-when w.device e.is-shaped; waits = q; fits = fitting w false e } in
-      k.one-ends j status a g ok host _ (rw (answered w (DiscardOne j status) a refl g ok host) at (one-standard w j status a g ok host)) (leaf-one w g e.is-shaped j status ok host)
+  by_pending g ok host (Discard first count status) q e =
+      k.unplug_ends first count status (record { shaped = shaped-when w.device e.is_shaped; waits = q; fits = fitting w false e }) g ok host
+  by_pending g ok host (DiscardOne j status) q e =
+      let a : Awaits w (DiscardOne j status) = record { shaped = shaped-when w.device e.is_shaped; waits = q; fits = fitting w false e } in
+      k.one_ends j status a g ok host _ (rw (answered w (DiscardOne j status) a refl g ok host) at (one_standard w j status a g ok host)) (leaf_one w g e.is_shaped j status ok host)
 
   by_chain : (g : Guest) (descriptors head : ℕ) (p : Parsed) → parsed g.mem g.base descriptors head ≡ p → w.device.placed ≡ true → Entered w.device (length w.blocks) (length w.rows) true
       → K (Request g descriptors head) (request p w g)
   unfolding request response question lent_by is_config_call
   by_chain g descriptors head (Bad reason) q p e = idle (Request g descriptors head) _ refl refl (λ _. refl) (λ call f. let z : ◌≡◌ {A = ℕ} 0 1 = cc in omega arith)
   by_chain g descriptors head (Got req status) q p e =
-      let h : Hears w g descriptors head req status = record { shaped = shaped-when w.device e.is-shaped; is-idle = e.is-idle; is-placed = p; fits = fitting w true e; reads = q } in
+      let h : Hears w g descriptors head req status = record { shaped = shaped-when w.device e.is_shaped; pending_is_idle = e.pending_is_idle; is_placed = p; fits = fitting w true e; reads = q } in
       let is = heard w g descriptors head req status h in
-      rw is at (k.hears g descriptors head req status h (rw is (leaf-serve w g status.0 e.is-shaped req)))
+      rw is at (k.hears g descriptors head req status h (rw is (leaf_serve w g status.0 e.is_shaped req)))
 
   pub each_way : (c : Call) → K c (step w c)
   unfolding step placing response question lent_by is_config_call status_of_pending status_for is_place
   each_way (Place at size slots bs rows) =
       let P = K (Place at size slots bs rows) in
-      on-unplaced P w [] _ (λ n _ _. refusal (Place at size slots bs rows) n [] (λ _. refl)) (length bs) (length rows)
-      (λ p e. place-cases P w at size slots bs rows (refusal _ 3 [] (λ _. refl)) (refusal _ 4 [] (λ _. refl))
+      on_unplaced P w [] _ (λ n _ _. refusal (Place at size slots bs rows) n [] (λ _. refl)) (length bs) (length rows)
+      (λ p e. place_cases P w at size slots bs rows (refusal _ 3 [] (λ _. refl)) (refusal _ 4 [] (λ _. refl))
       (λ _ _.
       let c = Place at size slots bs rows in
       let w₁ = placed w at slots bs rows in
       let none-usable : (i : ℕ) → InMemory w → usable w ≤ i * map_region = λ i m. let none = m.early p in omega arith in
       by_cond P (several w) _ _
-      (λ _. resized-cases P w₁ (sizing c w₁ refl (λ h. clash (h refl) p)) (λ i last n _. creating c w₁ i last n refl refl (none-usable i) (λ h. clash (h refl) p)))
+      (λ _. resized_cases P w₁ (sizing c w₁ refl (λ h. clash (h refl) p)) (λ i last n _. creating c w₁ i last n refl refl (none-usable i) (λ h. clash (h refl) p)))
       (λ _. creating c w₁ 0 0 (region w) refl refl (none-usable 0) (λ h. clash (h refl) p))))
   each_way (SetRequestedSize mib) =
       let c = SetRequestedSize mib in
       let P = K c in
-      on-ready P w [] _ (λ n _ _. refusal c n [] (λ _. refl)) (length w.blocks) (length w.rows)
-      (λ _ e. size-cases P w mib (refusal _ 1 [] (λ _. refl))
+      on_ready P w [] _ (λ n _ _. refusal c n [] (λ _. refl)) (length w.blocks) (length w.rows)
+      (λ _ e. size_cases P w mib (refusal _ 1 [] (λ _. refl))
       (λ _ _.
       let w₁ = device_of (requested_to (mib * 1048576) w.device) w in
-      resized-cases P w₁ (sizing c w₁ refl (λ _. refl))
-      (λ i last n x. creating c w₁ i last n refl refl (λ m. asks-outside w₁ i last n m.below (facts-of w.device (shaped-when w.device e.is-shaped)).rows-some x) (λ _. refl))))
+      resized_cases P w₁ (sizing c w₁ refl (λ _. refl))
+      (λ i last n x. creating c w₁ i last n refl refl (λ m. asks_outside w₁ i last n m.below (facts-of w.device (shaped-when w.device e.is_shaped)).rows_some x) (λ _. refl))))
   each_way (Request g descriptors head) =
-      on-ready (K (Request g descriptors head)) w g.mem _ (λ n _ _. refusal (Request g descriptors head) n g.mem (λ _. refl)) (length w.blocks) (length w.rows)
+      on_ready (K (Request g descriptors head)) w g.mem _ (λ n _ _. refusal (Request g descriptors head) n g.mem (λ _. refl)) (length w.blocks) (length w.rows)
       (λ p e. by_chain g descriptors head (parsed g.mem g.base descriptors head) refl p e)
   each_way (HostAnswer g ok host) =
-      on-pending (K (HostAnswer g ok host)) w g.mem _ (λ n _ _. refusal (HostAnswer g ok host) n g.mem (λ _. refl)) (length w.blocks) (length w.rows)
-      (λ e. by-pending g ok host w.device.pending refl e)
+      on_pending (K (HostAnswer g ok host)) w g.mem _ (λ n _ _. refusal (HostAnswer g ok host) n g.mem (λ _. refl)) (length w.blocks) (length w.rows)
+      (λ e. by_pending g ok host w.device.pending refl e)
   each_way (ReadConfig offset buffer) =
-      read-cases (K (ReadConfig offset buffer)) w offset buffer (λ _. refusal (ReadConfig offset buffer) 12 buffer (λ f. clash refl f))
+      read_cases (K (ReadConfig offset buffer)) w offset buffer (λ _. refusal (ReadConfig offset buffer) 12 buffer (λ f. clash refl f))
       (idle (ReadConfig offset buffer) _ refl refl (λ f. clash refl f) (λ call f. let z : ◌≡◌ {A = ℕ} 0 1 = cc in omega arith))
   each_way (WriteConfig offset buffer) =
-      write-cases (K (WriteConfig offset buffer)) w buffer (λ _. refusal (WriteConfig offset buffer) 12 buffer (λ f. clash refl f))
+      write_cases (K (WriteConfig offset buffer)) w buffer (λ _. refusal (WriteConfig offset buffer) 12 buffer (λ f. clash refl f))
       (idle (WriteConfig offset buffer) _ refl refl (λ f. clash refl f) (λ call f. let z : ◌≡◌ {A = ℕ} 0 1 = cc in omega arith))

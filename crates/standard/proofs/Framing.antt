@@ -18,14 +18,14 @@ chain_of descriptors head = parsed (descriptors ++ replicate 80 0) 0 0 head
 
 pub record Framing : Type 0 where
   -- a request in buffers of 8 and 16 bytes
-  pub request-cut : chain_of (virtq_desc 64 8 1 1 ++ virtq_desc 72 16 1 2 ++ virtq_desc 88 10 2 0) 0 ≡ length_not24
+  pub request_cut : chain_of (virtq_desc 64 8 1 1 ++ virtq_desc 72 16 1 2 ++ virtq_desc 88 10 2 0) 0 ≡ length_not24
   -- a response in buffers of 4 and 6 bytes
-  pub response-cut : chain_of (virtq_desc 64 24 1 1 ++ virtq_desc 88 4 3 2 ++ virtq_desc 92 6 2 0) 0 ≡ second_under10
+  pub response_cut : chain_of (virtq_desc 64 24 1 1 ++ virtq_desc 88 4 3 2 ++ virtq_desc 92 6 2 0) 0 ≡ second_under10
   -- a queue of two: index 2, which is behind it, is read
-  pub queue-of-2 : chain_of (virtq_desc 64 24 1 2 ++ replicate 16 0 ++ virtq_desc 88 10 2 0) 0 ≡ Got (record { req_type = 0; addr = record { 0 = 0 }; nb_blocks = 0 }) (record { 0 = 88 })
+  pub queue_of_2 : chain_of (virtq_desc 64 24 1 2 ++ replicate 16 0 ++ virtq_desc 88 10 2 0) 0 ≡ Got (record { req_type = 0; addr = record { 0 = 0 }; nb_blocks = 0 }) (record { 0 = 88 })
   -- a queue of 256: index 128 is not
-  pub queue-of-256 : chain_of (replicate 2048 0 ++ virtq_desc 64 24 1 1 ++ virtq_desc 88 10 2 0) 128 ≡ missing
+  pub queue_of_256 : chain_of (replicate 2048 0 ++ virtq_desc 64 24 1 1 ++ virtq_desc 88 10 2 0) 128 ≡ missing
 
 pub framing : Framing
 unfolding chain_of parsed with_first with_second link_at link_after descriptor_at descriptor_addr inside part value little_endian virtq_desc request_at
-framing = record { request-cut = refl; response-cut = refl; queue-of-2 = refl; queue-of-256 = refl }
+framing = record { request_cut = refl; response_cut = refl; queue_of_2 = refl; queue_of_256 = refl }

@@ -7,9 +7,9 @@ use native.Mathlib.Omega.{arith}
 use lib.Dec.{ltb}
 use borrow.Author.Tests.{ltb-true, ltb-false, le-ltb}
 use Rattle.units.specs.Numbers.{top, map_region, map_regions}
-use Rattle.units.proofs.Tests.{by-test}
+use Rattle.units.proofs.Tests.{by_test}
 use Rattle.rows.specs.Rows.{row_at}
-use Rattle.rows.proofs.Laws.{mapping-at}
+use Rattle.rows.proofs.Laws.{mapping_at}
 use Rattle.record.proofs.Laws.{Shaped as Facts}
 use Rattle.resize.specs.declared.Growth.TheVariants.{Asks}
 use Rattle.resize.specs.Resize.{growth_of}
@@ -22,13 +22,13 @@ use Rattle.history.specs.Good.{InMemory}
 use Rattle.standard.specs.Requests.{OneMapping}
 
 -- a creation that is asked for begins at the end of the usable region or past it
-pub asks-outside : (w : World) (i last size : ℕ) → MappedBelow w → 0 < region_rows w → growth_of (region w) (several w) (usable w) (new_usable w) w.rows ≡ Asks i last size → usable w ≤ i * map_region
-asks-outside w i last size below rows grows =
+pub asks_outside : (w : World) (i last size : ℕ) → MappedBelow w → 0 < region_rows w → growth_of (region w) (several w) (usable w) (new_usable w) w.rows ≡ Asks i last size → usable w ≤ i * map_region
+asks_outside w i last size below rows grows =
     let a = asking (region w) (several w) (usable w) (new_usable w) w.rows i last size grows in
     let some : 0 < map_regions (region w) true = rw a.regions at rows in
     let ends = a.ends in
     let to = a.search.to in
-    by-test (ltb (i * map_region) (usable w)) (λ t. absurd (below i (ltb-true _ _ t) (rw a.regions (omega arith)) a.search.unmapped)) (λ t. ltb-false _ _ t)
+    by_test (ltb (i * map_region) (usable w)) (λ t. absurd (below i (ltb-true _ _ t) (rw a.regions (omega arith)) a.search.unmapped)) (λ t. ltb-false _ _ t)
 
 -- ---- one mapping has such a range
 pub usable_mapped : (w : World) → InMemory w → Facts w.device → (offset size : ℕ) → 0 < size → offset + size ≤ usable w → (several w ≡ true → offset % map_region + size ≤ map_region) → OneMapping w offset size
@@ -38,7 +38,7 @@ usable_mapped w m s offset size some inside one-region = go (several w) refl
     go : (v : Bool) → several w ≡ v → OneMapping w offset size
     go true e =
         let row = offset / map_region in
-        let there : row < map_regions (region w) (several w) = rw e (omega (arith, s.usable-in)) in
+        let there : row < map_regions (region w) (several w) = rw e (omega (arith, s.usable_in)) in
         let mapped = m.below row (omega arith) there in
         let room = m.fits row there mapped in
         let in_one = one-region e in
@@ -46,7 +46,7 @@ usable_mapped w m s offset size some inside one-region = go (several w) refl
         let room' : host + map_region ≤ top = rw e at room in
         record {
           host = record { 0 = host + offset % map_region };
-          maps = rw (e, le-ltb map_region (offset % map_region + size) in_one, mapping-at w.rows row mapped, le-ltb top (host + offset % map_region + size) (omega arith));
+          maps = rw (e, le-ltb map_region (offset % map_region + size) in_one, mapping_at w.rows row mapped, le-ltb top (host + offset % map_region + size) (omega arith));
         }
     go false e =
         let there : 0 < map_regions (region w) (several w) = rw e (omega arith) in
@@ -54,4 +54,4 @@ usable_mapped w m s offset size some inside one-region = go (several w) refl
         let room = m.fits 0 there mapped in
         let host = (row_at w.rows 0).host.0 in
         let room' : host + region w ≤ top = rw e at room in
-        record { host = record { 0 = host + offset }; maps = rw (e, mapping-at w.rows 0 mapped, le-ltb top (host + offset + size) (omega (arith, s.usable-in))) }
+        record { host = record { 0 = host + offset }; maps = rw (e, mapping_at w.rows 0 mapped, le-ltb top (host + offset + size) (omega (arith, s.usable_in))) }

@@ -10,13 +10,13 @@ use lib.Dec.{ltb, eqb}
 use lib.ListN.{length}
 use borrow.Author.Tests.{eqb-true, eqb-false, le-leb, ltb-false, not-false}
 use Rattle.units.specs.declared.GuestAddr.{GuestAddr}
-use Rattle.units.proofs.Tests.{by-test}
+use Rattle.units.proofs.Tests.{by_test}
 use Rattle.wire.specs.declared.VirtioMemReq.{VirtioMemReq}
 use Rattle.wire.specs.declared.VirtioMemResp.{VirtioMemResp}
 use Rattle.step.specs.declared.Verdict.{Verdict}
 use Rattle.wire.proofs.Standard.{response as response-bytes}
 use Rattle.descriptors.specs.Descriptors.{inside, link_at, link_after}
-use Rattle.descriptors.proofs.Laws.{inside-facts}
+use Rattle.descriptors.proofs.Laws.{inside_facts}
 use Rattle.descriptors.specs.declared.Descriptor.{Descriptor}
 use Rattle.descriptors.specs.declared.Link.{Link}
 use Rattle.descriptors.specs.declared.Link.TheVariants.{Is, Missing}
@@ -24,7 +24,7 @@ use Rattle.descriptors.specs.Standard.{is_write_only, is_indirect}
 use Rattle.chain.specs.declared.Parsed.{Parsed}
 use Rattle.chain.specs.declared.Parsed.TheVariants.{Request as Got, Bad}
 use Rattle.chain.specs.Chain.{with_second, with_first, parsed, reaches, delivered}
-use Rattle.chain.proofs.Laws.{length-delivered, delivered-reads, undelivered, delivered-before, delivered-behind}
+use Rattle.chain.proofs.Laws.{length-delivered, delivered_reads, undelivered, delivered_before, delivered_behind}
 use Rattle.record.specs.declared.Pending.TheVariants.{Discard}
 use Rattle.step.specs.declared.Answer.{Answer}
 use Rattle.step.specs.declared.Answer.TheVariants.{Served}
@@ -35,22 +35,22 @@ use Rattle.step.specs.Step.{step, host_answer}
 use Rattle.history.specs.History.{present}
 use Rattle.history.specs.Rules.{FromEveryWorld}
 use Rattle.history.proofs.Shaped.{clash}
-use Rattle.history.proofs.Cases.{on-ready, on-unplaced, read-cases, write-cases}
+use Rattle.history.proofs.Cases.{on_ready, on_unplaced, read_cases, write_cases}
 use Rattle.standard.specs.Requests.{Responds, type_field, response_of, among, is_host_answer, WaitingStays, lent_by, status_of_chain, status_of_pending, status_for, ResponseWritten, Delivered, ResponseIsDelivered, WritableAt, StatusIsWritable, StatusIsKept, SilenceWritesNothing, OneAnswered, NackOnlyPastRequested, PlugPastRequested, NeverBusy, VIRTIO_MEM_REQ_PLUG, VIRTIO_MEM_REQ_UNPLUG, VIRTIO_MEM_REQ_UNPLUG_ALL, VIRTIO_MEM_REQ_STATE, VIRTIO_MEM_RESP_NACK, VIRTIO_MEM_RESP_BUSY}
-use Rattle.standard.proofs.Requests.{plug-standard, unplug-standard, unplug-all-standard, state-standard, unknown-unserved}
-use Rattle.standard.proofs.EveryCall.{speaks, is_config_call, Says, Responded, Silent, leaf-unplug, Ways, each_way}
+use Rattle.standard.proofs.Requests.{plug_standard, unplug_standard, unplug_all_standard, state_standard, unknown_unserved}
+use Rattle.standard.proofs.EveryCall.{speaks, is_config_call, Says, Responded, Silent, leaf_unplug, Ways, each_way}
 
 -- ---- M8: the response in the guest's bytes
 laid : (g : Guest) (status : ℕ) (resp : VirtioMemResp) → reaches g.mem g.base status ≡ true → ResponseWritten g status resp (delivered g.mem g.base status resp)
 unfolding reaches
 laid g status resp t =
-    let i = inside-facts (length g.mem) g.base status 10 t in
+    let i = inside_facts (length g.mem) g.base status 10 t in
     record {
-      from-base = i.from-base;
+      from_base = i.from_base;
       to_end = i.to_end;
-      laid_out = delivered-reads g.mem g.base status resp t ∙ response-bytes resp;
-      same-before = λ at n h. delivered-before g.mem g.base status resp at n (omega arith);
-      same-behind = λ at n h. delivered-behind g.mem g.base status resp at n (omega arith);
+      laid_out = delivered_reads g.mem g.base status resp t ∙ response-bytes resp;
+      same_before = λ at n h. delivered_before g.mem g.base status resp at n (omega arith);
+      same_behind = λ at n h. delivered_behind g.mem g.base status resp at n (omega arith);
       same_length = length-delivered g.mem g.base status resp;
     }
 
@@ -62,9 +62,9 @@ delivery : (g : Guest) (status : ℕ) (v : Verdict) → Delivered g status (reco
 unfolding among
 delivery g status v =
     let resp = v.response in
-    by-test (reaches g.mem g.base status)
-    (λ t. record { whole = λ _. laid g status resp t; nothing = λ e. let z = rw t at e in absurd (omega arith); no_other = rw t; with-room = λ _ _ _. rw t })
-    (λ t. record { whole = λ e. let z = rw t at e in absurd (omega arith); nothing = λ _. undelivered g.mem g.base status resp t; no_other = rw t; with-room = λ p q r. clash (room g status p q r) t })
+    by_test (reaches g.mem g.base status)
+    (λ t. record { whole = λ _. laid g status resp t; nothing = λ e. let z = rw t at e in absurd (omega arith); no_other = rw t; with_room = λ _ _ _. rw t })
+    (λ t. record { whole = λ e. let z = rw t at e in absurd (omega arith); nothing = λ _. undelivered g.mem g.base status resp t; no_other = rw t; with_room = λ p q r. clash (room g status p q r) t })
 
 delivers : (g : Guest) (status : ℕ) (o : Outcome) → Says g status o → (reply : Reply) → o.answer ≡ Served reply → Delivered g status reply o.bytes
 unfolding response
@@ -81,32 +81,32 @@ mute a e = go (response a) _ e
     go none more q = refl
     go (some resp) more q = clash refl q
 
-response-by : (w : World) → Ways w (ResponseIsDelivered w)
+response_by : (w : World) → Ways w (ResponseIsDelivered w)
 unfolding lent_by status_for status_of_chain status_of_pending response
-response-by w =
+response_by w =
     record {
       quiet = λ c o q reply e. let y : none ≡ some reply.response.resp_type = sym (mute o.answer q.silent) ∙ ap response_of e in let z : ◌≡◌ {A = ℕ} 0 1 = cc in absurd (omega arith);
       hears = λ g descriptors head req status h l reply e. record { status = status.0; goes_to = rw h.reads; delivered = delivers g status.0 _ l.says reply e };
-      unplug-ends = λ first count status a g ok host reply e.
-          record { status = status.0; goes_to = rw a.waits; delivered = delivers g status.0 _ (leaf-unplug w g first count status ok host).says reply e };
-      one-ends = λ j status a g ok host o _ l reply e. record { status = status.0; goes_to = rw a.waits; delivered = delivers g status.0 o l.says reply e };
+      unplug_ends = λ first count status a g ok host reply e.
+          record { status = status.0; goes_to = rw a.waits; delivered = delivers g status.0 _ (leaf_unplug w g first count status ok host).says reply e };
+      one_ends = λ j status a g ok host o _ l reply e. record { status = status.0; goes_to = rw a.waits; delivered = delivers g status.0 o l.says reply e };
     }
 
-pub response-is-delivered : FromEveryWorld ResponseIsDelivered
-response-is-delivered w c = each_way w (ResponseIsDelivered w) (response-by w) c
+pub response_is_delivered : FromEveryWorld ResponseIsDelivered
+response_is_delivered w c = each_way w (ResponseIsDelivered w) (response_by w) c
 
-status-by : (w : World) → Ways w (StatusIsKept w)
+status_by : (w : World) → Ways w (StatusIsKept w)
 unfolding status_for status_of_chain status_of_pending
-status-by w =
+status_by w =
     record {
-      quiet = λ c o q. q.keeps-status;
-      hears = λ g descriptors head req status h l call e. rw h.reads (l.keeps-status call e);
-      unplug-ends = λ first count status a g ok host call e. (leaf-unplug w g first count status ok host).keeps-status call e ∙ sym (ap status_of_pending a.waits);
-      one-ends = λ j status a g ok host o _ l call e. l.keeps-status call e ∙ sym (ap status_of_pending a.waits);
+      quiet = λ c o q. q.keeps_status;
+      hears = λ g descriptors head req status h l call e. rw h.reads (l.keeps_status call e);
+      unplug_ends = λ first count status a g ok host call e. (leaf_unplug w g first count status ok host).keeps_status call e ∙ sym (ap status_of_pending a.waits);
+      one_ends = λ j status a g ok host o _ l call e. l.keeps_status call e ∙ sym (ap status_of_pending a.waits);
     }
 
-pub status-is-kept : FromEveryWorld StatusIsKept
-status-is-kept w c = each_way w (StatusIsKept w) (status-by w) c
+pub status_is_kept : FromEveryWorld StatusIsKept
+status_is_kept w c = each_way w (StatusIsKept w) (status_by w) c
 
 -- ---- Q4: where a response goes the driver lets the device write
 -- a test that must have failed, or nothing is found
@@ -115,30 +115,30 @@ past true reason p req status e = let z : ◌≡◌ {A = ℕ} 0 1 = cc in absurd
 past false reason p req status e = (refl, e)
 
 module _ (g : Guest) (descriptors head : ℕ) (req : VirtioMemReq) (status : GuestAddr) where
-  second-writable : (first : Descriptor) (found : VirtioMemReq) (l : Link) → link_at g.mem g.base descriptors head ≡ Is first → link_after g.mem g.base descriptors first ≡ l
+  second_writable : (first : Descriptor) (found : VirtioMemReq) (l : Link) → link_at g.mem g.base descriptors head ≡ Is first → link_after g.mem g.base descriptors first ≡ l
       → with_second found l ≡ Got req status → WritableAt g descriptors head status
   unfolding with_second
-  second-writable first found Missing h f e = let z : ◌≡◌ {A = ℕ} 0 1 = cc in absurd (omega arith)
-  second-writable first found (Is second) h f e =
+  second_writable first found Missing h f e = let z : ◌≡◌ {A = ℕ} 0 1 = cc in absurd (omega arith)
+  second_writable first found (Is second) h f e =
       let direct = past (is_indirect second) _ _ req status e in
       let writable = past (not (is_write_only second)) _ _ req status direct.1 in
       let long = past (ltb second.len 10) _ _ req status writable.1 in
       let got = long.1 in
-      record { first = first; second = second; heads = h; follows = f; is-writable = not-false (is_write_only second) writable.0; is-long = ltb-false second.len 10 long.0; is-there = cc }
+      record { first = first; second = second; heads = h; follows = f; is_writable = not-false (is_write_only second) writable.0; is_long = ltb-false second.len 10 long.0; is_there = cc }
 
-  first-writable : (l : Link) → link_at g.mem g.base descriptors head ≡ l → with_first g.mem g.base descriptors l ≡ Got req status → WritableAt g descriptors head status
+  first_writable : (l : Link) → link_at g.mem g.base descriptors head ≡ l → with_first g.mem g.base descriptors l ≡ Got req status → WritableAt g descriptors head status
   unfolding with_first
-  first-writable Missing h e = let z : ◌≡◌ {A = ℕ} 0 1 = cc in absurd (omega arith)
-  first-writable (Is first) h e =
+  first_writable Missing h e = let z : ◌≡◌ {A = ℕ} 0 1 = cc in absurd (omega arith)
+  first_writable (Is first) h e =
       let direct = past (is_indirect first) _ _ req status e in
       let readable = past (is_write_only first) _ _ req status direct.1 in
       let whole = past (not (eqb first.len 24)) _ _ req status readable.1 in
       let there = past (not (inside (length g.mem) g.base first.addr.0 24)) _ _ req status whole.1 in
-      second-writable first _ (link_after g.mem g.base descriptors first) h refl there.1
+      second_writable first _ (link_after g.mem g.base descriptors first) h refl there.1
 
-pub status-is-writable : StatusIsWritable
+pub status_is_writable : StatusIsWritable
 unfolding parsed
-status-is-writable g descriptors head req status e = first-writable g descriptors head req status (link_at g.mem g.base descriptors head) refl e
+status_is_writable g descriptors head req status e = first_writable g descriptors head req status (link_at g.mem g.base descriptors head) refl e
 
 -- ---- no response, and no byte of guest memory has changed
 abbrev NoByte : Call → Outcome → Type 0
@@ -155,22 +155,22 @@ no_byte w =
     record {
       quiet = λ c o q guest _. q.same_bytes guest;
       hears = λ g descriptors head req status h l _ n. says_nothing g status.0 _ l.says n;
-      unplug-ends = λ first count status a g ok host _ n. says_nothing g status.0 _ (leaf-unplug w g first count status ok host).says n;
-      one-ends = λ j status a g ok host o _ l _ n. says_nothing g status.0 o l.says n;
+      unplug_ends = λ first count status a g ok host _ n. says_nothing g status.0 _ (leaf_unplug w g first count status ok host).says n;
+      one_ends = λ j status a g ok host o _ l _ n. says_nothing g status.0 o l.says n;
     }
 
-pub silence-writes-nothing : SilenceWritesNothing
+pub silence_writes_nothing : SilenceWritesNothing
 unfolding lent_by is_config_call
-silence-writes-nothing w g =
+silence_writes_nothing w g =
     (λ descriptors head n. each_way w NoByte (no_byte w) (Request g descriptors head) refl n, λ ok host n. each_way w NoByte (no_byte w) (HostAnswer g ok host) refl n)
 
 -- ---- M12, M17: of which type a response is
-pub by-type : {A : Type 0} (n : ℕ) → (n ≡ VIRTIO_MEM_REQ_PLUG → A) → (n ≡ VIRTIO_MEM_REQ_UNPLUG → A) → (n ≡ VIRTIO_MEM_REQ_UNPLUG_ALL → A) → (n ≡ VIRTIO_MEM_REQ_STATE → A) → (3 < n → A) → A
-by-type n plug unplug all state other =
-    by-test (eqb n 0) (λ t. plug (eqb-true n 0 t))
-    (λ t₀. by-test (eqb n 1) (λ t. unplug (eqb-true n 1 t))
-    (λ t₁. by-test (eqb n 2) (λ t. all (eqb-true n 2 t))
-    (λ t₂. by-test (eqb n 3) (λ t. state (eqb-true n 3 t))
+pub by_type : {A : Type 0} (n : ℕ) → (n ≡ VIRTIO_MEM_REQ_PLUG → A) → (n ≡ VIRTIO_MEM_REQ_UNPLUG → A) → (n ≡ VIRTIO_MEM_REQ_UNPLUG_ALL → A) → (n ≡ VIRTIO_MEM_REQ_STATE → A) → (3 < n → A) → A
+by_type n plug unplug all state other =
+    by_test (eqb n 0) (λ t. plug (eqb-true n 0 t))
+    (λ t₀. by_test (eqb n 1) (λ t. unplug (eqb-true n 1 t))
+    (λ t₁. by_test (eqb n 2) (λ t. all (eqb-true n 2 t))
+    (λ t₂. by_test (eqb n 3) (λ t. state (eqb-true n 3 t))
     (λ t₃. other (more (eqb-false n 0 t₀) (eqb-false n 1 t₁) (eqb-false n 2 t₂) (eqb-false n 3 t₃))))))
   where
     more : (n ≡ 0 → ⊥) → (n ≡ 1 → ⊥) → (n ≡ 2 → ⊥) → (n ≡ 3 → ⊥) → 3 < n
@@ -184,19 +184,19 @@ data Given (w : World) (c : Call) (type : ℕ) : Type 0 where
 abbrev IsGiven : World → Call → Outcome → Type 0
 IsGiven w c o = (type : ℕ) → Responds o type → Given w c type
 
-among-more : (m : ℕ) (ms : List ℕ) (n : ℕ) → among ms n ≡ true → among (m ∷ ms) n ≡ true
+among_more : (m : ℕ) (ms : List ℕ) (n : ℕ) → among ms n ≡ true → among (m ∷ ms) n ≡ true
 unfolding among
-among-more m ms n e = by-test (eqb m n) (λ t. rw t) (λ t. rw t e)
+among_more m ms n e = by_test (eqb m n) (λ t. rw t) (λ t. rw t e)
 
-by-ok : (w : World) (first count : ℕ) (status : GuestAddr) (g : Guest) (ok : Bool) (host : ℕ) (type : ℕ) → Responds (host_answer (Discard first count status) w g ok host) type → among (0 ∷ 3 ∷ []) type ≡ true
+by_ok : (w : World) (first count : ℕ) (status : GuestAddr) (g : Guest) (ok : Bool) (host : ℕ) (type : ℕ) → Responds (host_answer (Discard first count status) w g ok host) type → among (0 ∷ 3 ∷ []) type ≡ true
 unfolding host_answer response among
-by-ok w first count status g true host type r = let e : 0 ≡ type = cc in rw (← e)
-by-ok w first count status g false host type r = let e : 3 ≡ type = cc in rw (← e)
+by_ok w first count status g true host type r = let e : 0 ≡ type = cc in rw (← e)
+by_ok w first count status g false host type r = let e : 3 ≡ type = cc in rw (← e)
 
-one-by-ok : (w : World) (j : ℕ) (ok : Bool) (o : Outcome) → OneAnswered w j ok o → (type : ℕ) → Responds o type → among (0 ∷ 3 ∷ []) type ≡ true
+one_by_ok : (w : World) (j : ℕ) (ok : Bool) (o : Outcome) → OneAnswered w j ok o → (type : ℕ) → Responds o type → among (0 ∷ 3 ∷ []) type ≡ true
 unfolding among
-one-by-ok w j true o a type r = (a.ok-goes-on refl).responses type r
-one-by-ok w j false o a type r = let rejected = a.no-rejected refl in let e : 3 ≡ type = cc in rw (← e)
+one_by_ok w j true o a type r = (a.ok_goes_on refl).responses type r
+one_by_ok w j false o a type r = let rejected = a.no_rejected refl in let e : 3 ≡ type = cc in rw (← e)
 
 given_by : (w : World) → Ways w (IsGiven w)
 unfolding among response
@@ -204,35 +204,35 @@ given_by w =
     record {
       quiet = λ c o q type r. let y : none ≡ some type = sym (mute o.answer q.silent) ∙ r in let z : ◌≡◌ {A = ℕ} 0 1 = cc in absurd (omega arith);
       hears = λ g descriptors head req status h l type r.
-          by-type req.req_type
+          by_type req.req_type
           (λ t.
-          let p = plug-standard w g descriptors head req status h t in
-          by-test (eqb 1 type)
+          let p = plug_standard w g descriptors head req status h t in
+          by_test (eqb 1 type)
           (λ u.
           let e : 1 ≡ type = eqb-true 1 type u in
-          Nack (sym e) (record { brings = record { guest = g; descriptors = descriptors; head = head; req = req; status = status; is-request = refl; hears = h; is-type = t }; over = omega (arith, p.only-over (rw e r)) }))
+          Nack (sym e) (record { brings = record { guest = g; descriptors = descriptors; head = head; req = req; status = status; is_request = refl; hears = h; is_type = t }; over = omega (arith, p.only_over (rw e r)) }))
           (λ u. AckOrError (rw u at (p.responses type r))))
-          (λ t. AckOrError (among-more 0 (3 ∷ []) type ((unplug-standard w g descriptors head req status h t).responses type r)))
-          (λ t. AckOrError ((unplug-all-standard w g descriptors head req status h t).responses type r))
-          (λ t. AckOrError ((state-standard w g descriptors head req status h t).responses type r))
+          (λ t. AckOrError (among_more 0 (3 ∷ []) type ((unplug_standard w g descriptors head req status h t).responses type r)))
+          (λ t. AckOrError ((unplug_all_standard w g descriptors head req status h t).responses type r))
+          (λ t. AckOrError ((state_standard w g descriptors head req status h t).responses type r))
           (λ t.
-          let y : none ≡ some type = sym (ap response_of (unknown-unserved w g descriptors head req status h t).no-response) ∙ r in
+          let y : none ≡ some type = sym (ap response_of (unknown_unserved w g descriptors head req status h t).no_response) ∙ r in
           let z : ◌≡◌ {A = ℕ} 0 1 = cc in absurd (omega arith));
-      unplug-ends = λ first count status a g ok host type r. AckOrError (by-ok w first count status g ok host type r);
-      one-ends = λ j status a g ok host o answered l type r. AckOrError (one-by-ok w j ok o answered type r);
+      unplug_ends = λ first count status a g ok host type r. AckOrError (by_ok w first count status g ok host type r);
+      one_ends = λ j status a g ok host o answered l type r. AckOrError (one_by_ok w j ok o answered type r);
     }
 
-pub nack-only-past-requested : FromEveryWorld NackOnlyPastRequested
+pub nack_only_past_requested : FromEveryWorld NackOnlyPastRequested
 unfolding among
-nack-only-past-requested w c r = go (each_way w (IsGiven w) (given_by w) c _ r)
+nack_only_past_requested w c r = go (each_way w (IsGiven w) (given_by w) c _ r)
   where
     go : Given w c VIRTIO_MEM_RESP_NACK → PlugPastRequested w c
     go (AckOrError e) = clash e refl
     go (Nack e p) = p
 
-pub never-busy : FromEveryWorld NeverBusy
+pub never_busy : FromEveryWorld NeverBusy
 unfolding among
-never-busy w c r = go (each_way w (IsGiven w) (given_by w) c _ r)
+never_busy w c r = go (each_way w (IsGiven w) (given_by w) c _ r)
   where
     go : Given w c VIRTIO_MEM_RESP_BUSY → ⊥
     go (AckOrError e) = clash e refl
@@ -242,11 +242,11 @@ never-busy w c r = go (each_way w (IsGiven w) (given_by w) c _ r)
 pub waiting_stays : FromEveryWorld WaitingStays
 unfolding step is_host_answer
 waiting_stays w (Place at size slots bs rows) busy no_answer =
-    on-unplaced (λ o. o.world ≡ w) w [] _ (λ n _ _. refl) (length bs) (length rows) (λ p e. clash e.is-idle busy)
+    on_unplaced (λ o. o.world ≡ w) w [] _ (λ n _ _. refl) (length bs) (length rows) (λ p e. clash e.pending_is_idle busy)
 waiting_stays w (SetRequestedSize mib) busy no_answer =
-    on-ready (λ o. o.world ≡ w) w [] _ (λ n _ _. refl) (length w.blocks) (length w.rows) (λ p e. clash e.is-idle busy)
+    on_ready (λ o. o.world ≡ w) w [] _ (λ n _ _. refl) (length w.blocks) (length w.rows) (λ p e. clash e.pending_is_idle busy)
 waiting_stays w (Request g descriptors head) busy no_answer =
-    on-ready (λ o. o.world ≡ w) w g.mem _ (λ n _ _. refl) (length w.blocks) (length w.rows) (λ p e. clash e.is-idle busy)
+    on_ready (λ o. o.world ≡ w) w g.mem _ (λ n _ _. refl) (length w.blocks) (length w.rows) (λ p e. clash e.pending_is_idle busy)
 waiting_stays w (HostAnswer g ok host) busy no_answer = clash refl no_answer
-waiting_stays w (ReadConfig offset buffer) busy no_answer = read-cases (λ o. o.world ≡ w) w offset buffer (λ _. refl) refl
-waiting_stays w (WriteConfig offset buffer) busy no_answer = write-cases (λ o. o.world ≡ w) w buffer (λ _. refl) refl
+waiting_stays w (ReadConfig offset buffer) busy no_answer = read_cases (λ o. o.world ≡ w) w offset buffer (λ _. refl) refl
+waiting_stays w (WriteConfig offset buffer) busy no_answer = write_cases (λ o. o.world ≡ w) w buffer (λ _. refl) refl

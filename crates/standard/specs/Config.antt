@@ -34,8 +34,8 @@ offers d bit = eqb (d.avail_features / 2 ^ bit % 2) 1
 
 -- the node's bit is offered exactly if a node was given, and without one node_id is 0; memory that is unplugged may be read
 pub record Features (node : Node) (d : Device) : Type 0 where
-  pub with-node : offers d VIRTIO_MEM_F_ACPI_PXM ≡ is_given node
-  pub node-is : d.config.node_id ≡ node_number node
+  pub with_node : offers d VIRTIO_MEM_F_ACPI_PXM ≡ is_given node
+  pub node_is : d.config.node_id ≡ node_number node
   pub accessible : offers d VIRTIO_MEM_F_UNPLUGGED_INACCESSIBLE ≡ false
 
 -- from making on, in every run: what is offered stays offered
@@ -55,11 +55,11 @@ ReadsLayout = (w : World) (offset : ℕ) (buffer : List ℕ) → shaped_of w.dev
 
 -- ---- M4: block_size, node_id, addr and region_size never change, and (M2) no feature does; addr is given when the device is placed, before any driver sees it
 pub record Constant (w w' : World) : Type 0 where
-  pub same-block-size : (config_in w').block_size ≡ (config_in w).block_size
-  pub same-node : (config_in w').node_id ≡ (config_in w).node_id
-  pub same-region : (config_in w').region_size ≡ (config_in w).region_size
-  pub same-addr : w.device.placed ≡ true → (config_in w').addr ≡ (config_in w).addr
-  pub same-features : w'.device.avail_features ≡ w.device.avail_features
+  pub same_block_size : (config_in w').block_size ≡ (config_in w).block_size
+  pub same_node : (config_in w').node_id ≡ (config_in w).node_id
+  pub same_region : (config_in w').region_size ≡ (config_in w).region_size
+  pub same_addr : w.device.placed ≡ true → (config_in w').addr ≡ (config_in w).addr
+  pub same_features : w'.device.avail_features ≡ w.device.avail_features
 
 abbrev pub ConstantFields : World → Call → Outcome → Type 0
 ConstantFields w c o = Constant w o.world
@@ -69,15 +69,15 @@ ConstantInRestore = (w : World) (size : ℕ) (plugs : List Event) → Constant w
 
 -- M4: block_size is a power of two, and the start and every other size are multiples of it; M5: no size is above region_size
 pub record Layout (w : World) : Type 0 where
-  pub power-of-two : block_size w ≡ 2 ^ 22
-  pub addr-whole : start w % block_size w ≡ 0
-  pub region-whole : region w % block_size w ≡ 0
-  pub usable-whole : usable w % block_size w ≡ 0
-  pub plugged-whole : plugged w % block_size w ≡ 0
-  pub requested-whole : requested w % block_size w ≡ 0
-  pub usable-within : usable w ≤ region w
-  pub plugged-within : plugged w ≤ region w
-  pub requested-within : requested w ≤ region w
+  pub power_of_two : block_size w ≡ 2 ^ 22
+  pub addr_whole : start w % block_size w ≡ 0
+  pub region_whole : region w % block_size w ≡ 0
+  pub usable_whole : usable w % block_size w ≡ 0
+  pub plugged_whole : plugged w % block_size w ≡ 0
+  pub requested_whole : requested w % block_size w ≡ 0
+  pub usable_within : usable w ≤ region w
+  pub plugged_within : plugged w ≤ region w
+  pub requested_within : requested w ≤ region w
 
 abbrev pub FieldsLaidOut : Story → Call → Type 0
 FieldsLaidOut s c = Layout s.world

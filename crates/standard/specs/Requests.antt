@@ -128,7 +128,7 @@ SameBlock w w' i = block_at w'.blocks i ≡ block_at w.blocks i
 -- no block and no config field has changed
 pub record Unchanged (w w' : World) : Type 0 where
   pub same_blocks : w'.blocks ≡ w.blocks
-  pub same-config : config_in w' ≡ config_in w
+  pub same_config : config_in w' ≡ config_in w
 
 -- the bytes that a request is about, from its addr on
 abbrev pub size_of : World → VirtioMemReq → ℕ
@@ -142,9 +142,9 @@ pub record Covers (w : World) (req : VirtioMemReq) (i : ℕ) : Type 0 where
 -- M11: addr is aligned to the block size, there is a block, and no block outside of the usable region is covered
 pub record Valid (w : World) (req : VirtioMemReq) : Type 0 where
   pub aligned : req.addr.0 % block_size w ≡ 0
-  pub some-blocks : 0 < req.nb_blocks
+  pub some_blocks : 0 < req.nb_blocks
   pub from_start : start w ≤ req.addr.0
-  pub to-usable : req.addr.0 + size_of w req ≤ start w + usable w
+  pub to_usable : req.addr.0 + size_of w req ≤ start w + usable w
 
 -- the host has memory for `size` bytes from this offset on, in one mapping: test (d), R10.6, of which the standard has nothing
 pub record OneMapping (w : World) (offset size : ℕ) : Type 0 where
@@ -158,8 +158,8 @@ offset_of w req = req.addr.0 - start w
 -- ---- a request that reaches a device which is ready for it
 pub record Hears (w : World) (g : Guest) (descriptors head : ℕ) (req : VirtioMemReq) (status : GuestAddr) : Type 0 where
   pub shaped : shaped_of w.device ≡ true
-  pub is-idle : is_idle w.device.pending ≡ true
-  pub is-placed : w.device.placed ≡ true
+  pub pending_is_idle : is_idle w.device.pending ≡ true
+  pub is_placed : w.device.placed ≡ true
   pub fits : tables_fit w.device (length w.blocks) (length w.rows) ≡ true
   pub reads : parsed g.mem g.base descriptors head ≡ Got req status
 
@@ -181,9 +181,9 @@ pub record Brings (w : World) (c : Call) (type : ℕ) : Type 0 where
   pub head : ℕ
   pub req : VirtioMemReq
   pub status : GuestAddr
-  pub is-request : c ≡ Request guest descriptors head
+  pub is_request : c ≡ Request guest descriptors head
   pub hears : Hears w guest descriptors head req status
-  pub is-type : req.req_type ≡ type
+  pub is_type : req.req_type ≡ type
 
 -- and the host's answer to a call that waits for it, p
 pub record Awaits (w : World) (p : Pending) : Type 0 where
@@ -234,11 +234,11 @@ status_for w (WriteConfig offset buffer) = none
 
 -- the ten bytes at the status address are the standard's layout of the response, its padding zero, and no other byte has changed
 pub record ResponseWritten (g : Guest) (status : ℕ) (resp : VirtioMemResp) (bytes : List ℕ) : Type 0 where
-  pub from-base : g.base ≤ status
+  pub from_base : g.base ≤ status
   pub to_end : status + 10 ≤ g.base + length g.mem
   pub laid_out : part bytes (status - g.base) 10 ≡ virtio_mem_resp resp.resp_type 0 0 0 resp.state
-  pub same-before : (i n : ℕ) → i + n ≤ status - g.base → part bytes i n ≡ part g.mem i n
-  pub same-behind : (i n : ℕ) → status - g.base + 10 ≤ i → part bytes i n ≡ part g.mem i n
+  pub same_before : (i n : ℕ) → i + n ≤ status - g.base → part bytes i n ≡ part g.mem i n
+  pub same_behind : (i n : ℕ) → status - g.base + 10 ≤ i → part bytes i n ≡ part g.mem i n
   pub same_length : length bytes ≡ length g.mem
 
 -- a used length of 10 says that the response is written, and 0 that nothing is; it is 10 wherever there is room
@@ -246,7 +246,7 @@ pub record Delivered (g : Guest) (status : ℕ) (reply : Reply) (bytes : List �
   pub whole : reply.used ≡ 10 → ResponseWritten g status reply.response bytes
   pub nothing : reply.used ≡ 0 → bytes ≡ g.mem
   pub no_other : among (10 ∷ 0 ∷ []) reply.used ≡ true
-  pub with-room : g.base ≤ status → status + 10 ≤ g.base + length g.mem → status + 10 ≤ 2 ^ 64 → reply.used ≡ 10
+  pub with_room : g.base ≤ status → status + 10 ≤ g.base + length g.mem → status + 10 ≤ 2 ^ 64 → reply.used ≡ 10
 
 pub record ResponseTo (w : World) (c : Call) (reply : Reply) (bytes : List ℕ) : Type 0 where
   pub status : ℕ
@@ -262,9 +262,9 @@ pub record WritableAt (g : Guest) (descriptors head : ℕ) (status : GuestAddr) 
   pub second : Descriptor
   pub heads : link_at g.mem g.base descriptors head ≡ Is first
   pub follows : link_after g.mem g.base descriptors first ≡ Is second
-  pub is-writable : is_write_only second ≡ true
-  pub is-long : 10 ≤ second.len
-  pub is-there : second.addr ≡ status
+  pub is_writable : is_write_only second ≡ true
+  pub is_long : 10 ≤ second.len
+  pub is_there : second.addr ≡ status
 
 abbrev pub StatusIsWritable : Type 0
 StatusIsWritable = (g : Guest) (descriptors head : ℕ) (req : VirtioMemReq) (status : GuestAddr) → parsed g.mem g.base descriptors head ≡ Got req status → WritableAt g descriptors head status
@@ -285,8 +285,8 @@ pub record CarriedOut (w : World) (req : VirtioMemReq) (w' : World) : Type 0 whe
   pub unplugs : req.req_type ≡ VIRTIO_MEM_REQ_UNPLUG → ((i : ℕ) → Covers w req i → IsUnplugged w' i) × (plugged w' + size_of w req ≡ plugged w)
   pub tells : req.req_type ≡ VIRTIO_MEM_REQ_STATE → Unchanged w w'
   pub others : (i : ℕ) → (Covers w req i → ⊥) → SameBlock w w' i
-  pub same-usable : usable w' ≡ usable w
-  pub same-requested : requested w' ≡ requested w
+  pub same_usable : usable w' ≡ usable w
+  pub same_requested : requested w' ≡ requested w
 
 pub record WholeOrNothing (w : World) (req : VirtioMemReq) (o : Outcome) : Type 0 where
   pub acknowledged : Acknowledged o → CarriedOut w req o.world
@@ -302,21 +302,21 @@ Exceeds w req = requested w < plugged w + size_of w req
 
 -- what a plug is acknowledged for. Narrower: one mapping of the host has the whole range
 pub record CanPlug (w : World) (req : VirtioMemReq) : Type 0 where
-  pub within-requested : Within w req
+  pub within_requested : Within w req
   pub valid : Valid w req
-  pub all-unplugged : (i : ℕ) → Covers w req i → IsUnplugged w i
+  pub each_unplugged : (i : ℕ) → Covers w req i → IsUnplugged w i
   pub mapped : OneMapping w (offset_of w req) (size_of w req)
 
 pub record Plug (w : World) (req : VirtioMemReq) (o : Outcome) : Type 0 where
   -- M12: rejected with NACK if plugged_size would exceed requested_size, and then only
   pub over : Exceeds w req → Declined o
-  pub only-over : Declined o → Exceeds w req
+  pub only_over : Declined o → Exceeds w req
   -- M11: rejected with ERROR if it is not valid, or a block is plugged already. Narrower: NACK goes first
-  pub bad-range : Within w req → (Valid w req → ⊥) → Rejected o
+  pub bad_range : Within w req → (Valid w req → ⊥) → Rejected o
   pub already : Within w req → (i : ℕ) → Covers w req i → IsPlugged w i → Rejected o
   -- acknowledged otherwise, and then only
   pub granted : CanPlug w req → Acknowledged o
-  pub only-granted : Acknowledged o → CanPlug w req
+  pub only_granted : Acknowledged o → CanPlug w req
   -- M10, M13
   pub whole : WholeOrNothing w req o
   pub responses : RespondsAmong o (VIRTIO_MEM_RESP_ACK ∷ VIRTIO_MEM_RESP_NACK ∷ VIRTIO_MEM_RESP_ERROR ∷ [])
@@ -324,23 +324,23 @@ pub record Plug (w : World) (req : VirtioMemReq) (o : Outcome) : Type 0 where
 -- ---- M14: UNPLUG, in two calls: the request asks the host to discard the memory, and the host's answer decides
 pub record CanUnplug (w : World) (req : VirtioMemReq) : Type 0 where
   pub valid : Valid w req
-  pub all-plugged : (i : ℕ) → Covers w req i → IsPlugged w i
+  pub all_plugged : (i : ℕ) → Covers w req i → IsPlugged w i
   pub mapped : OneMapping w (offset_of w req) (size_of w req)
 
 -- what the host's answer brings to a request that was made in the world w: its ok is acknowledged, and all blocks are unplugged (M10); its no is an ERROR
 pub record UnplugAnswered (w : World) (req : VirtioMemReq) (ok : Bool) (o : Outcome) : Type 0 where
-  pub ok-acknowledged : ok ≡ true → Acknowledged o
-  pub no-rejected : ok ≡ false → Rejected o
+  pub ok_acknowledged : ok ≡ true → Acknowledged o
+  pub no_rejected : ok ≡ false → Rejected o
   pub whole : WholeOrNothing w req o
 
 pub record Unplug (w : World) (req : VirtioMemReq) (o : Outcome) : Type 0 where
   -- rejected with ERROR if it is not valid, or a block is unplugged already
-  pub bad-range : (Valid w req → ⊥) → Rejected o
+  pub bad_range : (Valid w req → ⊥) → Rejected o
   pub already : (i : ℕ) → Covers w req i → IsUnplugged w i → Rejected o
   -- otherwise the host is asked for the range, by its offset and size. Narrower: where one mapping of the host has it. A plugged_size that has not so much is spoiled, and in no run (`PluggedBlocksUnplug`)
   pub granted : (can : CanUnplug w req) → size_of w req ≤ plugged w → AsksToDiscard o (offset_of w req) (size_of w req) can.mapped.host
   pub spoiled : CanUnplug w req → plugged w < size_of w req → o.answer ≡ Refused 12
-  pub only-granted : (call : HostCall) → AsksFor o call → CanUnplug w req
+  pub only_granted : (call : HostCall) → AsksFor o call → CanUnplug w req
   -- there is no response yet, and nothing is unplugged (M10), until the host has answered
   pub responses : RespondsAmong o (VIRTIO_MEM_RESP_ERROR ∷ [])
   pub whole : WholeOrNothing w req o
@@ -349,9 +349,9 @@ pub record Unplug (w : World) (req : VirtioMemReq) (o : Outcome) : Type 0 where
 -- ---- M15: UNPLUG ALL, block after block. Narrower than M10: what is unplugged stays so when a later block fails, and that is an ERROR, which the standard has not for this request
 -- the lowest plugged block from `from` on, and that there is none
 pub record Lowest (w : World) (from i : ℕ) : Type 0 where
-  pub from-there : from ≤ i
-  pub in-region : i < region_blocks w
-  pub is-plugged : IsPlugged w i
+  pub from_there : from ≤ i
+  pub in_region : i < region_blocks w
+  pub is_plugged : IsPlugged w i
   pub none_below : (j : ℕ) → from ≤ j → j < i → IsUnplugged w j
 
 abbrev pub NoneFrom : World → (from : ℕ) → Type 0
@@ -359,7 +359,7 @@ NoneFrom w from = (i : ℕ) → from ≤ i → i < region_blocks w → IsUnplugg
 
 -- block i lies in the usable region, as every plugged block does (M6), and a mapping has it
 pub record CanDiscard (w : World) (i : ℕ) : Type 0 where
-  pub in-usable : i * block_size w < usable w
+  pub in_usable : i * block_size w < usable w
   pub mapped : OneMapping w (i * block_size w) (block_size w)
 
 -- the host is asked to discard the lowest plugged block, by its offset and size, and the request awaits its answer
@@ -375,15 +375,15 @@ pub record AsksLowest (w : World) (from : ℕ) (o : Outcome) : Type 0 where
 pub record UnplugsFrom (w : World) (from : ℕ) (o : Outcome) : Type 0 where
   -- acknowledged if no block is plugged any more, and then only; plugged_size is 0
   pub none_left : NoneFrom w from → Acknowledged o
-  pub only-none-left : Acknowledged o → NoneFrom w from
-  pub size-zero : Acknowledged o → (o.world.blocks ≡ w.blocks) × (plugged o.world ≡ 0)
+  pub only_none_left : Acknowledged o → NoneFrom w from
+  pub size_zero : Acknowledged o → (o.world.blocks ≡ w.blocks) × (plugged o.world ≡ 0)
   -- otherwise the host is asked for the lowest one, and for no other, which stays plugged until it answers
-  pub asks-lowest : (i : ℕ) → Lowest w from i → CanDiscard w i → AsksLowest w from o
-  pub only-lowest : (call : HostCall) → AsksFor o call → AsksLowest w from o
+  pub asks_lowest : (i : ℕ) → Lowest w from i → CanDiscard w i → AsksLowest w from o
+  pub only_lowest : (call : HostCall) → AsksFor o call → AsksLowest w from o
   pub not_yet : (Acknowledged o → ⊥) → Unchanged w o.world
   -- ERROR if no mapping has it, and for no other reason
   pub cannot : (i : ℕ) → Lowest w from i → (CanDiscard w i → ⊥) → Rejected o
-  pub only-cannot : Rejected o → (i : ℕ) × Lowest w from i × (CanDiscard w i → ⊥)
+  pub only_cannot : Rejected o → (i : ℕ) × Lowest w from i × (CanDiscard w i → ⊥)
   pub responses : RespondsAmong o (VIRTIO_MEM_RESP_ACK ∷ VIRTIO_MEM_RESP_ERROR ∷ [])
 
 abbrev pub UnplugAll : World → VirtioMemReq → Outcome → Type 0
@@ -391,16 +391,16 @@ UnplugAll w req o = UnplugsFrom w 0 o
 
 -- block j is unplugged, and no other
 pub record OneUnplugged (w : World) (j : ℕ) (w' : World) : Type 0 where
-  pub is-unplugged : IsUnplugged w' j
+  pub is_unplugged : IsUnplugged w' j
   pub others : (i : ℕ) → (i ≡ j → ⊥) → SameBlock w w' i
   pub shrinks : plugged w' ≡ plugged w - block_size w
 
 -- the host has answered for block j of an unplug-all: its no is an ERROR, and nothing has changed; by its ok the block is unplugged, and the next is looked for
 pub record OneAnswered (w : World) (j : ℕ) (ok : Bool) (o : Outcome) : Type 0 where
-  pub no-rejected : ok ≡ false → Rejected o
-  pub no-unchanged : ok ≡ false → Unchanged w o.world
-  pub ok-unplugs : OneUnplugged w j (cleared w j)
-  pub ok-goes-on : ok ≡ true → UnplugsFrom (cleared w j) (j + 1) o
+  pub no_rejected : ok ≡ false → Rejected o
+  pub no_unchanged : ok ≡ false → Unchanged w o.world
+  pub ok_unplugs : OneUnplugged w j (cleared w j)
+  pub ok_goes_on : ok ≡ true → UnplugsFrom (cleared w j) (j + 1) o
 
 abbrev pub OfEveryOne : Type 0
 OfEveryOne = (w : World) (j : ℕ) (status : GuestAddr) → Awaits w (DiscardOne j status) → (g : Guest) (ok : Bool) (host : ℕ) → OneAnswered w j ok (step w (HostAnswer g ok host))
@@ -408,11 +408,11 @@ OfEveryOne = (w : World) (j : ℕ) (status : GuestAddr) → Awaits w (DiscardOne
 -- ---- M16: STATE
 pub record StateRequest (w : World) (req : VirtioMemReq) (o : Outcome) : Type 0 where
   -- rejected with ERROR if it is not valid, and acknowledged otherwise
-  pub bad-range : (Valid w req → ⊥) → Rejected o
+  pub bad_range : (Valid w req → ⊥) → Rejected o
   pub acknowledged : Valid w req → Acknowledged o
   -- with PLUGGED, UNPLUGGED or MIXED
-  pub all-plugged : Valid w req → ((i : ℕ) → Covers w req i → IsPlugged w i) → TellsState o VIRTIO_MEM_STATE_PLUGGED
-  pub all-unplugged : Valid w req → ((i : ℕ) → Covers w req i → IsUnplugged w i) → TellsState o VIRTIO_MEM_STATE_UNPLUGGED
+  pub all_plugged : Valid w req → ((i : ℕ) → Covers w req i → IsPlugged w i) → TellsState o VIRTIO_MEM_STATE_PLUGGED
+  pub each_unplugged : Valid w req → ((i : ℕ) → Covers w req i → IsUnplugged w i) → TellsState o VIRTIO_MEM_STATE_UNPLUGGED
   pub mixed : Valid w req → (i j : ℕ) → Covers w req i → IsPlugged w i → Covers w req j → IsUnplugged w j → TellsState o VIRTIO_MEM_STATE_MIXED
   -- M10: it changes nothing in either case
   pub whole : WholeOrNothing w req o
@@ -420,8 +420,8 @@ pub record StateRequest (w : World) (req : VirtioMemReq) (o : Outcome) : Type 0 
 
 -- not the standard's: a request of a type that it does not have gets no response, and changes nothing
 pub record Unknown (w : World) (req : VirtioMemReq) (o : Outcome) : Type 0 where
-  pub no-response : o.answer ≡ Unserved 0
-  pub not-changed : Unchanged w o.world
+  pub no_response : o.answer ≡ Unserved 0
+  pub not_changed : Unchanged w o.world
 
 -- ---- of every call
 -- M12: NACK is given to no other request than a plug whose plugged_size would exceed requested_size

@@ -18,7 +18,7 @@ use Rattle.standard.specs.Requests.{Acknowledged, Rejected, AsksFor, AsksToDisca
 -- ---- M11, M14: in a run the host has memory for the whole usable region. What is narrower is that a request may not cross a border: with several regions each 2 GiB of offsets are a map region
 pub record InOneMapRegion (w : World) (req : VirtioMemReq) : Type 0 where
   pub valid : Valid w req
-  pub no-border : several w ≡ true → offset_of w req % map_region + size_of w req ≤ map_region
+  pub no_border : several w ≡ true → offset_of w req % map_region + size_of w req ≤ map_region
 
 abbrev pub UsableIsMapped : Story → Call → Type 0
 UsableIsMapped s c = (req : VirtioMemReq) → InOneMapRegion s.world req → OneMapping s.world (offset_of s.world req) (size_of s.world req)
@@ -36,8 +36,8 @@ PluggedBlocksUnplug s c = let w = s.world in (b : Brings w c VIRTIO_MEM_REQ_UNPL
 
 -- ---- M15: an ACK to an unplug-all, at once or when the host has discarded the last block, says that no block is plugged and that plugged_size is 0
 pub record NonePlugged (w : World) : Type 0 where
-  pub all-unplugged : (i : ℕ) → i < region_blocks w → IsUnplugged w i
-  pub size-zero : plugged w ≡ 0
+  pub each_unplugged : (i : ℕ) → i < region_blocks w → IsUnplugged w i
+  pub size_zero : plugged w ≡ 0
 
 abbrev pub UnplugAllAcknowledged : Story → Call → Type 0
 UnplugAllAcknowledged s c = acknowledges s.world s.«open» c ≡ UnplugAllAck ∷ []
@@ -89,15 +89,15 @@ CreatesOutside s c = (guest : GuestAddr) (size slot : ℕ) → AsksFor (step s.w
 
 -- ---- all of it, in every run from a newly made device on
 pub record ClausesInRuns : Type 0 where
-  pub fields-laid-out : InEveryRun FieldsLaidOut
-  pub plugged-size-is-of-blocks : InEveryRun PluggedSizeIsOfBlocks
-  pub outside-is-unplugged : InEveryRun OutsideIsUnplugged
-  pub usable-is-mapped : InEveryRun UsableIsMapped
-  pub free-blocks-plug : InEveryRun FreeBlocksPlug
-  pub plugged-blocks-unplug : InEveryRun PluggedBlocksUnplug
-  pub unplug-all-acknowledged : InEveryRun UnplugAllAcknowledged
-  pub plugged-can-be-discarded : InEveryRun PluggedCanBeDiscarded
-  pub unplug-all-fails-by-host : InEveryRun UnplugAllFailsByHost
-  pub unplugged-by-request : InEveryRun UnpluggedByRequest
-  pub discards-by-request : InEveryRun DiscardsByRequest
-  pub creates-outside : InEveryRun CreatesOutside
+  pub fields_laid_out : InEveryRun FieldsLaidOut
+  pub plugged_size_is_of_blocks : InEveryRun PluggedSizeIsOfBlocks
+  pub outside_is_unplugged : InEveryRun OutsideIsUnplugged
+  pub usable_is_mapped : InEveryRun UsableIsMapped
+  pub free_blocks_plug : InEveryRun FreeBlocksPlug
+  pub plugged_blocks_unplug : InEveryRun PluggedBlocksUnplug
+  pub unplug_all_acknowledged : InEveryRun UnplugAllAcknowledged
+  pub plugged_can_be_discarded : InEveryRun PluggedCanBeDiscarded
+  pub unplug_all_fails_by_host : InEveryRun UnplugAllFailsByHost
+  pub unplugged_by_request : InEveryRun UnpluggedByRequest
+  pub discards_by_request : InEveryRun DiscardsByRequest
+  pub creates_outside : InEveryRun CreatesOutside

@@ -8,7 +8,7 @@ use native.Mathlib.Omega.{arith}
 use lib.Dec.{ltb, eqb}
 use lib.ListN.{length, length-append, get_or-append}
 use Rattle.units.specs.Numbers.{bytes_of}
-use Rattle.units.proofs.Tests.{by-test}
+use Rattle.units.proofs.Tests.{by_test}
 use Rattle.bitmap.specs.Blocks.{next_set}
 use Rattle.bitmap.specs.declared.Found.{Found}
 use Rattle.bitmap.specs.declared.Found.TheVariants.{At, Nothing as NoneSet}
@@ -23,11 +23,11 @@ use Rattle.record.specs.Shape.{shaped_of}
 use Rattle.change.specs.declared.Change.{Change}
 use Rattle.change.specs.declared.Change.TheVariants.{Legal, Outside, WrongState, NoHost}
 use Rattle.change.specs.Change.{row_of}
-use Rattle.change.proofs.Laws.{change-same}
+use Rattle.change.proofs.Laws.{change_same}
 use Rattle.step.specs.World.{World, Guest, Outcome, Request, HostAnswer}
 use Rattle.step.specs.Step.{block_size, usable, plugged, requested, start, several, region_blocks, tables_fit, ready_refusal, pending_refusal, unless, changing, plug_as, plug, unplug_as, one_as, next_as, cleared, unplug_all, serve, request, host_answer, step}
-use Rattle.step.proofs.Entry.{Ready, ready-is, ready-when, waits-is, waits-when, fits-longer}
-use Rattle.step.proofs.InTable.{row-in-table, cleared-shaped, cleared-fits}
+use Rattle.step.proofs.Entry.{Ready, ready_is, ready_when, waits_is, waits_when, fits_longer}
+use Rattle.step.proofs.InTable.{row_in_table, cleared_shaped, cleared_fits}
 
 -- an unplug, or a block of an unplug-all
 pub is_discard : Pending → Bool
@@ -44,16 +44,16 @@ abbrev pub longer_after : List MapRow → Outcome → Outcome
 longer_after more o = record { world = longer more o.world; answer = o.answer; bytes = o.bytes }
 
 module _ (w : World) (shape : shaped_of w.device ≡ true) (fit : tables_fit w.device (length w.blocks) (length w.rows) ≡ true) (more : List MapRow) (status : ℕ) (g : Guest) where
-  same-change : (addr count : ℕ) (wanted : Bool) → changing (longer more w) addr count wanted ≡ changing w addr count wanted
-  same-change addr count wanted =
-      change-same (block_size w) (start w) (usable w) (several w) addr count wanted w.blocks w.blocks (w.rows ++ more) w.rows (λ o e. refl)
-      (λ o e. get_or-append w.rows more _ (row_of (several w) o.0) (row-in-table w shape fit addr count o e))
+  same_change : (addr count : ℕ) (wanted : Bool) → changing (longer more w) addr count wanted ≡ changing w addr count wanted
+  same_change addr count wanted =
+      change_same (block_size w) (start w) (usable w) (several w) addr count wanted w.blocks w.blocks (w.rows ++ more) w.rows (λ o e. refl)
+      (λ o e. get_or-append w.rows more _ (row_of (several w) o.0) (row_in_table w shape fit addr count o e))
 
-  pub plug-behind : (addr count : ℕ) → plug (longer more w) addr count status g ≡ longer_after more (plug w addr count status g)
+  pub plug_behind : (addr count : ℕ) → plug (longer more w) addr count status g ≡ longer_after more (plug w addr count status g)
   unfolding plug plug_as
-  plug-behind addr count =
-      by-test (ltb (requested w) (plugged w + bytes_of (block_size w) count)) (λ t. rw t)
-      (λ t. rw (t, same-change addr count true) (go (changing w addr count true)))
+  plug_behind addr count =
+      by_test (ltb (requested w) (plugged w + bytes_of (block_size w) count)) (λ t. rw t)
+      (λ t. rw (t, same_change addr count true) (go (changing w addr count true)))
     where
       go : (c : Change) → plug_as c (longer more w) count status g ≡ longer_after more (plug_as c w count status g)
       go (Legal first offset host) = refl
@@ -61,20 +61,20 @@ module _ (w : World) (shape : shaped_of w.device ≡ true) (fit : tables_fit w.d
       go WrongState = refl
       go (NoHost part) = refl
 
-  pub unplug-behind : (addr count : ℕ) → unplug_as (changing (longer more w) addr count false) (longer more w) count status g ≡ longer_after more (unplug_as (changing w addr count false) w count status g)
+  pub unplug_behind : (addr count : ℕ) → unplug_as (changing (longer more w) addr count false) (longer more w) count status g ≡ longer_after more (unplug_as (changing w addr count false) w count status g)
   unfolding unplug_as
-  unplug-behind addr count = rw (same-change addr count false) (go (changing w addr count false))
+  unplug_behind addr count = rw (same_change addr count false) (go (changing w addr count false))
     where
       go : (c : Change) → unplug_as c (longer more w) count status g ≡ longer_after more (unplug_as c w count status g)
-      go (Legal first offset host) = by-test (ltb (plugged w) (bytes_of (block_size w) count)) (λ t. rw t) (λ t. rw t)
+      go (Legal first offset host) = by_test (ltb (plugged w) (bytes_of (block_size w) count)) (λ t. rw t) (λ t. rw t)
       go (Outside part) = refl
       go WrongState = refl
       go (NoHost part) = refl
 
   -- from its first block on, and from each that follows
-  pub unplug-all-behind : (from : ℕ) → unplug_all (longer more w) from status g ≡ longer_after more (unplug_all w from status g)
+  pub unplug_all_behind : (from : ℕ) → unplug_all (longer more w) from status g ≡ longer_after more (unplug_all w from status g)
   unfolding next_as one_as
-  unplug-all-behind from = next (next_set w.blocks from (region_blocks w))
+  unplug_all_behind from = next (next_set w.blocks from (region_blocks w))
     where
       go : (block : ℕ) (c : Change) → one_as c (longer more w) block status g ≡ longer_after more (one_as c w block status g)
       go block (Legal first offset host) = refl
@@ -84,48 +84,48 @@ module _ (w : World) (shape : shaped_of w.device ≡ true) (fit : tables_fit w.d
 
       next : (f : Found) → next_as f (longer more w) status g ≡ longer_after more (next_as f w status g)
       next NoneSet = refl
-      next (At block) = rw (same-change (start w + bytes_of (block_size w) block) 1 false) (go block (changing w (start w + bytes_of (block_size w) block) 1 false))
+      next (At block) = rw (same_change (start w + bytes_of (block_size w) block) 1 false) (go block (changing w (start w + bytes_of (block_size w) block) 1 false))
 
-  serve-behind : (req : VirtioMemReq) → serve (longer more w) req status g ≡ longer_after more (serve w req status g)
+  serve_behind : (req : VirtioMemReq) → serve (longer more w) req status g ≡ longer_after more (serve w req status g)
   unfolding serve
-  serve-behind req =
-      by-test (eqb req.req_type 0) (λ t. rw t (plug-behind req.addr.0 req.nb_blocks))
-      (λ t. by-test (eqb req.req_type 1) (λ u. rw (t, u) (unplug-behind req.addr.0 req.nb_blocks))
-      (λ u. by-test (eqb req.req_type 2) (λ v. rw (t, u, v) (unplug-all-behind 0))
-      (λ v. by-test (eqb req.req_type 3) (λ x. rw (t, u, v, x)) (λ x. rw (t, u, v, x)))))
+  serve_behind req =
+      by_test (eqb req.req_type 0) (λ t. rw t (plug_behind req.addr.0 req.nb_blocks))
+      (λ t. by_test (eqb req.req_type 1) (λ u. rw (t, u) (unplug_behind req.addr.0 req.nb_blocks))
+      (λ u. by_test (eqb req.req_type 2) (λ v. rw (t, u, v) (unplug_all_behind 0))
+      (λ v. by_test (eqb req.req_type 3) (λ x. rw (t, u, v, x)) (λ x. rw (t, u, v, x)))))
 
 module _ (w : World) (more : List MapRow) (g : Guest) where
   abbrev blocks : ℕ
   blocks = length w.blocks
 
-  more-fit : tables_fit w.device blocks (length w.rows) ≡ true → tables_fit w.device blocks (length (w.rows ++ more)) ≡ true
-  more-fit = fits-longer w.device blocks (length w.rows) (length (w.rows ++ more)) (omega (arith, length-append w.rows more))
+  more_fit : tables_fit w.device blocks (length w.rows) ≡ true → tables_fit w.device blocks (length (w.rows ++ more)) ≡ true
+  more_fit = fits_longer w.device blocks (length w.rows) (length (w.rows ++ more)) (omega (arith, length-append w.rows more))
 
   -- a request that is not refused: a plug, an unplug, the first block of an unplug-all
-  pub request-behind : ready_refusal w.device blocks (length w.rows) ≡ 0 → (table head : ℕ) → step (longer more w) (Request g table head) ≡ longer_after more (step w (Request g table head))
+  pub request_behind : ready_refusal w.device blocks (length w.rows) ≡ 0 → (table head : ℕ) → step (longer more w) (Request g table head) ≡ longer_after more (step w (Request g table head))
   unfolding step unless request
-  request-behind ready table head =
-      let r = ready-is w.device blocks (length w.rows) ready in
-      let r' = ready-when w.device blocks (length (w.rows ++ more)) (record { shaped = r.shaped; idle = r.idle; is-placed = r.is-placed; fits = more-fit r.fits }) in
+  request_behind ready table head =
+      let r = ready_is w.device blocks (length w.rows) ready in
+      let r' = ready_when w.device blocks (length (w.rows ++ more)) (record { shaped = r.shaped; idle = r.idle; is_placed = r.is_placed; fits = more_fit r.fits }) in
       rw (ready, r') (go r (parsed g.mem g.base table head))
     where
       go : Ready w.device blocks (length w.rows) → (p : Parsed) → request p (longer more w) g ≡ longer_after more (request p w g)
       go r (Bad reason) = refl
-      go r (Got req status) = serve-behind w r.shaped r.fits more status.0 g req
+      go r (Got req status) = serve_behind w r.shaped r.fits more status.0 g req
 
   -- the host's answer to a discard that is not refused: the end of an unplug, and each block of an unplug-all that follows
-  pub answer-behind : pending_refusal w.device blocks (length w.rows) ≡ 0 → is_discard w.device.pending ≡ true → (ok : Bool) (host : ℕ) → step (longer more w) (HostAnswer g ok host) ≡ longer_after more (step w (HostAnswer g ok host))
+  pub answer_behind : pending_refusal w.device blocks (length w.rows) ≡ 0 → is_discard w.device.pending ≡ true → (ok : Bool) (host : ℕ) → step (longer more w) (HostAnswer g ok host) ≡ longer_after more (step w (HostAnswer g ok host))
   unfolding step unless host_answer is_discard
-  answer-behind pending discard ok host =
-      let p = waits-is w.device blocks (length w.rows) pending in
-      let p' = waits-when w.device blocks (length (w.rows ++ more)) (record { shaped = p.shaped; not-idle = p.not-idle; fits = more-fit p.fits }) in
+  answer_behind pending discard ok host =
+      let p = waits_is w.device blocks (length w.rows) pending in
+      let p' = waits_when w.device blocks (length (w.rows ++ more)) (record { shaped = p.shaped; not_idle = p.not_idle; fits = more_fit p.fits }) in
       rw (pending, p') (go w.device.pending discard)
     where
       go : (q : Pending) → is_discard q ≡ true → host_answer q (longer more w) g ok host ≡ longer_after more (host_answer q w g ok host)
       go Nothing e = let z : ◌≡◌ {A = ℕ} 0 1 = cc in absurd (omega arith)
       go (Create first last) e = let z : ◌≡◌ {A = ℕ} 0 1 = cc in absurd (omega arith)
-      go (Discard first count status) e = by-test ok (λ t. rw t) (λ t. rw t)
+      go (Discard first count status) e = by_test ok (λ t. rw t) (λ t. rw t)
       go (DiscardOne block status) e =
-          by-test ok
-          (λ t. rw t (unplug-all-behind (cleared w block) (cleared-shaped w pending block) (cleared-fits w pending block) more status.0 g (block + 1)))
+          by_test ok
+          (λ t. rw t (unplug_all_behind (cleared w block) (cleared_shaped w pending block) (cleared_fits w pending block) more status.0 g (block + 1)))
           (λ t. rw t)

@@ -112,6 +112,6 @@ pub said : List Edge → List (List ℕ)
 said [] = []
 said (e ∷ es) = e.says ∷ said es
 
-pub edges-hold : given edges ≡ said edges
+pub edges_hold : given edges ≡ said edges
 unfolding given said edges device row world answer_type plugged rows_of_call size_of_call asked grows alignment_of twos count_trailing_zeros next_multiple map_regions every mapping_of unmapped_from inside reaches alignment_ok region_ok size_ok span_of start_ok several_ok pending_ok shaped_of new_size creation_size growth_at growth_of range_of inside_of host_of host_in host_sum legal_at change_in plug plug_as tables_fit ready_refusal unless resizes set_requested_size step
-edges-hold = refl
+edges_hold = refl

@@ -16,57 +16,57 @@ past : (t : Bool) (n k : ℕ) → 0 < k → cond (not t) k n ≡ 0 → (t ≡ tr
 past true n k h e = (refl, e)
 past false n k h e = absurd (omega arith)
 
-past-not : (t : Bool) (n k : ℕ) → 0 < k → cond t k n ≡ 0 → (t ≡ false) × (n ≡ 0)
-past-not true n k h e = absurd (omega arith)
-past-not false n k h e = (refl, e)
+past_not : (t : Bool) (n k : ℕ) → 0 < k → cond t k n ≡ 0 → (t ≡ false) × (n ≡ 0)
+past_not true n k h e = absurd (omega arith)
+past_not false n k h e = (refl, e)
 
 -- a request and a size change
 pub record Ready (d : Device) (blocks rows : ℕ) : Type 0 where
   pub shaped : shaped_of d ≡ true
   pub idle : is_idle d.pending ≡ true
-  pub is-placed : d.placed ≡ true
+  pub is_placed : d.placed ≡ true
   pub fits : tables_fit d blocks rows ≡ true
 
 -- a host answer
 pub record Waits (d : Device) (blocks rows : ℕ) : Type 0 where
   pub shaped : shaped_of d ≡ true
-  pub not-idle : is_idle d.pending ≡ false
+  pub not_idle : is_idle d.pending ≡ false
   pub fits : tables_fit d blocks rows ≡ true
 
 module _ (d : Device) (blocks rows : ℕ) where
-  pub ready-is : ready_refusal d blocks rows ≡ 0 → Ready d blocks rows
+  pub ready_is : ready_refusal d blocks rows ≡ 0 → Ready d blocks rows
   unfolding ready_refusal
-  ready-is e =
+  ready_is e =
       let shaped = past (shaped_of d) _ 12 (omega arith) e in
       let idle = past (is_idle d.pending) _ 7 (omega arith) shaped.1 in
       let placed = past d.placed _ 5 (omega arith) idle.1 in
       let fits = past (tables_fit d blocks rows) 0 11 (omega arith) placed.1 in
-      record { shaped = shaped.0; idle = idle.0; is-placed = placed.0; fits = fits.0 }
+      record { shaped = shaped.0; idle = idle.0; is_placed = placed.0; fits = fits.0 }
 
-  pub ready-when : Ready d blocks rows → ready_refusal d blocks rows ≡ 0
+  pub ready_when : Ready d blocks rows → ready_refusal d blocks rows ≡ 0
   unfolding ready_refusal
-  ready-when r = rw (r.fits, r.shaped, r.idle, r.is-placed)
+  ready_when r = rw (r.fits, r.shaped, r.idle, r.is_placed)
 
-  pub waits-is : pending_refusal d blocks rows ≡ 0 → Waits d blocks rows
+  pub waits_is : pending_refusal d blocks rows ≡ 0 → Waits d blocks rows
   unfolding pending_refusal
-  waits-is e =
+  waits_is e =
       let shaped = past (shaped_of d) _ 12 (omega arith) e in
-      let waits = past-not (is_idle d.pending) _ 8 (omega arith) shaped.1 in
+      let waits = past_not (is_idle d.pending) _ 8 (omega arith) shaped.1 in
       let fits = past (tables_fit d blocks rows) 0 11 (omega arith) waits.1 in
-      record { shaped = shaped.0; not-idle = waits.0; fits = fits.0 }
+      record { shaped = shaped.0; not_idle = waits.0; fits = fits.0 }
 
-  pub waits-when : Waits d blocks rows → pending_refusal d blocks rows ≡ 0
+  pub waits_when : Waits d blocks rows → pending_refusal d blocks rows ≡ 0
   unfolding pending_refusal
-  waits-when p = rw (p.fits, p.shaped, p.not-idle)
+  waits_when p = rw (p.fits, p.shaped, p.not_idle)
 
   -- placing
-  pub unplaced-shaped : unplaced_refusal d blocks rows ≡ 0 → shaped_of d ≡ true
+  pub unplaced_shaped : unplaced_refusal d blocks rows ≡ 0 → shaped_of d ≡ true
   unfolding unplaced_refusal
-  unplaced-shaped e = (past (shaped_of d) _ 12 (omega arith) e).0
+  unplaced_shaped e = (past (shaped_of d) _ 12 (omega arith) e).0
 
   -- a longer map table fits too
-  pub fits-longer : (rows' : ℕ) → rows ≤ rows' → tables_fit d blocks rows ≡ true → tables_fit d blocks rows' ≡ true
+  pub fits_longer : (rows' : ℕ) → rows ≤ rows' → tables_fit d blocks rows ≡ true → tables_fit d blocks rows' ≡ true
   unfolding tables_fit
-  fits-longer rows' l e =
+  fits_longer rows' l e =
       let enough = leb-true _ rows (and_right (leb _ blocks) _ e) in
       rw (and_left (leb _ blocks) _ e) (le-leb _ rows' (omega (arith, enough)))

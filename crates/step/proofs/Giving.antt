@@ -53,25 +53,25 @@ relent e m =
     }
 
 -- what gives an outcome gives the same outcome
-pub as-given : {o o' : Outcome} {before after : Lent} {s : Answered} → o ≡ o' → Gives o' before after s → Gives o before after s
-as-given e m = rw e m
+pub as_given : {o o' : Outcome} {before after : Lent} {s : Answered} → o ≡ o' → Gives o' before after s → Gives o before after s
+as_given e m = rw e m
 
 -- an outcome whose answer and record are known
-pub as-answered : (o : Outcome) (before after : Lent) (s : Answered) → s ≡ answered_by o → Leaves (left_by o) before after → Gives o before after s
-as-answered o before after s e m =
+pub as_answered : (o : Outcome) (before after : Lent) (s : Answered) → s ≡ answered_by o → Leaves (left_by o) before after → Gives o before after s
+as_answered o before after s e m =
     record { answered = ap (λ s. s.answer) e; told = ap (λ s. answer_words s.answer) e; recorded = ap (λ s. s.device) e; leaves = m }
 
 -- ---- the refusals
 module _ (d : Device) (l : Lent) where
-  pub refused-gives : (n : ℕ) (o : Outcome) (s : Answered) → o ≡ refused n (on d l) l.bytes → s ≡ record { device = d; answer = Refused n } → Gives o l l s
-  refused-gives n o s e a =
+  pub refused_gives : (n : ℕ) (o : Outcome) (s : Answered) → o ≡ refused n (on d l) l.bytes → s ≡ record { device = d; answer = Refused n } → Gives o l l s
+  refused_gives n o s e a =
       rw (e, a)
       (record { answered = refl; told = refl; recorded = refl; leaves = record { marked = refl; mapped = sym (whole l.table); left = refl } })
 
   -- the call is refused by its first tests
   pub stops : (n : ℕ) (o : Outcome) (s : Answered) → (n ≡ 0 → ⊥) → s ≡ record { device = d; answer = Refused n } → Gives (unless n (on d l) l.bytes o) l l s
   unfolding unless
-  stops n o s h a = refused-gives n _ s (rw (ne_eqb n 0 h)) a
+  stops n o s h a = refused_gives n _ s (rw (ne_eqb n 0 h)) a
 
 -- or it goes on
 pub goes_on : (n : ℕ) (w : World) (bytes : List ℕ) (o : Outcome) (before after : Lent) (s : Answered) → n ≡ 0 → Gives o before after s → Gives (unless n w bytes o) before after s

@@ -38,48 +38,48 @@ either f before true x y p q = p
 either f before false x y p q = q
 
 module _ (g : Guest) (before w : World) (h : request_kept w.device ≡ request_kept before.device) where
-  plug-keeps : (ch : Change) (count status : ℕ) → Keeps request_kept before (plug_as ch w count status g)
+  plug_keeps : (ch : Change) (count status : ℕ) → Keeps request_kept before (plug_as ch w count status g)
   unfolding plug_as
-  plug-keeps (Legal first offset host) count status = record { same = h }
-  plug-keeps (Outside part) count status = record { same = h }
-  plug-keeps WrongState count status = record { same = h }
-  plug-keeps (NoHost part) count status = record { same = h }
+  plug_keeps (Legal first offset host) count status = record { same = h }
+  plug_keeps (Outside part) count status = record { same = h }
+  plug_keeps WrongState count status = record { same = h }
+  plug_keeps (NoHost part) count status = record { same = h }
 
-  unplug-keeps : (ch : Change) (count status : ℕ) → Keeps request_kept before (unplug_as ch w count status g)
+  unplug_keeps : (ch : Change) (count status : ℕ) → Keeps request_kept before (unplug_as ch w count status g)
   unfolding unplug_as
-  unplug-keeps (Legal first offset host) count status =
+  unplug_keeps (Legal first offset host) count status =
       either request_kept before (ltb (plugged w) (bytes_of (block_size w) count)) _ _ (record { same = h }) (record { same = h })
-  unplug-keeps (Outside part) count status = record { same = h }
-  unplug-keeps WrongState count status = record { same = h }
-  unplug-keeps (NoHost part) count status = record { same = h }
+  unplug_keeps (Outside part) count status = record { same = h }
+  unplug_keeps WrongState count status = record { same = h }
+  unplug_keeps (NoHost part) count status = record { same = h }
 
-  one-keeps : (ch : Change) (block status : ℕ) → Keeps request_kept before (one_as ch w block status g)
+  one_keeps : (ch : Change) (block status : ℕ) → Keeps request_kept before (one_as ch w block status g)
   unfolding one_as
-  one-keeps (Legal first offset host) block status = record { same = h }
-  one-keeps (Outside part) block status = record { same = h }
-  one-keeps WrongState block status = record { same = h }
-  one-keeps (NoHost part) block status = record { same = h }
+  one_keeps (Legal first offset host) block status = record { same = h }
+  one_keeps (Outside part) block status = record { same = h }
+  one_keeps WrongState block status = record { same = h }
+  one_keeps (NoHost part) block status = record { same = h }
 
-  next-keeps : (f : Found) (status : ℕ) → Keeps request_kept before (next_as f w status g)
+  next_keeps : (f : Found) (status : ℕ) → Keeps request_kept before (next_as f w status g)
   unfolding next_as
-  next-keeps NoneSet status = record { same = h }
-  next-keeps (At block) status = one-keeps _ block status
+  next_keeps NoneSet status = record { same = h }
+  next_keeps (At block) status = one_keeps _ block status
 
-  serve-keeps : (req : VirtioMemReq) (status : ℕ) → Keeps request_kept before (serve w req status g)
+  serve_keeps : (req : VirtioMemReq) (status : ℕ) → Keeps request_kept before (serve w req status g)
   unfolding serve plug
-  serve-keeps req status =
+  serve_keeps req status =
       let type = req.req_type in
       let count = req.nb_blocks in
       either request_kept before (eqb type 0) _ _
-      (either request_kept before (ltb (requested w) (plugged w + bytes_of (block_size w) count)) _ _ (record { same = h }) (plug-keeps _ count status))
-      (either request_kept before (eqb type 1) _ _ (unplug-keeps _ count status)
-      (either request_kept before (eqb type 2) _ _ (next-keeps _ status)
+      (either request_kept before (ltb (requested w) (plugged w + bytes_of (block_size w) count)) _ _ (record { same = h }) (plug_keeps _ count status))
+      (either request_kept before (eqb type 1) _ _ (unplug_keeps _ count status)
+      (either request_kept before (eqb type 2) _ _ (next_keeps _ status)
       (either request_kept before (eqb type 3) _ _ (record { same = h }) (record { same = h }))))
 
-  request-keeps : (p : Parsed) → Keeps request_kept before (request p w g)
+  request_keeps : (p : Parsed) → Keeps request_kept before (request p w g)
   unfolding request
-  request-keeps (Bad reason) = record { same = h }
-  request-keeps (Got req status) = serve-keeps req status.0
+  request_keeps (Bad reason) = record { same = h }
+  request_keeps (Got req status) = serve_keeps req status.0
 
 -- what a request keeps, an answer keeps
 weaker : (before : World) (o : Outcome) → Keeps request_kept before o → Keeps answer_kept before o
@@ -95,24 +95,24 @@ answer_keeps before g (Create i last) ok host =
 answer_keeps before g (Discard first count status) ok host =
     either answer_kept before ok _ _ (record { same = refl }) (record { same = refl })
 answer_keeps before g (DiscardOne block status) ok host =
-    either answer_kept before ok _ _ (weaker before _ (next-keeps g before _ refl _ status.0)) (record { same = refl })
+    either answer_kept before ok _ _ (weaker before _ (next_keeps g before _ refl _ status.0)) (record { same = refl })
 
 -- a request changes the plugged size and the pending call at most
-pub request-changes : (w : World) (g : Guest) (table head : ℕ) → let d = (step w (Request g table head)).world.device in
+pub request_changes : (w : World) (g : Guest) (table head : ℕ) → let d = (step w (Request g table head)).world.device in
     d ≡ pending_to d.pending (plugged_to d.config.plugged_size w.device)
 unfolding step unless
-request-changes w g table head =
+request_changes w g table head =
     let d = (step w (Request g table head)).world.device in
     let k = either request_kept w (eqb (ready_refusal w.device (length w.blocks) (length w.rows)) 0) _ _
-    (request-keeps g w w refl (parsed g.mem g.base table head))
+    (request_keeps g w w refl (parsed g.mem g.base table head))
     (record { same = refl }) in
     ap (λ (e : Device). pending_to d.pending (plugged_to d.config.plugged_size e)) k.same
 
 -- a host's answer the usable size and whether the device is placed too
-pub answer-changes : (w : World) (g : Guest) (ok : Bool) (host : ℕ) → let d = (step w (HostAnswer g ok host)).world.device in
+pub answer_changes : (w : World) (g : Guest) (ok : Bool) (host : ℕ) → let d = (step w (HostAnswer g ok host)).world.device in
     d ≡ pending_to d.pending (placed_to d.placed (plugged_to d.config.plugged_size (usable_to d.config.usable_region_size w.device)))
 unfolding step unless
-answer-changes w g ok host =
+answer_changes w g ok host =
     let d = (step w (HostAnswer g ok host)).world.device in
     let k = either answer_kept w (eqb (pending_refusal w.device (length w.blocks) (length w.rows)) 0) _ _
     (answer_keeps w g w.device.pending ok host)

@@ -21,7 +21,7 @@ use Rattle.change.specs.declared.Range.TheVariants.{Inside, Outside as NotInside
 use Rattle.change.specs.declared.Change.{Change}
 use Rattle.change.specs.declared.Change.TheVariants.{Legal, Outside, WrongState, NoHost}
 use Rattle.change.specs.Why.{range_why, failed_discard, Reasoned}
-use Rattle.change.proofs.Why.{Failed, part-reasoned, change-failed}
+use Rattle.change.proofs.Why.{Failed, part_reasoned, change_failed}
 use Rattle.record.specs.declared.Pending.{Pending}
 use Rattle.record.specs.declared.Pending.TheVariants.{Nothing, Create, Discard, DiscardOne}
 use Rattle.step.specs.declared.Verdict.{Verdict}
@@ -49,9 +49,9 @@ module _ (K : Reply → List ℕ → Type 0) where
   either true x y p q = p
   either false x y p q = q
 
-  unless-of : (n : ℕ) (w : World) (bytes : List ℕ) (o : Outcome) → Of K o → Of K (unless n w bytes o)
+  unless_of : (n : ℕ) (w : World) (bytes : List ℕ) (o : Outcome) → Of K o → Of K (unless n w bytes o)
   unfolding unless OfReply
-  unless-of n w bytes o p = either (eqb n 0) _ _ p (record { of = tt })
+  unless_of n w bytes o p = either (eqb n 0) _ _ p (record { of = tt })
 
   grown : (r : Growth) (w : World) → Of K (resizes r w)
   unfolding resizes OfReply
@@ -59,38 +59,38 @@ module _ (K : Reply → List ℕ → Type 0) where
   grown (Asks i last size) w = record { of = tt }
 
 -- of every call, where it is so of every request and every answer of the host: no other has a reply
-pub each-call : (K : Call → Reply → List ℕ → Type 0) (w : World)
+pub each_call : (K : Call → Reply → List ℕ → Type 0) (w : World)
     → ((g : Guest) (descriptors head : ℕ) → Of (K (Request g descriptors head)) (request (parsed g.mem g.base descriptors head) w g))
     → ((g : Guest) (ok : Bool) (host : ℕ) → Of (K (HostAnswer g ok host)) (host_answer w.device.pending w g ok host))
     → (c : Call) → Of (K c) (step w c)
 unfolding step place placing set_requested_size read_config write_config OfReply
-each-call K w requests answers (Place at size slots bs rows) =
-    unless-of _ _ w [] _ (unless-of _ _ w [] _ (either _ (several w) _ _ (grown _ _ _) (record { of = tt })))
-each-call K w requests answers (SetRequestedSize mib) =
-    unless-of _ _ w [] _ (either _ (not (size_ok (block_size w) (mib * MiB) (region w))) _ _ (record { of = tt }) (grown _ _ _))
-each-call K w requests answers (Request g descriptors head) = unless-of _ _ w g.mem _ (requests g descriptors head)
-each-call K w requests answers (HostAnswer g ok host) = unless-of _ _ w g.mem _ (answers g ok host)
-each-call K w requests answers (ReadConfig offset buffer) = either _ (not (shaped_of w.device)) _ _ (record { of = tt }) (record { of = tt })
-each-call K w requests answers (WriteConfig offset buffer) = either _ (not (shaped_of w.device)) _ _ (record { of = tt }) (record { of = tt })
+each_call K w requests answers (Place at size slots bs rows) =
+    unless_of _ _ w [] _ (unless_of _ _ w [] _ (either _ (several w) _ _ (grown _ _ _) (record { of = tt })))
+each_call K w requests answers (SetRequestedSize mib) =
+    unless_of _ _ w [] _ (either _ (not (size_ok (block_size w) (mib * MiB) (region w))) _ _ (record { of = tt }) (grown _ _ _))
+each_call K w requests answers (Request g descriptors head) = unless_of _ _ w g.mem _ (requests g descriptors head)
+each_call K w requests answers (HostAnswer g ok host) = unless_of _ _ w g.mem _ (answers g ok host)
+each_call K w requests answers (ReadConfig offset buffer) = either _ (not (shaped_of w.device)) _ _ (record { of = tt }) (record { of = tt })
+each_call K w requests answers (WriteConfig offset buffer) = either _ (not (shaped_of w.device)) _ _ (record { of = tt }) (record { of = tt })
 
 -- what holds of every such verdict, delivered or not, holds of every reply to a request whose status address this is
 abbrev pub SaysAt : (P : Verdict → Type 0) (K : Reply → List ℕ → Type 0) (g : Guest) (status : ℕ) → Type 0
 SaysAt P K g status = (v : Verdict) (w : World) → P v → Of K (served v status w g)
 
 module _ (P : Verdict → Type 0) (W : World → Type 0) (k : Known P W) (K : Reply → List ℕ → Type 0) (g : Guest) (status : ℕ) (says : SaysAt P K g status) where
-  plug-of : (ch : Change) → Failed (λ why. P (error why)) ch → (w : World) (count : ℕ) → Of K (plug_as ch w count status g)
+  plug_of_lem : (ch : Change) → Failed (λ why. P (error why)) ch → (w : World) (count : ℕ) → Of K (plug_as ch w count status g)
   unfolding plug_as Failed
-  plug-of (Legal first offset host) f w count = says _ _ k.acks
-  plug-of (Outside part) f w count = says _ _ f
-  plug-of WrongState f w count = says _ _ f
-  plug-of (NoHost host) f w count = says _ _ f
+  plug_of_lem (Legal first offset host) f w count = says _ _ k.acks
+  plug_of_lem (Outside part) f w count = says _ _ f
+  plug_of_lem WrongState f w count = says _ _ f
+  plug_of_lem (NoHost host) f w count = says _ _ f
 
-  unplug-of : (ch : Change) → Failed (λ why. P (error why)) ch → (w : World) (count : ℕ) → Of K (unplug_as ch w count status g)
+  unplug_of : (ch : Change) → Failed (λ why. P (error why)) ch → (w : World) (count : ℕ) → Of K (unplug_as ch w count status g)
   unfolding unplug_as OfReply Failed
-  unplug-of (Legal first offset host) f w count = either K (ltb (plugged w) (bytes_of (block_size w) count)) _ _ (record { of = tt }) (record { of = tt })
-  unplug-of (Outside part) f w count = says _ _ f
-  unplug-of WrongState f w count = says _ _ f
-  unplug-of (NoHost host) f w count = says _ _ f
+  unplug_of (Legal first offset host) f w count = either K (ltb (plugged w) (bytes_of (block_size w) count)) _ _ (record { of = tt }) (record { of = tt })
+  unplug_of (Outside part) f w count = says _ _ f
+  unplug_of WrongState f w count = says _ _ f
+  unplug_of (NoHost host) f w count = says _ _ f
 
   one_of : (ch : Change) → Failed (λ why. P (error why)) ch → (w : World) (block : ℕ) → Of K (one_as ch w block status g)
   unfolding one_as OfReply Failed
@@ -104,54 +104,54 @@ module _ (P : Verdict → Type 0) (W : World → Type 0) (k : Known P W) (K : Re
   next_of NoneSet w u = says _ _ k.acks
   next_of (At block) w u = one_of _ (k.changes w u _ _ _) w block
 
-  pub serve-of : (w : World) → W w → (req : VirtioMemReq) → Of K (serve w req status g)
+  pub serve_of : (w : World) → W w → (req : VirtioMemReq) → Of K (serve w req status g)
   unfolding serve plug OfReply
-  serve-of w u req =
+  serve_of w u req =
       let type = req.req_type in
       let count = req.nb_blocks in
-      either K (eqb type 0) _ _ (either K (ltb (requested w) (plugged w + bytes_of (block_size w) count)) _ _ (says _ _ k.nacks) (plug-of _ (k.changes w u _ _ _) w count))
-      (either K (eqb type 1) _ _ (unplug-of _ (k.changes w u _ _ _) w count)
+      either K (eqb type 0) _ _ (either K (ltb (requested w) (plugged w + bytes_of (block_size w) count)) _ _ (says _ _ k.nacks) (plug_of_lem _ (k.changes w u _ _ _) w count))
+      (either K (eqb type 1) _ _ (unplug_of _ (k.changes w u _ _ _) w count)
       (either K (eqb type 2) _ _ (next_of _ w u)
       (either K (eqb type 3) _ _ (says _ _ (k.states w u _ _)) (record { of = tt }))))
 
-  pub unplug-ends : (w : World) (first count : ℕ) (ok : Bool) (host : ℕ) → Of K (host_answer (Discard first count (record { 0 = status })) w g ok host)
+  pub unplug_ends : (w : World) (first count : ℕ) (ok : Bool) (host : ℕ) → Of K (host_answer (Discard first count (record { 0 = status })) w g ok host)
   unfolding host_answer
-  unplug-ends w first count ok host = either K ok _ _ (says _ _ k.acks) (says _ _ k.discards)
+  unplug_ends w first count ok host = either K ok _ _ (says _ _ k.acks) (says _ _ k.discards)
 
-  pub one-ends : (w : World) → W w → (block : ℕ) (ok : Bool) (host : ℕ) → Of K (host_answer (DiscardOne block (record { 0 = status })) w g ok host)
+  pub one_ends : (w : World) → W w → (block : ℕ) (ok : Bool) (host : ℕ) → Of K (host_answer (DiscardOne block (record { 0 = status })) w g ok host)
   unfolding host_answer
-  one-ends w u block ok host = either K ok _ _ (next_of _ _ (k.clears w block u)) (says _ _ k.discards)
+  one_ends w u block ok host = either K ok _ _ (next_of _ _ (k.clears w block u)) (says _ _ k.discards)
 
 -- a creation's answer has no reply
-pub create-of : (K : Reply → List ℕ → Type 0) (w : World) (g : Guest) (i last : ℕ) (ok : Bool) (host : ℕ) → Of K (host_answer (Create i last) w g ok host)
+pub create_of : (K : Reply → List ℕ → Type 0) (w : World) (g : Guest) (i last : ℕ) (ok : Bool) (host : ℕ) → Of K (host_answer (Create i last) w g ok host)
 unfolding host_answer OfReply
-create-of K w g i last ok host =
+create_of K w g i last ok host =
     either K ok _ _ (either K (ltb top (host + covered_by w i last)) _ _ (record { of = tt }) (record { of = tt })) (record { of = tt })
 
 -- what holds at every status address holds of every call
 module _ (P : Verdict → Type 0) (W : World → Type 0) (k : Known P W) (K : Reply → List ℕ → Type 0) (says : (g : Guest) (status : ℕ) → SaysAt P K g status) where
-  request-of : (w : World) → W w → (g : Guest) (p : Parsed) → Of K (request p w g)
+  request_of_lem : (w : World) → W w → (g : Guest) (p : Parsed) → Of K (request p w g)
   unfolding request OfReply
-  request-of w u g (Bad reason) = record { of = tt }
-  request-of w u g (Got req status) = serve-of P W k K g status.0 (says g status.0) w u req
+  request_of_lem w u g (Bad reason) = record { of = tt }
+  request_of_lem w u g (Got req status) = serve_of P W k K g status.0 (says g status.0) w u req
 
-  answer-of : (w : World) → W w → (g : Guest) (p : Pending) (ok : Bool) (host : ℕ) → Of K (host_answer p w g ok host)
+  answer_of_lem : (w : World) → W w → (g : Guest) (p : Pending) (ok : Bool) (host : ℕ) → Of K (host_answer p w g ok host)
   unfolding host_answer OfReply
-  answer-of w u g Nothing ok host = record { of = tt }
-  answer-of w u g (Create i last) ok host = create-of K w g i last ok host
-  answer-of w u g (Discard first count status) ok host = unplug-ends P W k K g status.0 (says g status.0) w first count ok host
-  answer-of w u g (DiscardOne block status) ok host = one-ends P W k K g status.0 (says g status.0) w u block ok host
+  answer_of_lem w u g Nothing ok host = record { of = tt }
+  answer_of_lem w u g (Create i last) ok host = create_of K w g i last ok host
+  answer_of_lem w u g (Discard first count status) ok host = unplug_ends P W k K g status.0 (says g status.0) w first count ok host
+  answer_of_lem w u g (DiscardOne block status) ok host = one_ends P W k K g status.0 (says g status.0) w u block ok host
 
   pub every_call : (w : World) → W w → (c : Call) → Of K (step w c)
-  every_call w u = each-call (λ c. K) w (λ g descriptors head. request-of w u g (parsed g.mem g.base descriptors head)) (λ g ok host. answer-of w u g w.device.pending ok host)
+  every_call w u = each_call (λ c. K) w (λ g descriptors head. request_of_lem w u g (parsed g.mem g.base descriptors head)) (λ g ok host. answer_of_lem w u g w.device.pending ok host)
 
 -- P of what every reply says
 abbrev verdict_of : Reply → Verdict
 verdict_of reply = record { response = reply.response; why = reply.why }
 
-pub of-every-reply : (P : Verdict → Type 0) (W : World → Type 0) → Known P W → (w : World) → W w → (c : Call) → OfReply (λ reply. P (verdict_of reply)) (step w c).answer
+pub of_every_reply : (P : Verdict → Type 0) (W : World → Type 0) → Known P W → (w : World) → W w → (c : Call) → OfReply (λ reply. P (verdict_of reply)) (step w c).answer
 unfolding OfReply
-of-every-reply P W k w u c = (every_call P W k (λ reply bytes. P (verdict_of reply)) (λ g status v w' p. record { of = p }) w u c).of
+of_every_reply P W k w u c = (every_call P W k (λ reply bytes. P (verdict_of reply)) (λ g status v w' p. record { of = p }) w u c).of
 
 -- ---- R10.18: in any world
 abbrev AnyWorld : World → Type 0
@@ -160,31 +160,31 @@ AnyWorld w = Prim.Unit {0}
 abbrev ReasonedVerdict : Verdict → Type 0
 ReasonedVerdict v = Reasoned v.response.resp_type v.why
 
-state-reasoned : (r : Range) → Reasoned (state_type r) (range_why r)
+state_reasoned : (r : Range) → Reasoned (state_type r) (range_why r)
 unfolding state_type range_why
-state-reasoned (Inside offset) = record { exactly = refl; most = omega arith }
-state-reasoned (NotInside part) = part-reasoned part
+state_reasoned (Inside offset) = record { exactly = refl; most = omega arith }
+state_reasoned (NotInside part) = part_reasoned part
 
 reasoned : Known ReasonedVerdict AnyWorld
 reasoned =
     record {
       acks = record { exactly = refl; most = omega arith };
       nacks = record { exactly = refl; most = omega arith };
-      states = λ w u addr count. state-reasoned _;
-      changes = λ w u addr count wanted. change-failed (block_size w) (start w) (usable w) (several w) addr count wanted w.blocks w.rows;
+      states = λ w u addr count. state_reasoned _;
+      changes = λ w u addr count wanted. change_failed (block_size w) (start w) (usable w) (several w) addr count wanted w.blocks w.rows;
       discards = record { exactly = refl; most = omega arith };
       clears = λ w block u. tt;
     }
 
-pub says-why : (w : World) (c : Call) → SaysWhy (step w c).answer
-says-why w = of-every-reply ReasonedVerdict AnyWorld reasoned w tt
+pub says_why : (w : World) (c : Call) → SaysWhy (step w c).answer
+says_why w = of_every_reply ReasonedVerdict AnyWorld reasoned w tt
 
 -- ---- a used length is 10 or 0: a response is written whole or not at all
 abbrev pub Short : Answer → Type 0
 Short answer = OfReply (λ reply. (t : Bool) × (reply.used ≡ cond t 10 0)) answer
 
-pub always-short : (w : World) (c : Call) → Short (step w c).answer
+pub always_short : (w : World) (c : Call) → Short (step w c).answer
 unfolding OfReply
-always-short w c =
+always_short w c =
     (every_call ReasonedVerdict AnyWorld reasoned (λ reply bytes. (t : Bool) × (reply.used ≡ cond t 10 0))
     (λ g status v w' p. record { of = (reaches g.mem g.base status, refl) }) w tt c).of

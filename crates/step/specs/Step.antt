@@ -70,7 +70,7 @@ device_of d w = record { device = d; blocks = w.blocks; rows = w.rows }
 pub record Untouched (w w' : World) : Type 0 where
   pub same_blocks : w'.blocks ≡ w.blocks
   pub same_rows : w'.rows ≡ w.rows
-  pub same-plugged : plugged w' ≡ plugged w
+  pub same_plugged : plugged w' ≡ plugged w
 
 -- ---- the endings
 -- R2.8: a refusal changes nothing

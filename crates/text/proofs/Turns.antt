@@ -9,7 +9,7 @@ use borrow.Author.Tests.{le-leb, lt-leb, lt-ltb, le-ltb, leb-true, ltb-true, ltb
 use lib.Dec.{leb, ltb}
 use lib.ListN.{length, drop, get_or, length-drop, drop_of_length-le}
 use lib.Seq.{drop-cons, drop-drop}
-use Rattle.units.proofs.Tests.{by-test, and_left, and_right}
+use Rattle.units.proofs.Tests.{by_test, and_left, and_right}
 use Rattle.text.specs.declared.Number.TheVariants.{At, Bad}
 use Rattle.text.specs.Decimal.{largest}
 use Rattle.text.specs.Reading.{got, nothing, is_digit, digit_of, more, read_number, bounded, answer_in, number_at}
@@ -28,70 +28,70 @@ pub high_digit : (x : ℕ) → 57 < x → is_digit x ≡ false
 unfolding is_digit
 high_digit x h = rw (le-leb 48 x (omega arith), lt-leb x 57 h)
 
-pub digit-least : (x : ℕ) → is_digit x ≡ true → 48 ≤ x
+pub digit_least : (x : ℕ) → is_digit x ≡ true → 48 ≤ x
 unfolding is_digit
-digit-least x e = leb-true 48 x (and_left (leb 48 x) (leb x 57) e)
+digit_least x e = leb-true 48 x (and_left (leb 48 x) (leb x 57) e)
 
-pub digit-most : (x : ℕ) → is_digit x ≡ true → x ≤ 57
+pub digit_most : (x : ℕ) → is_digit x ≡ true → x ≤ 57
 unfolding is_digit
-digit-most x e = leb-true x 57 (and_right (leb 48 x) (leb x 57) e)
+digit_most x e = leb-true x 57 (and_right (leb 48 x) (leb x 57) e)
 
 -- ---- the digit at a position, from the byte there
 
-pub digit-out : (s : List ℕ) (at : ℕ) → length s ≤ at → 10 ≡ digit_of (drop at s)
+pub digit_out : (s : List ℕ) (at : ℕ) → length s ≤ at → 10 ≡ digit_of (drop at s)
 unfolding digit_of
-digit-out s at h = rw (drop_of_length-le s h)
+digit_out s at h = rw (drop_of_length-le s h)
 
-pub digit-in : (s : List ℕ) (at x : ℕ) (b : Bool) → at < length s → x ≡ get_or s at 0 → is_digit x ≡ b → cond b (x - 48) 10 ≡ digit_of (drop at s)
+pub digit_in : (s : List ℕ) (at x : ℕ) (b : Bool) → at < length s → x ≡ get_or s at 0 → is_digit x ≡ b → cond b (x - 48) 10 ≡ digit_of (drop at s)
 unfolding digit_of
-digit-in s at x b h e d = rw (drop-cons s at 0, ← e, d)
+digit_in s at x b h e d = rw (drop-cons s at 0, ← e, d)
 
-pub digit-inside : (s : List ℕ) (at d : ℕ) → d ≡ digit_of (drop at s) → d ≤ 9 → at < length s
-digit-inside s at d e h =
-    by-test (ltb at (length s)) (ltb-true at (length s))
-    (λ q. let f = digit-out s at (ltb-false at (length s) q) in absurd (omega arith))
+pub digit_inside : (s : List ℕ) (at d : ℕ) → d ≡ digit_of (drop at s) → d ≤ 9 → at < length s
+digit_inside s at d e h =
+    by_test (ltb at (length s)) (ltb-true at (length s))
+    (λ q. let f = digit_out s at (ltb-false at (length s) q) in absurd (omega arith))
 
 -- ---- a digit goes on, and anything else ends the number
 
 pub more_turn : (v : ℕ) (l : List ℕ) → digit_of l ≤ 9 → more v l ≡ more (v * 10 + digit_of l) (drop 1 l)
 unfolding more digit_of
 more_turn v [] h = absurd (omega arith)
-more_turn v (x ∷ xs) h = by-test (is_digit x) (λ e. rw e) (λ e. let h' = rw e at h in absurd (omega arith))
+more_turn v (x ∷ xs) h = by_test (is_digit x) (λ e. rw e) (λ e. let h' = rw e at h in absurd (omega arith))
 
-pub more-stop : (v : ℕ) (l : List ℕ) → 9 < digit_of l → more v l ≡ got v l
+pub more_stop : (v : ℕ) (l : List ℕ) → 9 < digit_of l → more v l ≡ got v l
 unfolding more digit_of
-more-stop v [] h = refl
-more-stop v (x ∷ xs) h =
-    by-test (is_digit x) (λ e. let h' = rw e at h in absurd (omega (arith, digit-most x e))) (λ e. rw e)
+more_stop v [] h = refl
+more_stop v (x ∷ xs) h =
+    by_test (is_digit x) (λ e. let h' = rw e at h in absurd (omega (arith, digit_most x e))) (λ e. rw e)
 
 -- a number that is too large stays too large
-more-over : (v : ℕ) (l : List ℕ) → largest < v → bounded (more v l) ≡ nothing
+more_over : (v : ℕ) (l : List ℕ) → largest < v → bounded (more v l) ≡ nothing
 unfolding more bounded
-more-over v [] h = rw (lt-leb v largest h)
-more-over v (x ∷ xs) h =
-    by-test (is_digit x) (λ e. rw e (more-over (v * 10 + (x - 48)) xs (omega arith))) (λ e. rw (e, lt-leb v largest h))
+more_over v [] h = rw (lt-leb v largest h)
+more_over v (x ∷ xs) h =
+    by_test (is_digit x) (λ e. rw e (more_over (v * 10 + (x - 48)) xs (omega arith))) (λ e. rw (e, lt-leb v largest h))
 
 -- ---- what is left at a position of s tells the position, so that one answer says it
 
-pub read-once : (s : List ℕ) (v n : ℕ) → n ≤ length s → At v n ≡ answer_in s (got v (drop n s))
-read-once s v n h = let e : length s - length (drop n s) ≡ n = simp length-drop (omega arith) in rw e
+pub read_once : (s : List ℕ) (v n : ℕ) → n ≤ length s → At v n ≡ answer_in s (got v (drop n s))
+read_once s v n h = let e : length s - length (drop n s) ≡ n = simp length-drop (omega arith) in rw e
 
 -- ---- `digits` at position i of s, with v read so far: the end of s, or the digit d there
 
-pub read-end : (s : List ℕ) (i v : ℕ) → length s ≤ i → v ≤ largest → At v (length s) ≡ answer_in s (bounded (more v (drop i s)))
+pub read_end : (s : List ℕ) (i v : ℕ) → length s ≤ i → v ≤ largest → At v (length s) ≡ answer_in s (bounded (more v (drop i s)))
 unfolding more bounded
-read-end s i v h f = let e : length s - 0 ≡ length s = omega arith in rw (drop_of_length-le s h, le-leb v largest f, e)
+read_end s i v h f = let e : length s - 0 ≡ length s = omega arith in rw (drop_of_length-le s h, le-leb v largest f, e)
 
 module _ (s : List ℕ) (i v d : ℕ) (e : d ≡ digit_of (drop i s)) where
-  pub read-stop : i ≤ length s → 9 < d → v ≤ largest → At v i ≡ answer_in s (bounded (more v (drop i s)))
+  pub read_stop : i ≤ length s → 9 < d → v ≤ largest → At v i ≡ answer_in s (bounded (more v (drop i s)))
   unfolding bounded
-  read-stop l h f = rw (more-stop v (drop i s) (omega arith), le-leb v largest f) (read-once s v i l)
+  read_stop l h f = rw (more_stop v (drop i s) (omega arith), le-leb v largest f) (read_once s v i l)
 
-  pub read-turn : d ≤ 9 → more v (drop i s) ≡ more (v * 10 + d) (drop (i + 1) s)
-  read-turn h = rw (more_turn v (drop i s) (omega arith), ← e, drop-drop 1 i s)
+  pub read_turn : d ≤ 9 → more v (drop i s) ≡ more (v * 10 + d) (drop (i + 1) s)
+  read_turn h = rw (more_turn v (drop i s) (omega arith), ← e, drop-drop 1 i s)
 
-  pub read-over : d ≤ 9 → largest < v * 10 + d → Bad ≡ answer_in s (bounded (more v (drop i s)))
-  read-over h f = rw (read-turn h, more-over (v * 10 + d) (drop (i + 1) s) f)
+  pub read_over : d ≤ 9 → largest < v * 10 + d → Bad ≡ answer_in s (bounded (more v (drop i s)))
+  read_over h f = rw (read_turn h, more_over (v * 10 + d) (drop (i + 1) s) f)
 
 -- ---- `read_number`: the first digit d of a number at a position
 module _ (s : List ℕ) (at d : ℕ) (e : d ≡ digit_of (drop at s)) where
@@ -99,17 +99,17 @@ module _ (s : List ℕ) (at d : ℕ) (e : d ≡ digit_of (drop at s)) where
   unfolding bounded read_number
   no_number h = rw (← e, lt-ltb 9 d h)
 
-  pub from-digit : d ≤ 9 → 0 < d → answer_in s (bounded (more d (drop (at + 1) s))) ≡ number_at s at
+  pub from_digit : d ≤ 9 → 0 < d → answer_in s (bounded (more d (drop (at + 1) s))) ≡ number_at s at
   unfolding read_number
-  from-digit h p = rw (← e, le-ltb 9 d h, lt-ltb 0 d p, drop-drop 1 at s)
+  from_digit h p = rw (← e, le-ltb 9 d h, lt-ltb 0 d p, drop-drop 1 at s)
 
   module _ (n : ℕ) (f : n ≡ digit_of (drop (at + 1) s)) (z : d ≤ 0) where
-    pub more-zeros : n ≤ 9 → Bad ≡ number_at s at
+    pub more_zeros : n ≤ 9 → Bad ≡ number_at s at
     unfolding read_number bounded
-    more-zeros h = rw (← e, le-ltb 9 d (omega arith), le-ltb 0 d z, drop-drop 1 at s, ← f, le-leb n 9 h)
+    more_zeros h = rw (← e, le-ltb 9 d (omega arith), le-ltb 0 d z, drop-drop 1 at s, ← f, le-leb n 9 h)
 
-    pub zero-alone : 9 < n → At 0 (at + 1) ≡ number_at s at
+    pub zero_alone : 9 < n → At 0 (at + 1) ≡ number_at s at
     unfolding read_number bounded
-    zero-alone h =
-        let inside = digit-inside s at d e (omega arith) in
-        rw (← e, le-ltb 9 d (omega arith), le-ltb 0 d z, drop-drop 1 at s, ← f, lt-leb n 9 h) (read-once s 0 (at + 1) (omega arith))
+    zero_alone h =
+        let inside = digit_inside s at d e (omega arith) in
+        rw (← e, le-ltb 9 d (omega arith), le-ltb 0 d z, drop-drop 1 at s, ← f, lt-leb n 9 h) (read_once s 0 (at + 1) (omega arith))

@@ -15,8 +15,8 @@ use Rattle.wire.specs.declared.VirtioMemReq.{VirtioMemReq}
 use Rattle.little_endian.specs.Bytes.{put, part, little_endian}
 use Rattle.wire.specs.Layout.{request_at}
 use Rattle.wire.specs.Standard.{virtio_mem_req}
-use Rattle.little_endian.proofs.Laws.{length-put, part-put, part-put-inside, part-put-before}
-use Rattle.wire.proofs.Laws.{request-part}
+use Rattle.little_endian.proofs.Laws.{length-put, part-put, part-put_inside, part-put_before}
+use Rattle.wire.proofs.Laws.{request_part}
 use Rattle.wire.proofs.Standard.{request as request-laid}
 use Rattle.descriptors.specs.declared.Descriptor.{Descriptor}
 use Rattle.descriptors.specs.declared.Link.TheVariants.{Is}
@@ -24,7 +24,7 @@ use Rattle.chain.specs.declared.Parsed.TheVariants.{Request as Got}
 use Rattle.descriptors.specs.Standard.{virtq_desc, descriptor_addr}
 use Rattle.descriptors.specs.Descriptors.{inside, link_at, link_after}
 use Rattle.chain.specs.Chain.{with_second, with_first, parsed}
-use Rattle.descriptors.proofs.Standard.{descriptor-laid}
+use Rattle.descriptors.proofs.Standard.{descriptor_laid}
 use Rattle.record.specs.Shape.{size_ok}
 use Rattle.record.specs.declared.Pending.{Pending}
 use Rattle.record.specs.declared.Pending.TheVariants.{Nothing, Create, Discard, DiscardOne}
@@ -61,63 +61,63 @@ first = record { addr = record { 0 = 64 }; len = 24; flags = 1; next = 1 }
 abbrev second : Descriptor
 second = record { addr = record { 0 = 96 }; len = 10; flags = 2; next = 0 }
 
-is-inside : (len addr n : ℕ) → addr + n ≤ len → addr + n ≤ 2 ^ 64 → inside len 0 addr n ≡ true
+is_inside : (len addr n : ℕ) → addr + n ≤ len → addr + n ≤ 2 ^ 64 → inside len 0 addr n ≡ true
 unfolding inside
-is-inside len addr n h k = simp (le-leb 0 addr (omega arith), le-leb (addr + n) (0 + len) (omega arith), le-leb (addr + n) (2 ^ 64) k)
+is_inside len addr n h k = simp (le-leb 0 addr (omega arith), le-leb (addr + n) (0 + len) (omega arith), le-leb (addr + n) (2 ^ 64) k)
 
 module _ (mem : List ℕ) (type addr blocks : ℕ) (room : 106 ≤ length mem) where
   abbrev in_memory : List ℕ
   in_memory = asked mem type addr blocks
 
-  laid-puts : in_memory ≡ put (put mem 0 descriptors) 64 (laid_request type addr blocks)
+  laid_puts : in_memory ≡ put (put mem 0 descriptors) 64 (laid_request type addr blocks)
   unfolding asked chained laid put little_endian virtq_desc virtio_mem_req
-  laid-puts = refl
+  laid_puts = refl
 
-  laid-length : length in_memory ≡ length mem
-  laid-length = rw (laid-puts, length-put, length-put)
+  laid_length : length in_memory ≡ length mem
+  laid_length = rw (laid_puts, length-put, length-put)
 
   first_part : part in_memory 0 16 ≡ virtq_desc 64 24 1 1
   unfolding little_endian virtq_desc part
   first_part =
-      rw laid-puts
-      (part-put-before (put mem 0 descriptors) 64 (laid_request type addr blocks) 0 16 (omega arith)
-      ∙ part-put-inside mem 0 descriptors 0 16 (omega arith) (omega arith))
+      rw laid_puts
+      (part-put_before (put mem 0 descriptors) 64 (laid_request type addr blocks) 0 16 (omega arith)
+      ∙ part-put_inside mem 0 descriptors 0 16 (omega arith) (omega arith))
 
-  second-part : part in_memory 16 16 ≡ virtq_desc 96 10 2 0
+  second_part : part in_memory 16 16 ≡ virtq_desc 96 10 2 0
   unfolding little_endian virtq_desc part
-  second-part =
-      rw laid-puts
-      (part-put-before (put mem 0 descriptors) 64 (laid_request type addr blocks) 16 16 (omega arith)
-      ∙ part-put-inside mem 0 descriptors 16 16 (omega arith) (omega arith))
+  second_part =
+      rw laid_puts
+      (part-put_before (put mem 0 descriptors) 64 (laid_request type addr blocks) 16 16 (omega arith)
+      ∙ part-put_inside mem 0 descriptors 16 16 (omega arith) (omega arith))
 
-  request-bytes : part in_memory 64 24 ≡ laid_request type addr blocks
+  request_bytes_lem : part in_memory 64 24 ≡ laid_request type addr blocks
   unfolding little_endian virtio_mem_req
-  request-bytes =
+  request_bytes_lem =
       let l = length-put mem 0 descriptors in
-      rw laid-puts (part-put (put mem 0 descriptors) 64 (laid_request type addr blocks) (omega arith))
+      rw laid_puts (part-put (put mem 0 descriptors) 64 (laid_request type addr blocks) (omega arith))
 
-  first-link : link_at in_memory 0 0 0 ≡ Is first
+  first_link : link_at in_memory 0 0 0 ≡ Is first
   unfolding link_at descriptor_addr
-  first-link =
-      let l = laid-length in
-      rw (is-inside (length in_memory) 0 16 (omega arith) (omega arith))
-      (ap Is (descriptor-laid in_memory 0 first (record { addr = omega arith; len = omega arith; flags = omega arith; next = omega arith }) first_part))
+  first_link =
+      let l = laid_length in
+      rw (is_inside (length in_memory) 0 16 (omega arith) (omega arith))
+      (ap Is (descriptor_laid in_memory 0 first (record { addr = omega arith; len = omega arith; flags = omega arith; next = omega arith }) first_part))
 
-  second-link : link_at in_memory 0 0 1 ≡ Is second
+  second_link_lem : link_at in_memory 0 0 1 ≡ Is second
   unfolding link_at descriptor_addr
-  second-link =
-      let l = laid-length in
-      rw (is-inside (length in_memory) 16 16 (omega arith) (omega arith))
-      (ap Is (descriptor-laid in_memory 16 second (record { addr = omega arith; len = omega arith; flags = omega arith; next = omega arith }) second-part))
+  second_link_lem =
+      let l = laid_length in
+      rw (is_inside (length in_memory) 16 16 (omega arith) (omega arith))
+      (ap Is (descriptor_laid in_memory 16 second (record { addr = omega arith; len = omega arith; flags = omega arith; next = omega arith }) second_part))
 
   -- the device reads the request that the op stands for, and answers it at guest address 96
-  pub chain-good : type < 256 ^ 2 → addr < 256 ^ 8 → blocks < 256 ^ 2 → parsed in_memory 0 0 0 ≡ Got (request_of type addr blocks) (record { 0 = 96 })
+  pub chain_good : type < 256 ^ 2 → addr < 256 ^ 8 → blocks < 256 ^ 2 → parsed in_memory 0 0 0 ≡ Got (request_of type addr blocks) (record { 0 = 96 })
   unfolding parsed with_first link_after with_second
-  chain-good t a b =
-      let l = laid-length in
-      let r = request-part in_memory 64 ∙ ap (λ (bytes : List ℕ). request_at bytes 0) request-bytes
+  chain_good t a b =
+      let l = laid_length in
+      let r = request_part in_memory 64 ∙ ap (λ (bytes : List ℕ). request_at bytes 0) request_bytes_lem
       ∙ request-laid type _ _ _ addr blocks _ _ _ t a b in
-      rw (first-link, is-inside (length in_memory) 64 24 (omega arith) (omega arith), second-link, r)
+      rw (first_link, is_inside (length in_memory) 64 24 (omega arith) (omega arith), second_link_lem, r)
 
 -- ---- the answers
 
@@ -138,24 +138,24 @@ either : (t : Bool) (o o₂ : Outcome) → Told o → Told o₂ → Told (cond t
 either true o o₂ p q = p
 either false o o₂ p q = q
 
-unless-told : (n : ℕ) (w : World) (bytes : List ℕ) (o : Outcome) → Told o → Told (unless n w bytes o)
+unless_told : (n : ℕ) (w : World) (bytes : List ℕ) (o : Outcome) → Told o → Told (unless n w bytes o)
 unfolding unless
-unless-told n w bytes o p = either (eqb n 0) _ _ p (record { line = refl })
+unless_told n w bytes o p = either (eqb n 0) _ _ p (record { line = refl })
 
 module _ (w : World) where
-  plug-told : (c : Change) (count status : ℕ) (g : Guest) → Told (plug_as c w count status g)
+  plug_told : (c : Change) (count status : ℕ) (g : Guest) → Told (plug_as c w count status g)
   unfolding plug_as
-  plug-told (Legal at offset host) count status g = record { line = refl }
-  plug-told (Outside range) count status g = record { line = refl }
-  plug-told WrongState count status g = record { line = refl }
-  plug-told (NoHost reason) count status g = record { line = refl }
+  plug_told (Legal at offset host) count status g = record { line = refl }
+  plug_told (Outside range) count status g = record { line = refl }
+  plug_told WrongState count status g = record { line = refl }
+  plug_told (NoHost reason) count status g = record { line = refl }
 
-  unplug-told : (c : Change) (count status : ℕ) (g : Guest) → Told (unplug_as c w count status g)
+  unplug_told : (c : Change) (count status : ℕ) (g : Guest) → Told (unplug_as c w count status g)
   unfolding unplug_as
-  unplug-told (Legal at offset host) count status g = either (ltb (plugged w) (bytes_of (block_size w) count)) _ _ (record { line = refl }) (record { line = refl })
-  unplug-told (Outside range) count status g = record { line = refl }
-  unplug-told WrongState count status g = record { line = refl }
-  unplug-told (NoHost reason) count status g = record { line = refl }
+  unplug_told (Legal at offset host) count status g = either (ltb (plugged w) (bytes_of (block_size w) count)) _ _ (record { line = refl }) (record { line = refl })
+  unplug_told (Outside range) count status g = record { line = refl }
+  unplug_told WrongState count status g = record { line = refl }
+  unplug_told (NoHost reason) count status g = record { line = refl }
 
   one_told : (c : Change) (block status : ℕ) (g : Guest) → Told (one_as c w block status g)
   unfolding one_as
@@ -164,36 +164,36 @@ module _ (w : World) where
   one_told WrongState block status g = record { line = refl }
   one_told (NoHost reason) block status g = record { line = refl }
 
-  next-told : (f : Found) (status : ℕ) (g : Guest) → Told (next_as f w status g)
+  next_told : (f : Found) (status : ℕ) (g : Guest) → Told (next_as f w status g)
   unfolding next_as
-  next-told NoneSet status g = record { line = refl }
-  next-told (At block) status g = one_told _ block status g
+  next_told NoneSet status g = record { line = refl }
+  next_told (At block) status g = one_told _ block status g
 
-  resize-told : (c : Growth) → Told (resizes c w)
+  resize_told : (c : Growth) → Told (resizes c w)
   unfolding resizes
-  resize-told Settled = record { line = refl }
-  resize-told (Asks i last size) = record { line = refl }
+  resize_told Settled = record { line = refl }
+  resize_told (Asks i last size) = record { line = refl }
 
-host-told : (p : Pending) (w : World) (g : Guest) (ok : Bool) (host : ℕ) → Told (host_answer p w g ok host)
+host_told : (p : Pending) (w : World) (g : Guest) (ok : Bool) (host : ℕ) → Told (host_answer p w g ok host)
 unfolding host_answer
-host-told Nothing w g ok host = record { line = refl }
-host-told (Create i last) w g ok host = either ok _ _ (either (ltb top (host + covered_by w i last)) _ _ (record { line = refl }) (record { line = refl })) (record { line = refl })
-host-told (Discard at count status) w g ok host = either ok _ _ (record { line = refl }) (record { line = refl })
-host-told (DiscardOne block status) w g ok host = either ok _ _ (next-told _ _ _ _) (record { line = refl })
+host_told Nothing w g ok host = record { line = refl }
+host_told (Create i last) w g ok host = either ok _ _ (either (ltb top (host + covered_by w i last)) _ _ (record { line = refl }) (record { line = refl })) (record { line = refl })
+host_told (Discard at count status) w g ok host = either ok _ _ (record { line = refl }) (record { line = refl })
+host_told (DiscardOne block status) w g ok host = either ok _ _ (next_told _ _ _ _) (record { line = refl })
 
 module _ (w : World) (mem : List ℕ) (room : 106 ≤ length mem) where
-  request-told : (type addr blocks : ℕ) → type < 256 ^ 2 → addr < 256 ^ 8 → blocks < 256 ^ 2
+  request_told : (type addr blocks : ℕ) → type < 256 ^ 2 → addr < 256 ^ 8 → blocks < 256 ^ 2
       → ((g : Guest) → Told (serve w (request_of type addr blocks) 96 g)) → Told (step w (Request (record { mem = asked mem type addr blocks; base = 0 }) 0 0))
   unfolding step request
-  request-told type addr blocks t a b f =
-      unless-told _ _ _ _ (rw (chain-good mem type addr blocks room t a b) (f _))
+  request_told type addr blocks t a b f =
+      unless_told _ _ _ _ (rw (chain_good mem type addr blocks room t a b) (f _))
 
   -- no op of a trace is left without an answer, or with one that has no line
-  pub op-told : (op : Op) → OpInRange op → Told (step w (op_call op mem))
+  pub op_told : (op : Op) → OpInRange op → Told (step w (op_call op mem))
   unfolding op_call step serve plug set_requested_size
-  op-told (Host ok addr) h = unless-told _ _ _ _ (host-told _ w _ ok addr.0)
-  op-told (Plug addr blocks) h = request-told 0 addr.0 blocks (omega arith) (omega arith) (omega arith) (λ g. either (ltb (requested w) (plugged w + bytes_of (block_size w) blocks)) _ _ (record { line = refl }) (plug-told w _ _ _ g))
-  op-told (Unplug addr blocks) h = request-told 1 addr.0 blocks (omega arith) (omega arith) (omega arith) (λ g. unplug-told w _ _ _ g)
-  op-told (State addr blocks) h = request-told 3 addr.0 blocks (omega arith) (omega arith) (omega arith) (λ g. record { line = refl })
-  op-told UnplugAll h = request-told 2 0 0 (omega arith) (omega arith) (omega arith) (λ g. next-told w _ _ g)
-  op-told (Size mib) h = unless-told _ _ _ _ (either (not (size_ok (block_size w) (mib * 1048576) (region w))) _ _ (record { line = refl }) (resize-told _ _))
+  op_told (Host ok addr) h = unless_told _ _ _ _ (host_told _ w _ ok addr.0)
+  op_told (Plug addr blocks) h = request_told 0 addr.0 blocks (omega arith) (omega arith) (omega arith) (λ g. either (ltb (requested w) (plugged w + bytes_of (block_size w) blocks)) _ _ (record { line = refl }) (plug_told w _ _ _ g))
+  op_told (Unplug addr blocks) h = request_told 1 addr.0 blocks (omega arith) (omega arith) (omega arith) (λ g. unplug_told w _ _ _ g)
+  op_told (State addr blocks) h = request_told 3 addr.0 blocks (omega arith) (omega arith) (omega arith) (λ g. record { line = refl })
+  op_told UnplugAll h = request_told 2 0 0 (omega arith) (omega arith) (omega arith) (λ g. next_told w _ _ g)
+  op_told (Size mib) h = unless_told _ _ _ _ (either (not (size_ok (block_size w) (mib * 1048576) (region w))) _ _ (record { line = refl }) (resize_told _ _))

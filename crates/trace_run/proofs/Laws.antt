@@ -27,30 +27,30 @@ use Rattle.trace_run.specs.Run.{as_line, answered_as, counted_from, placed_as, p
 
 -- ---- the slots
 
-counted-more : (slot count : ℕ) → counted_from slot (suc count) ≡ counted_from slot count ++ (slot + count) ∷ []
+counted_more : (slot count : ℕ) → counted_from slot (suc count) ≡ counted_from slot count ++ (slot + count) ∷ []
 unfolding counted_from
-counted-more slot zero = let e : slot + 0 ≡ slot = omega arith in rw e
-counted-more slot (suc count) =
+counted_more slot zero = let e : slot + 0 ≡ slot = omega arith in rw e
+counted_more slot (suc count) =
     let e : slot + suc count ≡ suc slot + count = omega arith in
-    rw e (ap (λ l. slot ∷ l) (counted-more (suc slot) count))
+    rw e (ap (λ l. slot ∷ l) (counted_more (suc slot) count))
 
-pub counted-take : (k count slot : ℕ) → k ≤ count → take k (counted_from slot count) ≡ counted_from slot k
+pub counted_take : (k count slot : ℕ) → k ≤ count → take k (counted_from slot count) ≡ counted_from slot k
 unfolding counted_from
-counted-take zero count slot h = refl
-counted-take (suc k) zero slot h = absurd (omega arith)
-counted-take (suc k) (suc count) slot h = ap (λ l. slot ∷ l) (counted-take k count (suc slot) (omega arith))
+counted_take zero count slot h = refl
+counted_take (suc k) zero slot h = absurd (omega arith)
+counted_take (suc k) (suc count) slot h = ap (λ l. slot ∷ l) (counted_take k count (suc slot) (omega arith))
 
-pub counted-turn : (slots : List ℕ) (first i : ℕ) → i < length slots → take i slots ≡ counted_from first i → take (i + 1) (set slots i (first + i)) ≡ counted_from first (i + 1)
-counted-turn slots first i h e = rw (add-one, take-suc-set slots i (first + i) h, e) (sym (counted-more first i))
+pub counted_turn : (slots : List ℕ) (first i : ℕ) → i < length slots → take i slots ≡ counted_from first i → take (i + 1) (set slots i (first + i)) ≡ counted_from first (i + 1)
+counted_turn slots first i h e = rw (add-one, take-suc-set slots i (first + i) h, e) (sym (counted_more first i))
 
-pub counted-end : (slots : List ℕ) (first i n : ℕ) → i ≡ n → length slots ≡ n → take i slots ≡ counted_from first i → slots ≡ counted_from first n
-counted-end slots first i n e l t = sym (take_all i slots (omega arith)) ∙ t ∙ ap (counted_from first) e
+pub counted_end : (slots : List ℕ) (first i n : ℕ) → i ≡ n → length slots ≡ n → take i slots ≡ counted_from first i → slots ≡ counted_from first n
+counted_end slots first i n e l t = sym (take_all i slots (omega arith)) ∙ t ∙ ap (counted_from first) e
 
 -- the first line that was read has slots that fit
-pub slot-fits : (s : List ℕ) (line : Line) → Reads s line → SlotFits line
-slot-fits s (First f) h = ⊎_elim (λ e. let z : ◌≡◌ {A = ℕ} 0 1 = cc in absurd (omega arith)) (λ t. t.range.slot) h.only
-slot-fits s (Later op) h = tt
-slot-fits s Bad h = tt
+pub slot_fits : (s : List ℕ) (line : Line) → Reads s line → SlotFits line
+slot_fits s (First f) h = ⊎_elim (λ e. let z : ◌≡◌ {A = ℕ} 0 1 = cc in absurd (omega arith)) (λ t. t.range.slot) h.only
+slot_fits s (Later op) h = tt
+slot_fits s Bad h = tt
 
 -- ---- a line of output
 
@@ -58,13 +58,13 @@ slot-fits s Bad h = tt
 unchanged : (l : Lent) → Leaves (meant l) l l
 unchanged l = record { marked = refl; mapped = sym (whole l.table); left = refl }
 
-pub printed-comes : (l : Lent) {run : Run} {said : Answer} {text out out' : List ℕ} {r : Shown}
+pub printed_comes : (l : Lent) {run : Run} {said : Answer} {text out out' : List ℕ} {r : Shown}
     → Prints run said text out r out' → Comes (record { run = run; answer = said; left = meant l; printed = as_line text }) l l out out' r
-printed-comes l p = record { stands = p.stands; said = p.said; leaves = unchanged l; printed = p.printed }
+printed_comes l p = record { stands = p.stands; said = p.said; leaves = unchanged l; printed = p.printed }
 
-pub ended-comes : (l : Lent) (out : List ℕ) (r : Shown) → r.run ≡ Ended → r.answer ≡ Done → r.length ≡ 0
+pub ended_comes : (l : Lent) (out : List ℕ) (r : Shown) → r.run ≡ Ended → r.answer ≡ Done → r.length ≡ 0
     → Comes (record { run = Ended; answer = Done; left = meant l; printed = [] }) l l out out r
-ended-comes l out r e a z = record { stands = e; said = a; leaves = unchanged l; printed = record { held = refl; next = omega arith } }
+ended_comes l out r e a z = record { stands = e; said = a; leaves = unchanged l; printed = record { held = refl; next = omega arith } }
 
 -- a call that was answered, with `mem` for the bytes of guest memory then
 module _ (o : Outcome) (mem : List ℕ) {s : Answered} {run : Run} {before after : Lent} {out out' : List ℕ} {r : Shown}
@@ -75,8 +75,8 @@ module _ (o : Outcome) (mem : List ℕ) {s : Answered} {run : Run} {before after
   comes to e =
       record { stands = p.stands ∙ e; said = p.said ∙ a; leaves = record { marked = m; mapped = t; left = l }; printed = rw (a, d, l) at p.printed }
 
-  pub placed-comes : run ≡ placed_as s.answer s.device → Comes (placed_on o mem) before after out out' r
-  placed-comes e = comes _ (rw (a, d) at e)
+  pub placed_comes : run ≡ placed_as s.answer s.device → Comes (placed_on o mem) before after out out' r
+  placed_comes e = comes _ (rw (a, d) at e)
 
-  pub applied-comes : run ≡ On s.device → Comes (answered_as (On o.world.device) o mem) before after out out' r
-  applied-comes e = comes _ (e ∙ ap On d)
+  pub applied_comes : run ≡ On s.device → Comes (answered_as (On o.world.device) o mem) before after out out' r
+  applied_comes e = comes _ (e ∙ ap On d)

@@ -8,17 +8,17 @@ use lib.Dec.{leb}
 use borrow.Author.Tests.{le-leb, leb-true, leb-false}
 
 -- a test holds or fails
-pub by-test : {A : Type 0} (t : Bool) → (t ≡ true → A) → (t ≡ false → A) → A
-by-test true f g = f refl
-by-test false f g = g refl
+pub by_test : {A : Type 0} (t : Bool) → (t ≡ true → A) → (t ≡ false → A) → A
+by_test true f g = f refl
+by_test false f g = g refl
 
 -- two orders that say the same are the same test
-pub leb-same : (a b c d : ℕ) → (a ≤ b → c ≤ d) → (c ≤ d → a ≤ b) → leb a b ≡ leb c d
-leb-same a b c d f g =
-    by-test (leb a b) (λ t. t ∙ sym (le-leb c d (f (leb-true a b t))))
+pub leb_same : (a b c d : ℕ) → (a ≤ b → c ≤ d) → (c ≤ d → a ≤ b) → leb a b ≡ leb c d
+leb_same a b c d f g =
+    by_test (leb a b) (λ t. t ∙ sym (le-leb c d (f (leb-true a b t))))
     (λ t.
     t
-    ∙ by-test (leb c d)
+    ∙ by_test (leb c d)
     (λ u. let h : a ≤ b = g (leb-true c d u) in let k : b < a = leb-false a b t in absurd (omega arith))
     (λ u. sym u))
 

@@ -36,7 +36,7 @@ map_region = 2 * GiB
 unfoldable pub map_regions : (region : ℕ) (several : Bool) → ℕ
 map_regions region several = cond several ((region + (map_region - 1)) / map_region) 1
 
--- the exponent of the largest power of two that divides n (`twos-divides`, `twos-largest`)
+-- the exponent of the largest power of two that divides n (`twos_divides`, `twos_largest`)
 unfoldable pub twos : ℕ → ℕ
 twos n = count_trailing_zeros 64 n
 

@@ -12,22 +12,22 @@ use Rattle.wire.specs.declared.VirtioMemConfig.{VirtioMemConfig}
 use Rattle.wire.specs.Layout.{request_at, response_bytes, config_fields, config_values, fields_laid, config_bytes}
 
 -- a request is its 24 bytes and nothing else
-pub request-part : (xs : List ℕ) (at : ℕ) → request_at xs at ≡ request_at (part xs at 24) 0
+pub request_part : (xs : List ℕ) (at : ℕ) → request_at xs at ≡ request_at (part xs at 24) 0
 unfolding request_at
-request-part xs at =
+request_part xs at =
     let t : part (part xs at 24) 0 2 ≡ part xs (at + 0) 2 = part-part xs at 24 0 2 (omega arith) in
     let a : part (part xs at 24) 8 8 ≡ part xs (at + 8) 8 = part-part xs at 24 8 8 (omega arith) in
     let n : part (part xs at 24) 16 2 ≡ part xs (at + 16) 2 = part-part xs at 24 16 2 (omega arith) in
     let z : at + 0 ≡ at = omega arith in
     cc
 
-pub length-response : (r : VirtioMemResp) → length (response_bytes r) ≡ 10
+pub length_response : (r : VirtioMemResp) → length (response_bytes r) ≡ 10
 unfolding response_bytes little_endian
-length-response r = refl
+length_response r = refl
 
-pub length-config : (c : VirtioMemConfig) → length (config_bytes c) ≡ 56
+pub length_config : (c : VirtioMemConfig) → length (config_bytes c) ≡ 56
 unfolding config_bytes fields_laid put little_endian config_fields config_values
-length-config c = refl
+length_config c = refl
 
 -- what holds of each of the eight fields
 pub eight : (P : ℕ → Type 0) → P 0 → P 1 → P 2 → P 3 → P 4 → P 5 → P 6 → P 7 → (k : ℕ) → k < 8 → P k

@@ -8,7 +8,7 @@ use Rattle.wire.specs.declared.VirtioMemConfig.{VirtioMemConfig}
 use Rattle.little_endian.specs.Bytes.{little_endian, part, put}
 use Rattle.wire.specs.Layout.{request_at, response_bytes, config_fields, config_values, fields_laid, config_bytes}
 use Rattle.wire.specs.Standard.{virtio_mem_req, virtio_mem_resp, virtio_mem_config}
-use Rattle.little_endian.proofs.Laws.{value-fits}
+use Rattle.little_endian.proofs.Laws.{value_fits}
 
 -- a request as a driver writes it, its padding being anything, is read as its type, address and blocks
 pub request : (type p₀ p₁ p₂ addr blocks q₀ q₁ q₂ : ℕ) → type < 256 ^ 2 → addr < 256 ^ 8 → blocks < 256 ^ 2
@@ -16,14 +16,14 @@ pub request : (type p₀ p₁ p₂ addr blocks q₀ q₁ q₂ : ℕ) → type < 
     ≡ record { req_type = type; addr = record { 0 = addr }; nb_blocks = blocks }
 unfolding request_at virtio_mem_req part little_endian
 request type p₀ p₁ p₂ addr blocks q₀ q₁ q₂ t a b =
-    let e = value-fits 2 type t in
-    let f = value-fits 8 addr a in
-    let g = value-fits 2 blocks b in
+    let e = value_fits 2 type t in
+    let f = value_fits 8 addr a in
+    let g = value_fits 2 blocks b in
     cc
 
-pub request-size : (type p₀ p₁ p₂ addr blocks q₀ q₁ q₂ : ℕ) → length (virtio_mem_req type p₀ p₁ p₂ addr blocks q₀ q₁ q₂) ≡ 24
+pub request_size : (type p₀ p₁ p₂ addr blocks q₀ q₁ q₂ : ℕ) → length (virtio_mem_req type p₀ p₁ p₂ addr blocks q₀ q₁ q₂) ≡ 24
 unfolding virtio_mem_req little_endian
-request-size type p₀ p₁ p₂ addr blocks q₀ q₁ q₂ = refl
+request_size type p₀ p₁ p₂ addr blocks q₀ q₁ q₂ = refl
 
 -- the response, its padding zero
 pub response : (r : VirtioMemResp) → response_bytes r ≡ virtio_mem_resp r.resp_type 0 0 0 r.state

@@ -10,9 +10,9 @@ use lib.Dec.{leb, eqb}
 use lib.ListN.{length, drop, get_or, set, length-append, drop_of_length-le}
 use lib.Seq.{drop-cons, set-get_or, get_or-set_other}
 use borrow.Author.Tests.{le-leb, leb-true, eqb-true, eqb-false}
-use Rattle.units.proofs.Tests.{by-test, and_left, and_right}
+use Rattle.units.proofs.Tests.{by_test, and_left, and_right}
 use Rattle.little_endian.specs.Bytes.{put}
-use Rattle.little_endian.proofs.Laws.{put-fits}
+use Rattle.little_endian.proofs.Laws.{put_fits}
 use Rattle.record.specs.declared.Device.{Device}
 use Rattle.record.specs.declared.Pending.{Pending}
 use Rattle.record.specs.declared.Pending.TheVariants.{Nothing, Create, Discard, DiscardOne}
@@ -32,9 +32,9 @@ unfolding put
 put_next xs i ys h = rw (drop-cons ys i 0 h, add-one i)
 
 -- no word is left
-pub put-none : (xs : List ℕ) (i : ℕ) (ys : List ℕ) → length ys ≤ i → put xs i (drop i ys) ≡ xs
+pub put_none : (xs : List ℕ) (i : ℕ) (ys : List ℕ) → length ys ≤ i → put xs i (drop i ys) ≡ xs
 unfolding put
-put-none xs i ys h = rw (drop_of_length-le ys h)
+put_none xs i ys h = rw (drop_of_length-le ys h)
 
 -- the four words of a pending call, one at a time
 pub four : (p : Pending)
@@ -58,9 +58,9 @@ pub record Fits (ws : List ℕ) : Type 0 where
   pub placed : word ws 10 ≤ 1
   pub pending : pending_fits (word ws 11) (word ws 12) (word ws 13) (word ws 14) ≡ true
 
-pub record-fits : (ws : List ℕ) → is_record ws ≡ true → Fits ws
+pub record_fits : (ws : List ℕ) → is_record ws ≡ true → Fits ws
 unfolding is_record
-record-fits ws h =
+record_fits ws h =
     let p = pending_fits (word ws 11) (word ws 12) (word ws 13) (word ws 14) in
     let h₀ = both (leb 15 (length ws)) (leb (word ws 1) 65535 && (leb (word ws 8) 1 && (leb (word ws 10) 1 && p))) h in
     let h₁ = both (leb (word ws 1) 65535) (leb (word ws 8) 1 && (leb (word ws 10) 1 && p)) h₀.1 in
@@ -79,8 +79,8 @@ record-fits ws h =
 pub unfit : (ws : List ℕ) (t : Bool) → (Fits ws → t ≡ true) → t ≡ false → NoRecord ≡ decoded_of ws
 unfolding decoded_of
 unfit ws t f e =
-    by-test (is_record ws)
-    (λ s. let h : t ≡ true = f (record-fits ws s) in absurd (let z : ◌≡◌ {A = ℕ} 0 1 = cc in omega arith))
+    by_test (is_record ws)
+    (λ s. let h : t ≡ true = f (record_fits ws s) in absurd (let z : ◌≡◌ {A = ℕ} 0 1 = cc in omega arith))
     (λ s. simp s)
 
 pub fit : (ws : List ℕ) → Fits ws → decoded_of ws ≡ Is (record_of ws)
@@ -99,13 +99,13 @@ is_known Unknown = false
 pub known : (k a b c : ℕ) (p : Pending) → pending_call k a b c ≡ Known p → (pending_fits k a b c ≡ true) × (pending_of k a b c ≡ p)
 unfolding pending_call
 known k a b c p h =
-    by-test (pending_fits k a b c) (λ t. let g : Known (pending_of k a b c) ≡ Known p = simp t at h in (t, ap (call p) g))
+    by_test (pending_fits k a b c) (λ t. let g : Known (pending_of k a b c) ≡ Known p = simp t at h in (t, ap (call p) g))
     (λ t. let g : Unknown ≡ Known p = simp t at h in let z : false ≡ true = ap is_known g in absurd (let y : ◌≡◌ {A = ℕ} 0 1 = cc in omega arith))
 
 pub unknown : (k a b c : ℕ) → pending_call k a b c ≡ Unknown → pending_fits k a b c ≡ false
 unfolding pending_call
 unknown k a b c h =
-    by-test (pending_fits k a b c)
+    by_test (pending_fits k a b c)
     (λ t. let g : Known (pending_of k a b c) ≡ Unknown = simp t at h in let z : true ≡ false = ap is_known g in absurd (let y : ◌≡◌ {A = ℕ} 0 1 = cc in omega arith))
     (λ t. t)
 
@@ -115,20 +115,20 @@ bit-flag : (flag : Bool) → leb (bit flag) 1 ≡ true
 bit-flag true = refl
 bit-flag false = refl
 
-bit-back : (flag : Bool) → eqb (bit flag) 1 ≡ flag
-bit-back true = refl
-bit-back false = refl
+bit_back : (flag : Bool) → eqb (bit flag) 1 ≡ flag
+bit_back true = refl
+bit_back false = refl
 
-length-words : (d : Device) (p : Pending) → length (words_of (pending_to p d)) ≡ 15
+length_words : (d : Device) (p : Pending) → length (words_of (pending_to p d)) ≡ 15
 unfolding words_of
-length-words d Nothing = refl
-length-words d (Create first last) = refl
-length-words d (Discard first count status) = refl
-length-words d (DiscardOne block status) = refl
+length_words d Nothing = refl
+length_words d (Create first last) = refl
+length_words d (Discard first count status) = refl
+length_words d (DiscardOne block status) = refl
 
 -- whatever is behind them
 words_long : (d : Device) (p : Pending) (rest : List ℕ) → 15 ≤ length (words_of (pending_to p d) ++ rest)
-words_long d p rest = rw (length-append, length-words d p) (omega arith)
+words_long d p rest = rw (length-append, length_words d p) (omega arith)
 
 words_back : (d : Device) (p : Pending) (rest : List ℕ) → d.config.node_id ≤ 65535
     → decoded_of (words_of (pending_to p d) ++ rest) ≡ Is (pending_to p d)
@@ -139,8 +139,8 @@ words_back d Nothing rest h =
       le-leb _ 65535 h,
       bit-flag d.several,
       bit-flag d.placed,
-      bit-back d.several,
-      bit-back d.placed,
+      bit_back d.several,
+      bit_back d.placed,
     )
 words_back d (Create first last) rest h =
     simp (
@@ -148,8 +148,8 @@ words_back d (Create first last) rest h =
       le-leb _ 65535 h,
       bit-flag d.several,
       bit-flag d.placed,
-      bit-back d.several,
-      bit-back d.placed,
+      bit_back d.several,
+      bit_back d.placed,
     )
 words_back d (Discard first count status) rest h =
     simp (
@@ -157,8 +157,8 @@ words_back d (Discard first count status) rest h =
       le-leb _ 65535 h,
       bit-flag d.several,
       bit-flag d.placed,
-      bit-back d.several,
-      bit-back d.placed,
+      bit_back d.several,
+      bit_back d.placed,
     )
 words_back d (DiscardOne block status) rest h =
     simp (
@@ -166,28 +166,28 @@ words_back d (DiscardOne block status) rest h =
       le-leb _ 65535 h,
       bit-flag d.several,
       bit-flag d.placed,
-      bit-back d.several,
-      bit-back d.placed,
+      bit_back d.several,
+      bit_back d.placed,
     )
 
 -- what was encoded decodes to the record, where there is room for it
-pub encoded-decodes : (d : Device) (ws : List ℕ) → d.config.node_id ≤ 65535 → 15 ≤ length ws
+pub encoded_decodes : (d : Device) (ws : List ℕ) → d.config.node_id ≤ 65535 → 15 ≤ length ws
     → decoded_of (put ws 0 (words_of d)) ≡ Is d
-encoded-decodes d ws h room =
-    let n : length (words_of d) ≡ 15 = length-words d d.pending in
-    rw (put-fits ws 0 (words_of d) (rw n room)) (words_back d d.pending (drop (0 + length (words_of d)) ws) h)
+encoded_decodes d ws h room =
+    let n : length (words_of d) ≡ 15 = length_words d d.pending in
+    rw (put_fits ws 0 (words_of d) (rw n room)) (words_back d d.pending (drop (0 + length (words_of d)) ws) h)
 
 -- ---- words are written back
 
-flag-written : (w : ℕ) → w ≤ 1 → bit (eqb w 1) ≡ w
-flag-written w h =
-    by-test (eqb w 1) (λ t. simp t (sym (eqb-true w 1 t)))
+flag_written : (w : ℕ) → w ≤ 1 → bit (eqb w 1) ≡ w
+flag_written w h =
+    by_test (eqb w 1) (λ t. simp t (sym (eqb-true w 1 t)))
     (λ t. let n = eqb-false w 1 t in simp t (omega (arith, n)))
 
-pending-written : (k a b c : ℕ) → pending_fits k a b c ≡ true → pending_words (pending_of k a b c) ≡ k ∷ a ∷ b ∷ c ∷ []
+pending_written : (k a b c : ℕ) → pending_fits k a b c ≡ true → pending_words (pending_of k a b c) ≡ k ∷ a ∷ b ∷ c ∷ []
 unfolding pending_fits pending_of
-pending-written k a b c h =
-    by-test (eqb k 0)
+pending_written k a b c h =
+    by_test (eqb k 0)
     (λ t.
     let e : k ≡ 0 = eqb-true k 0 t in
     let g : (eqb a 0 && (eqb b 0 && eqb c 0)) ≡ true = simp t at h in
@@ -195,23 +195,23 @@ pending-written k a b c h =
     let g₁ = both (eqb b 0) (eqb c 0) g₀.1 in
     rw (e, eqb-true a 0 g₀.0, eqb-true b 0 g₁.0, eqb-true c 0 g₁.1))
     (λ t₀.
-    by-test (eqb k 1)
+    by_test (eqb k 1)
     (λ t. rw (eqb-true k 1 t, eqb-true c 0 (simp (t₀, t) at h)))
     (λ t₁.
-    by-test (eqb k 2) (λ t. rw (eqb-true k 2 t))
+    by_test (eqb k 2) (λ t. rw (eqb-true k 2 t))
     (λ t₂.
-    by-test (eqb k 3)
+    by_test (eqb k 3)
     (λ t. rw (eqb-true k 3 t, eqb-true b 0 (simp (t₀, t₁, t₂, t) at h)))
     (λ t₃. let z : false ≡ true = simp (t₀, t₁, t₂, t₃) at h in absurd (let y : ◌≡◌ {A = ℕ} 0 1 = cc in omega arith)))))
 
-record-written : (ws : List ℕ) → is_record ws ≡ true → put ws 0 (words_of (record_of ws)) ≡ ws
+record_written : (ws : List ℕ) → is_record ws ≡ true → put ws 0 (words_of (record_of ws)) ≡ ws
 unfolding words_of record_of put
-record-written ws h =
-    let f = record-fits ws h in
+record_written ws h =
+    let f = record_fits ws h in
     simp (
-      flag-written (word ws 8) f.several,
-      flag-written (word ws 10) f.placed,
-      pending-written (word ws 11) (word ws 12) (word ws 13) (word ws 14) f.pending,
+      flag_written (word ws 8) f.several,
+      flag_written (word ws 10) f.placed,
+      pending_written (word ws 11) (word ws 12) (word ws 13) (word ws 14) f.pending,
       set-get_or,
     )
 
@@ -220,23 +220,23 @@ abbrev meant : Device → Decoded → Device
 meant e (Is d) = d
 meant e NoRecord = e
 
-abbrev is-record : Decoded → ℕ
-is-record (Is d) = 1
-is-record NoRecord = 0
+abbrev is_record_lem : Decoded → ℕ
+is_record_lem (Is d) = 1
+is_record_lem NoRecord = 0
 
 -- words that decode are a record's
-pub decoded-fits : (ws : List ℕ) (d : Device) → decoded_of ws ≡ Is d → (is_record ws ≡ true) × (record_of ws ≡ d)
+pub decoded_fits : (ws : List ℕ) (d : Device) → decoded_of ws ≡ Is d → (is_record ws ≡ true) × (record_of ws ≡ d)
 unfolding decoded_of
-decoded-fits ws d h =
-    by-test (is_record ws) (λ t. let g : Is (record_of ws) ≡ Is d = simp t at h in (t, ap (meant d) g))
-    (λ t. let g : NoRecord ≡ Is d = simp t at h in let y : ◌≡◌ {A = ℕ} 0 1 = ap is-record g in absurd (omega arith))
+decoded_fits ws d h =
+    by_test (is_record ws) (λ t. let g : Is (record_of ws) ≡ Is d = simp t at h in (t, ap (meant d) g))
+    (λ t. let g : NoRecord ≡ Is d = simp t at h in let y : ◌≡◌ {A = ℕ} 0 1 = ap is_record_lem g in absurd (omega arith))
 
-pub decoded-long : (ws : List ℕ) (d : Device) → decoded_of ws ≡ Is d → 15 ≤ length ws
-decoded-long ws d h = (record-fits ws (decoded-fits ws d h).0).long
+pub decoded_long : (ws : List ℕ) (d : Device) → decoded_of ws ≡ Is d → 15 ≤ length ws
+decoded_long ws d h = (record_fits ws (decoded_fits ws d h).0).long
 
 -- what decodes encodes to the same words
-pub decoded-encodes : (ws : List ℕ) (d : Device) → decoded_of ws ≡ Is d → put ws 0 (words_of d) ≡ ws
-decoded-encodes ws d h = let f = decoded-fits ws d h in rw (← f.1) (record-written ws f.0)
+pub decoded_encodes : (ws : List ℕ) (d : Device) → decoded_of ws ≡ Is d → put ws 0 (words_of d) ≡ ws
+decoded_encodes ws d h = let f = decoded_fits ws d h in rw (← f.1) (record_written ws f.0)
 
 -- ---- a record in part: where words are a record's, the ones that a call may change are enough
 
@@ -255,28 +255,28 @@ beside_two ws a b j h =
 
 module _ (ws : List ℕ) (d : Device) (is : decoded_of ws ≡ Is d) where
   -- a record of the same node reads back
-  pub reads-back : (d' : Device) → d'.config.node_id ≡ d.config.node_id → decoded_of (put ws 0 (words_of d')) ≡ Is d'
+  pub reads_back : (d' : Device) → d'.config.node_id ≡ d.config.node_id → decoded_of (put ws 0 (words_of d')) ≡ Is d'
   unfolding record_of
-  reads-back d' same =
-      let f = decoded-fits ws d is in
-      let t = record-fits ws f.0 in
+  reads_back d' same =
+      let f = decoded_fits ws d is in
+      let t = record_fits ws f.0 in
       let e : word ws 1 ≡ d.config.node_id = ap (λ (d : Device). d.config.node_id) f.1 in
-      encoded-decodes d' ws (rw (same, ← e) t.node) t.long
+      encoded_decodes d' ws (rw (same, ← e) t.node) t.long
 
   -- of a request
-  pub request-encodes : (plugged : ℕ) (pending : Pending) → let d' = pending_to pending (plugged_to plugged d) in
+  pub request_encodes : (plugged : ℕ) (pending : Pending) → let d' = pending_to pending (plugged_to plugged d) in
       (after_request ws d' ≡ put ws 0 (words_of d')) × (decoded_of (after_request ws d') ≡ Is d')
   unfolding after_request words_of record_of put
-  request-encodes plugged pending =
-      let f = decoded-fits ws d is in
-      let t = record-fits ws f.0 in
+  request_encodes plugged pending =
+      let f = decoded_fits ws d is in
+      let t = record_fits ws f.0 in
       let d' = pending_to pending (plugged_to plugged d) in
       let e : after_request ws d' ≡ put ws 0 (words_of d') =
       rw (← f.1)
       (simp (
         le-leb _ _ t.long,
-        flag-written (word ws 8) t.several,
-        flag-written (word ws 10) t.placed,
+        flag_written (word ws 8) t.several,
+        flag_written (word ws 10) t.placed,
         set-get_or,
         beside ws plugged 6 (omega arith),
         beside ws plugged 7 (omega arith),
@@ -284,25 +284,25 @@ module _ (ws : List ℕ) (d : Device) (is : decoded_of ws ≡ Is d) where
         beside ws plugged 9 (omega arith),
         beside ws plugged 10 (omega arith),
       )) in
-      (e, ap decoded_of e ∙ reads-back d' refl)
+      (e, ap decoded_of e ∙ reads_back d' refl)
 
   -- of a host's answer
-  pub answer-encodes : (usable plugged : ℕ) (placed : Bool) (pending : Pending) → let d' = pending_to pending (placed_to placed (plugged_to plugged (usable_to usable d))) in
+  pub answer_encodes : (usable plugged : ℕ) (placed : Bool) (pending : Pending) → let d' = pending_to pending (placed_to placed (plugged_to plugged (usable_to usable d))) in
       (after_answer ws d' ≡ put ws 0 (words_of d')) × (decoded_of (after_answer ws d') ≡ Is d')
   unfolding after_answer words_of record_of put
-  answer-encodes usable plugged placed pending =
-      let f = decoded-fits ws d is in
-      let t = record-fits ws f.0 in
+  answer_encodes usable plugged placed pending =
+      let f = decoded_fits ws d is in
+      let t = record_fits ws f.0 in
       let d' = pending_to pending (placed_to placed (plugged_to plugged (usable_to usable d))) in
       let e : after_answer ws d' ≡ put ws 0 (words_of d') =
       rw (← f.1)
       (simp (
         le-leb _ _ t.long,
-        flag-written (word ws 8) t.several,
+        flag_written (word ws 8) t.several,
         set-get_or,
         beside_two ws usable plugged 6 (omega arith),
         beside_two ws usable plugged 7 (omega arith),
         beside_two ws usable plugged 8 (omega arith),
         beside_two ws usable plugged 9 (omega arith),
       )) in
-      (e, ap decoded_of e ∙ reads-back d' refl)
+      (e, ap decoded_of e ∙ reads_back d' refl)

@@ -6,7 +6,7 @@ use mathlib.Core.List.{List}
 use native.Mathlib.Omega.{arith}
 use lib.ListN.{length, get_or, set, length-set}
 use Rattle.little_endian.specs.Bytes.{put}
-use Rattle.words.proofs.Laws.{put_next, put-none}
+use Rattle.words.proofs.Laws.{put_next, put_none}
 use Rattle.answer_words.proofs.store_answer.Goals as goal
 
 -- nine stores, one after the other
@@ -24,7 +24,7 @@ nine xs ys h =
     ∙ put_next _ 6 ys (omega arith)
     ∙ put_next _ 7 ys (omega arith)
     ∙ put_next _ 8 ys (omega arith)
-    ∙ put-none _ 9 ys (omega arith))
+    ∙ put_none _ 9 ys (omega arith))
 
 pub bounds-words-1 : goal.bounds-words-1
 bounds-words-1 c = simp length-set (omega arith)

@@ -6,7 +6,7 @@ use mathlib.Core.Bool.{◌&&◌}
 use native.Mathlib.Omega.{arith}
 use lib.ListN.{length, drop}
 use Rattle.bitmap.specs.Blocks.{blocks, every, all_are}
-use Rattle.bitmap.proofs.Laws.{blocks-length, blocks-take, blocks-drop, range-end}
+use Rattle.bitmap.proofs.Laws.{blocks-length, blocks-take, blocks-drop, range_end}
 use Rattle.bitmap.proofs.Turns.{place, start, all_here, all_then}
 use Rattle.bitmap.proofs.all_in_state.Goals as goal
 use Rattle.bitmap.proofs.all_in_state.Goals.{After-are-2, After-bytes_are}
@@ -15,7 +15,7 @@ pub returns-then-bitmap-j : goal.returns-then-bitmap-j
 unfolding every
 returns-then-bitmap-j c =
     let a = c.args in
-    rw (range-end (blocks a.bitmap.now) a.first a.count (omega (arith, blocks-length a.bitmap.now)))
+    rw (range_end (blocks a.bitmap.now) a.first a.count (omega (arith, blocks-length a.bitmap.now)))
 
 pub returns-then-count-k : goal.returns-then-count-k
 returns-then-count-k c =
@@ -61,7 +61,7 @@ returns-then-bitmap-to c =
     let a = c.args in
     let p = c.parts_of-p in
     let n = min p.result.to (length a.bitmap.now) - p.result.from in
-    rw (passed (goal.at.returns-then-bitmap-to c).After-bytes_are (headed (goal.at.returns-then-bitmap-to c).After-are-2), c.if-not-bytes_are.false, range-end (blocks a.bitmap.now) (8 * (p.result.from + n)) (a.count - p.result.head - 8 * n) (omega (arith, p.ensures, blocks-length a.bitmap.now)))
+    rw (passed (goal.at.returns-then-bitmap-to c).After-bytes_are (headed (goal.at.returns-then-bitmap-to c).After-are-2), c.if-not-bytes_are.false, range_end (blocks a.bitmap.now) (8 * (p.result.from + n)) (a.count - p.result.head - 8 * n) (omega (arith, p.ensures, blocks-length a.bitmap.now)))
 
 pub returns : goal.returns
 returns c =

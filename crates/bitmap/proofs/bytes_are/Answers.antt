@@ -9,7 +9,7 @@ use lib.Dec.{eqb}
 use lib.ListN.{drop, get_or, drop_of_length-le}
 use borrow.Author.Tests.{eq-eqb, ne_eqb}
 use Rattle.bitmap.specs.Blocks.{blocks, every}
-use Rattle.bitmap.proofs.Words.{bytes-turn, byte-turn}
+use Rattle.bitmap.proofs.Words.{bytes_turn, byte_turn}
 use Rattle.bitmap.proofs.bytes_are.Goals as goal
 use Rattle.bitmap.proofs.bytes_are.Goals.{After-read_u64, After-shared_slice_known-in-loop-j-2-1, else-bytes-ge8, then-bytes-ge8+else-loop-j-test}
 use Rattle.bitmap.proofs.bytes_are.Invariants.{Left}
@@ -27,7 +27,7 @@ eight c =
     let a = c.args in
     let o = c.loop-j in
     rw (c.read_u64.ensures, c.whole_word-word.ensures)
-    (rw (bytes-turn a.v a.bytes.now (λ i. omega (arith, c.shared_slice_known-1.given i)) o.j 8 (omega arith)) at o.invariant.1)
+    (rw (bytes_turn a.v a.bytes.now (λ i. omega (arith, c.shared_slice_known-1.given i)) o.j 8 (omega arith)) at o.invariant.1)
 
 pub returns-then-read_u64-word : goal.returns-then-read_u64-word
 returns-then-read_u64-word c = rw (ne_eqb c.read_u64.result c.whole_word-word.result c.if-read_u64-word.true) at (eight (goal.at.returns-then-read_u64-word c).After-read_u64)
@@ -56,7 +56,7 @@ one c =
     let a = c.args in
     let o = c.loop-j-2 in
     rw c.whole_byte-byte.ensures
-    (rw (byte-turn a.v a.bytes.now (λ i. omega (arith, c.shared_slice_known-in-loop-j-2-1.given i)) o.j (omega arith)) at o.invariant.1)
+    (rw (byte_turn a.v a.bytes.now (λ i. omega (arith, c.shared_slice_known-in-loop-j-2-1.given i)) o.j (omega arith)) at o.invariant.1)
 
 pub returns-then-bytes-j : goal.returns-then-bytes-j
 returns-then-bytes-j c =

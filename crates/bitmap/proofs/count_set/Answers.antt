@@ -4,7 +4,7 @@
 use native.Mathlib.Nat.{zero-add, add-zero}
 use native.Mathlib.Omega.{arith}
 use Rattle.bitmap.specs.Blocks.{ones}
-use Rattle.bitmap.proofs.Turns.{start, range-out, range-turn}
+use Rattle.bitmap.proofs.Turns.{start, range_out, range_turn}
 use Rattle.bitmap.proofs.count_set.Goals as goal
 use Rattle.bitmap.proofs.count_set.Goals.{else-bit, then-bit}
 
@@ -20,11 +20,11 @@ unfolding ones
 loop-j-preserved c =
     let a = c.args in
     let o = c.loop-j in
-    let h = rw (range-turn a.bitmap.now o.j o.k o.left c.bit.result c.loop-j-test.true o.invariant.0 c.if-left-eq0.false c.bit.ensures) at o.invariant.2 in
+    let h = rw (range_turn a.bitmap.now o.j o.k o.left c.bit.result c.loop-j-test.true o.invariant.0 c.if-left-eq0.false c.bit.ensures) at o.invariant.2 in
     elim c.if-bit.branch [ then-bit w ↦ (omega arith, omega arith, (let g = rw w.if-bit.true at h in omega arith)) | else-bit w ↦ (omega arith, omega arith, (let g = rw w.if-bit.false at h in omega arith)) ]
 
 pub returns : goal.returns
 unfolding ones
 returns c =
     let o = c.loop-j in
-    rw (range-out c.args.bitmap.now o.j o.k o.left c.loop-j-test.false, add-zero) at o.invariant.2
+    rw (range_out c.args.bitmap.now o.j o.k o.left c.loop-j-test.false, add-zero) at o.invariant.2

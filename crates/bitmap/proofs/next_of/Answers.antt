@@ -13,7 +13,7 @@ use borrow.Author.Tests.{eqb-true, leb-true}
 use Rattle.units.proofs.Tests.{and_left, and_right}
 use Rattle.bitmap.specs.Blocks.{blocks, range, first_from, next_in_state}
 use Rattle.bitmap.specs.Whole.{whole}
-use Rattle.bitmap.proofs.Turns.{next, start, range-out, range-turn, first-hit, first-miss, byte-passed}
+use Rattle.bitmap.proofs.Turns.{next, start, range_out, range_turn, first_hit, first_miss, byte_passed}
 use Rattle.bitmap.proofs.next_of.Goals as goal
 use Rattle.bitmap.proofs.next_of.Goals.{After-bit, Then-k-bitmap}
 
@@ -62,7 +62,7 @@ loop-j-preserved-then-k-bitmap c =
     let o = c.loop-j in
     let z = skips (goal.at.loop-j-preserved-then-k-bitmap c).Then-k-bitmap in
     let e : a.end - (o.at + 8) ≡ a.end - o.at - 8 = omega arith in
-    (omega arith, rw (z.first, e) (sym (byte-passed a.v a.bitmap.now o.j (a.end - o.at) o.at c.loop-j-test.true z.none z.eight) ∙ rw z.first at o.invariant.1))
+    (omega arith, rw (z.first, e) (sym (byte_passed a.v a.bitmap.now o.j (a.end - o.at) o.at c.loop-j-test.true z.none z.eight) ∙ rw z.first at o.invariant.1))
 
 -- past the read of a bit, what is left begins with it
 turned : (c : After-bit) →
@@ -72,24 +72,24 @@ turned : (c : After-bit) →
 turned c =
     let a = c.args in
     let o = c.loop-j in
-    rw (range-turn a.bitmap.now o.j o.k (a.end - o.at) c.bit.result c.loop-j-test.true o.invariant.0 (omega arith) c.bit.ensures) at o.invariant.1
+    rw (range_turn a.bitmap.now o.j o.k (a.end - o.at) c.bit.result c.loop-j-test.true o.invariant.0 (omega arith) c.bit.ensures) at o.invariant.1
 
 pub returns-then-bit-v : goal.returns-then-bit-v
 returns-then-bit-v c =
     let a = c.args in
     let o = c.loop-j in
-    sym (first-hit a.v c.bit.result o.at _ c.if-bit-v.true) ∙ turned (goal.at.returns-then-bit-v c).After-bit
+    sym (first_hit a.v c.bit.result o.at _ c.if-bit-v.true) ∙ turned (goal.at.returns-then-bit-v c).After-bit
 
 pub loop-j-preserved : goal.loop-j-preserved
 loop-j-preserved c =
     let a = c.args in
     let o = c.loop-j in
     let e : a.end - (o.at + 1) ≡ a.end - o.at - 1 = omega arith in
-    (omega arith, rw (e, add-one o.at) (sym (first-miss a.v c.bit.result o.at _ c.if-bit-v.false) ∙ turned (goal.at.loop-j-preserved c).After-bit))
+    (omega arith, rw (e, add-one o.at) (sym (first_miss a.v c.bit.result o.at _ c.if-bit-v.false) ∙ turned (goal.at.loop-j-preserved c).After-bit))
 
 pub returns : goal.returns
 unfolding first_from
 returns c =
     let o = c.loop-j in
     let a = c.args in
-    rw (range-out a.bitmap.now o.j o.k (a.end - o.at) c.loop-j-test.false) at o.invariant.1
+    rw (range_out a.bitmap.now o.j o.k (a.end - o.at) c.loop-j-test.false) at o.invariant.1

@@ -6,7 +6,7 @@ use mathlib.Core.Path.{◌≡◌}
 use native.Mathlib.Omega.{arith}
 use lib.ListN.{get_or}
 use Rattle.bitmap.proofs.Bits.{whole-fill}
-use Rattle.bitmap.proofs.Turns.{place, filled_none, filled-some, filled-then}
+use Rattle.bitmap.proofs.Turns.{place, filled_none, filled_some, filled_then}
 use Rattle.bitmap.proofs.put_bytes.Goals as goal
 
 pub loop-j-init : goal.loop-j-init
@@ -25,8 +25,8 @@ loop-j-preserved c =
     let w = c.whole_byte-byte in
     let p : place o.j 0 ≡ 8 * a.from + 8 * (o.j - a.from) = omega arith in
     let q : 8 * (o.j - a.from) + 8 ≡ 8 * (o.j + 1 - a.from) = omega arith in
-    let f = filled-some o.bitmap o.j 0 8 w.result a.v (rw w.ensures (whole-fill (get_or o.bitmap o.j 0) a.v)) (omega (arith, o.invariant.2.outside.same_length)) (omega arith) (omega arith) in
-    (omega arith, omega arith, rw q at (filled-then o.invariant.2 (rw p at f)))
+    let f = filled_some o.bitmap o.j 0 8 w.result a.v (rw w.ensures (whole-fill (get_or o.bitmap o.j 0) a.v)) (omega (arith, o.invariant.2.outside.same_length)) (omega arith) (omega arith) in
+    (omega arith, omega arith, rw q at (filled_then o.invariant.2 (rw p at f)))
 
 pub shape_of-bitmap : goal.shape_of-bitmap
 shape_of-bitmap c = c.loop-j.invariant.2.outside.same_length

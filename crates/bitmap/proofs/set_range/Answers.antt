@@ -6,14 +6,14 @@ use native.Mathlib.Omega.{arith}
 use lib.ListN.{length, set, length-set}
 use borrow.Author.Rules.{rules}
 use Rattle.bitmap.specs.Blocks.{Filled}
-use Rattle.bitmap.proofs.Turns.{place, start, filled-out, filled_put, filled-then}
+use Rattle.bitmap.proofs.Turns.{place, start, filled_out, filled_put, filled_then}
 use Rattle.bitmap.proofs.set_range.Goals as goal
 use Rattle.bitmap.proofs.set_range.Goals.{After-put-2, After-put-3, After-put_bytes}
 
 pub returns-then-bitmap-j : goal.returns-then-bitmap-j
 returns-then-bitmap-j c =
     let a = c.args in
-    filled-out a.bitmap.now a.first a.count a.plugged (omega arith)
+    filled_out a.bitmap.now a.first a.count a.plugged (omega arith)
 
 pub returns-then-count-k : goal.returns-then-count-k
 returns-then-count-k c =
@@ -42,7 +42,7 @@ passed : (c : After-put_bytes) →
 passed c =
     let h = headed c.before.before.before in
     let p = c.parts_of-p in
-    filled-then h (rw (c.smaller-end.ensures, h.outside.same_length, ← p.ensures.head_value.0) at c.put_bytes.ensures)
+    filled_then h (rw (c.smaller-end.ensures, h.outside.same_length, ← p.ensures.head_value.0) at c.put_bytes.ensures)
 
 pub shape_of-bitmap-then-bitmap-to : goal.shape_of-bitmap-then-bitmap-to
 shape_of-bitmap-then-bitmap-to c = (passed (goal.at.shape_of-bitmap-then-bitmap-to c).After-put_bytes).outside.same_length
@@ -55,7 +55,7 @@ returns-then-bitmap-to c =
     let t = passed (goal.at.returns-then-bitmap-to c).After-put_bytes in
     let w = t.outside.same_length in
     let q : n + (a.count - n) ≡ a.count = omega (arith, p.ensures) in
-    rw q at (filled-then t (filled-out c.put_bytes.new.bitmap (a.first + n) (a.count - n) a.plugged (omega (arith, p.ensures))))
+    rw q at (filled_then t (filled_out c.put_bytes.new.bitmap (a.first + n) (a.count - n) a.plugged (omega (arith, p.ensures))))
 
 -- .. and the blocks of the last byte
 filled : (c : After-put-3) →
@@ -72,7 +72,7 @@ filled c =
     let q : place p.result.to 0 ≡ a.first + n = omega (arith, p.ensures) in
     let r : n + p.result.tail ≡ a.count = omega (arith, p.ensures) in
     let l = filled_put m.new.bitmap p.result.to 0 p.result.tail c.put-3.result a.plugged c.put-3.ensures (omega arith) (omega (arith, p.ensures)) (omega (arith, c.slice_known-4-1.given p.result.to)) (search rules) in
-    rw r at (filled-then t (rw q at l))
+    rw r at (filled_then t (rw q at l))
 
 pub shape_of-bitmap : goal.shape_of-bitmap
 shape_of-bitmap c = (filled (goal.at.shape_of-bitmap c).After-put-3).outside.same_length

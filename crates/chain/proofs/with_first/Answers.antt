@@ -3,7 +3,7 @@
 use Rattle.std.proofs.Common.{◌≡◌, arith, true, false}
 use Rattle.descriptors.specs.Standard.{is_write_only, is_indirect}
 use Rattle.chain.specs.Chain.{with_first}
-use Rattle.descriptors.proofs.Laws.{place-outside}
+use Rattle.descriptors.proofs.Laws.{place_outside}
 use Rattle.chain.proofs.with_first.Goals as goal
 
 pub returns-then-write_only : goal.returns-then-write_only
@@ -21,4 +21,4 @@ returns-in_default-place_of c =
     let i : is_indirect d ≡ false = cc in
     let w : is_write_only d ≡ false = cc in
     let l : d.len ≡ 24 = omega arith in
-    simp (c.in-Is.is, i, w, l, place-outside _ _ _ _ _ c.place_of.ensures c.in_default-place_of.is)
+    simp (c.in-Is.is, i, w, l, place_outside _ _ _ _ _ c.place_of.ensures c.in_default-place_of.is)

@@ -5,7 +5,7 @@ use native.Mathlib.Omega.{arith}
 use borrow.Author.Tests.{lt-ltb, le-ltb}
 use Rattle.units.specs.Numbers.{top}
 use Rattle.change.specs.Change.{host_sum}
-use Rattle.change.proofs.Ends.{sum-within, sum_past}
+use Rattle.change.proofs.Ends.{sum_within_lem, sum_past}
 use Rattle.change.proofs.host_sum.Goals as goal
 
 pub returns-then-not-sum_within : goal.returns-then-not-sum_within
@@ -18,7 +18,7 @@ returns-then-not-sum_within c =
 pub overflow_add-at : goal.overflow_add-at
 overflow_add-at c =
     let a = c.args in
-    let p = sum-within (a.host.0 + a.offset.0) top _ c.sum_within.ensures c.if-not-sum_within.false-raw in
+    let p = sum_within_lem (a.host.0 + a.offset.0) top _ c.sum_within.ensures c.if-not-sum_within.false-raw in
     omega arith
 
 pub returns-then-not-sum_within-2 : goal.returns-then-not-sum_within-2
@@ -32,5 +32,5 @@ pub returns : goal.returns
 unfolding host_sum
 returns c =
     let a = c.args in
-    let p = sum-within (a.host.0 + a.offset.0 + a.size) top _ c.sum_within-2.ensures c.if-not-sum_within-2.false-raw in
+    let p = sum_within_lem (a.host.0 + a.offset.0 + a.size) top _ c.sum_within-2.ensures c.if-not-sum_within-2.false-raw in
     simp (le-ltb top (a.host.0 + a.offset.0 + a.size) p)

@@ -7,7 +7,7 @@ use borrow.Author.Tests.{lt-ltb, le-ltb, eq-eqb, ne_eqb}
 use Rattle.units.specs.Numbers.{top, bytes_of}
 use Rattle.units.proofs.Tests.{flag}
 use Rattle.change.specs.Change.{range_of}
-use Rattle.change.proofs.Ends.{sum-within, sum_past}
+use Rattle.change.proofs.Ends.{sum_within_lem, sum_past}
 use Rattle.change.proofs.range_of.Goals as goal
 
 pub returns-then-not-aligned : goal.returns-then-not-aligned
@@ -36,7 +36,7 @@ returns c =
     let a = c.args in
     let e = c.bytes_of-size.ensures in
     let some : a.nb_blocks ≢ 0 = omega arith in
-    let p = sum-within (a.addr.0 + c.bytes_of-size.result) top _ c.sum_within.ensures c.if-not-sum_within.false-raw in
+    let p = sum_within_lem (a.addr.0 + c.bytes_of-size.result) top _ c.sum_within.ensures c.if-not-sum_within.false-raw in
     simp
     (flag _ _ _ c.is_multiple-aligned.ensures c.if-not-aligned.false, ne_eqb _ _ some, le-ltb top (a.addr.0 + bytes_of a.block_size a.nb_blocks) (omega arith), ← e)
     c.inside_of.ensures

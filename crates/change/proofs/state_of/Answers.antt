@@ -5,7 +5,7 @@ use native.Mathlib.Omega.{arith}
 use mathlib.Core.Path.{sym}
 use borrow.Author.Tests.{lt-ltb, le-ltb}
 use Rattle.change.specs.Change.{state_of}
-use Rattle.change.proofs.Laws.{range-cut, state-none-there}
+use Rattle.change.proofs.Laws.{range_cut, state_none_there}
 use Rattle.change.proofs.state_of.Goals as goal
 
 pub returns-then-addr-start : goal.returns-then-addr-start
@@ -15,11 +15,11 @@ returns-then-addr-start c = simp (lt-ltb _ _ c.if-addr-start.true)
 pub returns-then-block_size-eq0 : goal.returns-then-block_size-eq0
 returns-then-block_size-eq0 c =
     let a = c.args in
-    sym (state-none-there a.block_size a.start.0 a.region a.addr.0 a.nb_blocks _ (rw (c.if-block_size-eq0.true, div-zero) (omega arith)))
+    sym (state_none_there a.block_size a.start.0 a.region a.addr.0 a.nb_blocks _ (rw (c.if-block_size-eq0.true, div-zero) (omega arith)))
 
 pub returns : goal.returns
 unfolding state_of
 returns c =
     let e = c.offset_from-offset.ensures in
     let state = rw (c.blocks_there-count.ensures, c.blocks_in-first.ensures) at c.state_in.ensures in
-    simp (le-ltb _ _ c.if-addr-start.false, range-cut, ← e) state
+    simp (le-ltb _ _ c.if-addr-start.false, range_cut, ← e) state

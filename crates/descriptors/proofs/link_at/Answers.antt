@@ -7,7 +7,7 @@ use lib.ListN.{length}
 use Rattle.units.proofs.Tests.{flag}
 use Rattle.descriptors.specs.Standard.{descriptor_addr}
 use Rattle.descriptors.specs.Descriptors.{link_at}
-use Rattle.descriptors.proofs.Laws.{past-last, Found, place_found, place-outside}
+use Rattle.descriptors.proofs.Laws.{past_last, Found, place_found, place_outside}
 use Rattle.descriptors.proofs.link_at.Goals as goal
 use Rattle.descriptors.proofs.link_at.Goals.{In-At}
 
@@ -23,7 +23,7 @@ returns-then-not-sum_within c =
     let late = leb-false addr 18446744073709551615 (flag _ _ _ c.sum_within.ensures c.if-not-sum_within.true) in
     simp (
       lt-ltb c.args.index 128 (omega arith),
-      past-last (length a.mem.now) a.base.0 addr 16 (omega arith),
+      past_last (length a.mem.now) a.base.0 addr 16 (omega arith),
     )
 
 pub overflow_add-table : goal.overflow_add-table
@@ -38,7 +38,7 @@ unfolding link_at descriptor_addr
 returns-in_default c =
     simp (
       lt-ltb c.args.index 128 (omega arith),
-      place-outside _ _ _ _ _ c.place_of.ensures c.in_default.is,
+      place_outside _ _ _ _ _ c.place_of.ensures c.in_default.is,
     )
 
 -- where the 16 bytes are placed, they lie inside

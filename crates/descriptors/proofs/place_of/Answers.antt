@@ -7,14 +7,14 @@ use native.Mathlib.Omega.{arith}
 use borrow.Author.Tests.{le-leb, lt-leb}
 use lib.Dec.{leb}
 use lib.ListN.{length}
-use Rattle.units.proofs.Tests.{leb-same}
+use Rattle.units.proofs.Tests.{leb_same}
 use Rattle.descriptors.specs.Descriptors.{inside, place_of}
 use Rattle.descriptors.proofs.place_of.Goals as goal
 use Rattle.descriptors.proofs.place_of.Goals.{After-ends_below}
 
 -- the end counted from the base, and counted from 0
 end_same : (len base addr n : ℕ) → base ≤ addr → leb (addr - base + n) len ≡ leb (addr + n) (base + len)
-end_same len base addr n h = leb-same (addr - base + n) len (addr + n) (base + len) (λ k. omega arith) (λ k. omega arith)
+end_same len base addr n h = leb_same (addr - base + n) len (addr + n) (base + len) (λ k. omega arith) (λ k. omega arith)
 
 pub returns-then-at-first : goal.returns-then-at-first
 unfolding place_of inside

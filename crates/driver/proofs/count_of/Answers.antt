@@ -6,7 +6,7 @@ use native.Mathlib.Omega.{arith}
 use Rattle.units.specs.Numbers.{blocks_in, map_region}
 use Rattle.bitmap.specs.Blocks.{blocks, next_set}
 use Rattle.driver.specs.Plan.{limit_of, stop_at, stop_of}
-use Rattle.driver.proofs.Laws.{border, per-some, stop-from}
+use Rattle.driver.proofs.Laws.{border, per_some, stop_from}
 use Rattle.driver.proofs.count_of.Goals as goal
 use Rattle.driver.proofs.count_of.Goals.{After-smaller, After-stop_at-stop}
 
@@ -24,9 +24,9 @@ stop_is c e =
 pub overflow_sub-stop : goal.overflow_sub-stop
 overflow_sub-stop c =
     let a = c.args in
-    let b = border a.first (blocks_in a.block_size map_region) (per-some a.block_size c.requires.block_size_nonzero.0 c.requires.block_size_nonzero.1) in
+    let b = border a.first (blocks_in a.block_size map_region) (per_some a.block_size c.requires.block_size_nonzero.0 c.requires.block_size_nonzero.1) in
     let h : a.first ≤ limit_of a.block_size a.usable a.first = omega (arith, b.above, c.requires.first_bound.1) in
-    rw (stop_is (goal.at.overflow_sub-stop c).After-stop_at-stop (limit_is (goal.at.overflow_sub-stop c).After-smaller)) (stop-from _ a.first (limit_of a.block_size a.usable a.first) h)
+    rw (stop_is (goal.at.overflow_sub-stop c).After-stop_at-stop (limit_is (goal.at.overflow_sub-stop c).After-smaller)) (stop_from _ a.first (limit_of a.block_size a.usable a.first) h)
 
 pub returns : goal.returns
 returns c =

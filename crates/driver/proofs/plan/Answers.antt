@@ -14,10 +14,10 @@ use Rattle.bitmap.specs.Blocks.{blocks, next_clear}
 use Rattle.bitmap.specs.declared.Found.{Found}
 use Rattle.bitmap.specs.declared.Found.TheVariants.{At, Nothing}
 use Rattle.record.specs.Shape.{config_shaped_of, of_config}
-use Rattle.record.proofs.Laws.{Shaped, config-shaped-is}
+use Rattle.record.proofs.Laws.{Shaped, config_shaped_is}
 use Rattle.driver.specs.declared.Proposal.TheVariants.{Refused}
 use Rattle.driver.specs.Plan.{room_of, plan_at, plan_of}
-use Rattle.driver.proofs.Laws.{Starts, starts, count-few}
+use Rattle.driver.proofs.Laws.{Starts, starts, count_few}
 use borrow.Author.Rules.{rules}
 use Rattle.driver.proofs.plan.Goals as goal
 use Rattle.driver.proofs.plan.Goals.{Else-not-config_shaped, Else-too_short, In-At}
@@ -27,7 +27,7 @@ shape : (c : Else-not-config_shaped) → config_shaped_of c.args.config ≡ true
 shape c = flag _ _ _ c.config_shaped.ensures c.if-not-config_shaped.false
 
 numbers : (c : Else-not-config_shaped) → Shaped (of_config c.args.config)
-numbers c = config-shaped-is c.args.config (shape c)
+numbers c = config_shaped_is c.args.config (shape c)
 
 long : (c : Else-too_short) → (let a = c.args in ltb (length (blocks a.bitmap.now)) (blocks_in a.config.block_size a.config.region_size)) ≡ false
 long c = flag _ _ _ c.too_short.ensures c.if-too_short.false
@@ -78,27 +78,27 @@ count_of-count-requires c =
     let f = found (goal.at.count_of-count-requires c).In-At n in
     record {
       block_size_nonzero = (omega (arith, n.block_size), omega (arith, n.block_size));
-      first_bound = (omega (arith, n.usable-in, n.region-top, f.below), f.before-end);
+      first_bound = (omega (arith, n.usable_in, n.region_top, f.below), f.before_end);
     }
 
 pub overflow_mul-addr : goal.overflow_mul-addr
 overflow_mul-addr c =
     let n = numbers (goal.at.overflow_mul-addr c).Else-not-config_shaped in
     let f = found (goal.at.overflow_mul-addr c).In-At n in
-    search (rules, f.bytes, n.usable-in, n.region-top)
+    search (rules, f.bytes, n.usable_in, n.region_top)
 
 pub overflow_add-addr : goal.overflow_add-addr
 overflow_add-addr c =
     let n = numbers (goal.at.overflow_add-addr c).Else-not-config_shaped in
     let f = found (goal.at.overflow_add-addr c).In-At n in
-    search (rules, f.bytes, n.usable-in, n.start-region)
+    search (rules, f.bytes, n.usable_in, n.start_region)
 
 pub overflow_cast-result : goal.overflow_cast-result
 overflow_cast-result c =
     let a = c.args in
     let n = numbers (goal.at.overflow_cast-result c).Else-not-config_shaped in
     let e : blocks_in a.config.block_size map_region ≡ 512 = rw n.block_size in
-    let k = count-few a.config.block_size a.config.usable_region_size a.config.plugged_size a.config.requested_size (blocks a.bitmap.now) c.in-At.lowest (omega arith) in
+    let k = count_few a.config.block_size a.config.usable_region_size a.config.plugged_size a.config.requested_size (blocks a.bitmap.now) c.in-At.lowest (omega arith) in
     let r = rw c.room_of-room.ensures at c.count_of-count.ensures in
     search (rules, e, k, r)
 

@@ -6,13 +6,13 @@ use native.Mathlib.Omega.{arith}
 use lib.Dec.{ltb}
 use lib.ListN.{length}
 use borrow.Author.Tests.{lt-ltb, le-ltb, ltb-true, ltb-false}
-use Rattle.units.proofs.Tests.{by-test}
+use Rattle.units.proofs.Tests.{by_test}
 use Rattle.bitmap.proofs.Laws.{blocks-length}
 use Rattle.driver.proofs.too_short.Goals as goal
 
 same : (n m : ℕ) → ltb n (m / 8 + (m % 8 + 7) / 8) ≡ ltb (8 * n) m
 same n m =
-    by-test (ltb (8 * n) m) (λ t. rw t (lt-ltb n (m / 8 + (m % 8 + 7) / 8) (omega (arith, ltb-true (8 * n) m t))))
+    by_test (ltb (8 * n) m) (λ t. rw t (lt-ltb n (m / 8 + (m % 8 + 7) / 8) (omega (arith, ltb-true (8 * n) m t))))
     (λ t. rw t (le-ltb n (m / 8 + (m % 8 + 7) / 8) (omega (arith, ltb-false (8 * n) m t))))
 
 pub returns : goal.returns

@@ -2,7 +2,7 @@
 -- `write_request` meets its contract.
 use mathlib.Core.Path.{refl}
 use native.Mathlib.Omega.{arith}
-use Rattle.driver.proofs.Laws.{request-put}
+use Rattle.driver.proofs.Laws.{request_put}
 use Rattle.driver.proofs.write_request.Goals as goal
 
 pub returns-then-bytes-lt24 : goal.returns-then-bytes-lt24
@@ -12,6 +12,6 @@ pub returns : goal.returns
 returns c =
     let a = c.args in
     record {
-      whole = λ h. (refl, request-put a.bytes.now a.req (omega arith) (omega arith) c.write_u64.ensures c.write_u64-2.ensures c.write_u64-3.ensures);
+      whole = λ h. (refl, request_put a.bytes.now a.req (omega arith) (omega arith) c.write_u64.ensures c.write_u64-2.ensures c.write_u64-3.ensures);
       short = λ h. absurd (omega arith);
     }

@@ -2,9 +2,9 @@
 -- `explaining::put_visible` meets its contract. The invariant: the first i bytes are put. The measure is what is left.
 use native.Mathlib.Omega.{arith}
 use Rattle.text.proofs.Puts.{then}
-use Rattle.sentences.proofs.Rows.{put-none, put-long}
+use Rattle.sentences.proofs.Rows.{put_none, put_long}
 use Rattle.explaining.specs.Explaining.{visibles}
-use Rattle.explaining.proofs.Laws.{visible_more, take-end}
+use Rattle.explaining.proofs.Laws.{visible_more, take_end}
 use Rattle.explaining.proofs.put_visible.Goals as goal
 
 pub smaller-end-requires : goal.smaller-end-requires
@@ -15,7 +15,7 @@ within-to-requires c = tt
 
 pub loop-i-init : goal.loop-i-init
 unfolding visibles
-loop-i-init c = (omega arith, put-none _ _ _ c.within-to.ensures)
+loop-i-init c = (omega arith, put_none _ _ _ c.within-to.ensures)
 
 pub bounds-line-i : goal.bounds-line-i
 bounds-line-i c = let e = c.smaller-end.ensures in omega arith
@@ -37,11 +37,11 @@ loop-i-preserved c =
     )
 
 pub shape_of-out : goal.shape_of-out
-shape_of-out c = put-long c.loop-i.invariant.1
+shape_of-out c = put_long c.loop-i.invariant.1
 
 pub returns : goal.returns
 returns c =
     let o = c.loop-i in
     let a = c.args in
     let e = c.smaller-end.ensures in
-    rw (← take-end a.line.now o.i 200 (omega arith)) o.invariant.1
+    rw (← take_end a.line.now o.i 200 (omega arith)) o.invariant.1

@@ -1,6 +1,6 @@
 -- SPDX-License-Identifier: Apache-2.0 AND BSD-3-Clause
 -- `forms::scan_at` meets its contract. The invariant: with the values so far, what is left to scan gives the whole's answer (`Left`).
-use Rattle.forms.proofs.Turns.{begin, long, no_room, no_number, hole-turn, no_byte, other_byte, byte-turn, at-end}
+use Rattle.forms.proofs.Turns.{begin, long, no_room, no_number, hole_turn, no_byte, other_byte, byte_turn, at_end}
 use Rattle.forms.proofs.scan_at.Goals as goal
 
 pub smaller-i-requires : goal.smaller-i-requires
@@ -25,7 +25,7 @@ pub returns-in_default : goal.returns-in_default
 returns-in_default c = no_number c.loop-j.invariant c.loop-j-test.true c.if-form-j-eq-HOLE.true _ c.if-values-k.false c.read_number.ensures c.in_default.is
 
 pub loop-j-preserved-then-form-j-eq-HOLE : goal.loop-j-preserved-then-form-j-eq-HOLE
-loop-j-preserved-then-form-j-eq-HOLE c = hole-turn c.loop-j.invariant c.loop-j-test.true c.if-form-j-eq-HOLE.true _ c.if-values-k.false c.read_number.ensures _ _ c.in-At.is
+loop-j-preserved-then-form-j-eq-HOLE c = hole_turn c.loop-j.invariant c.loop-j-test.true c.if-form-j-eq-HOLE.true _ c.if-values-k.false c.read_number.ensures _ _ c.in-At.is
 
 pub shape_of-values-then-s-i : goal.shape_of-values-then-s-i
 shape_of-values-then-s-i c = long c.loop-j.invariant
@@ -40,10 +40,10 @@ pub returns-then-s-i-2 : goal.returns-then-s-i-2
 returns-then-s-i-2 c = other_byte c.loop-j.invariant c.loop-j-test.true c.if-form-j-eq-HOLE.false c.if-s-i.false c.if-s-i-2.true
 
 pub loop-j-preserved : goal.loop-j-preserved
-loop-j-preserved c = byte-turn c.loop-j.invariant c.loop-j-test.true c.if-form-j-eq-HOLE.false c.if-s-i.false c.if-s-i-2.false
+loop-j-preserved c = byte_turn c.loop-j.invariant c.loop-j-test.true c.if-form-j-eq-HOLE.false c.if-s-i.false c.if-s-i-2.false
 
 pub shape_of-values : goal.shape_of-values
 shape_of-values c = long c.loop-j.invariant
 
 pub returns : goal.returns
-returns c = at-end c.loop-j.invariant c.loop-j-test.false
+returns c = at_end c.loop-j.invariant c.loop-j-test.false

@@ -1,7 +1,7 @@
 -- SPDX-License-Identifier: Apache-2.0 AND BSD-3-Clause
 -- `jambcopper::jambcopper_host_answer` meets its contract: 12 where there is no record, else the device's call.
-use Rattle.jambcopper.proofs.Ways.{foreign, served, answer-written}
-use Rattle.step.proofs.Kept.{answer-changes}
+use Rattle.jambcopper.proofs.Ways.{foreign, served, answer_written}
+use Rattle.step.proofs.Kept.{answer_changes}
 use Rattle.jambcopper.proofs.jambcopper_host_answer.Goals as goal
 
 pub returns-in_default : goal.returns-in_default
@@ -14,5 +14,5 @@ returns c =
     let met = c.host_answer-s.ensures in
     served _ _ _ is _ known _ _ _ _ _ _ _
     met
-    (answer-written _ _ is _ known _ _ met.recorded _ (answer-changes _ _ _ _) c.encode_answer.ensures)
+    (answer_written _ _ is _ known _ _ met.recorded _ (answer_changes _ _ _ _) c.encode_answer.ensures)
     (c.tell-2.ensures.value, c.tell-2.ensures.words_after)

@@ -4,7 +4,7 @@ use native.Mathlib.Omega.{arith}
 use mathlib.Core.Path.{ap, ◌∙◌}
 use Rattle.units.specs.declared.Node.{Node}
 use Rattle.making.specs.Made.{made}
-use Rattle.jambcopper.proofs.Ways.{no_room, made-refused, made-device}
+use Rattle.jambcopper.proofs.Ways.{no_room, made_refused, made_device}
 use Rattle.jambcopper.proofs.jambcopper_make.Goals as goal
 
 pub returns-then-too_short : goal.returns-then-too_short
@@ -13,7 +13,7 @@ returns-then-too_short c = no_room _ _ (omega arith)
 pub returns-in-Refused : goal.returns-in-Refused
 returns-in-Refused c =
     let a = c.args in
-    made-refused _ _ _ (omega arith) _
+    made_refused _ _ _ (omega arith) _
     (c.new.ensures.same
     ∙ ap (λ (n : Node). made a.capacity_mib a.requested_mib a.several n a.boot) c.node_of-which.ensures)
     c.in-Refused.is
@@ -21,7 +21,7 @@ returns-in-Refused c =
 pub returns-in-Device : goal.returns-in-Device
 returns-in-Device c =
     let a = c.args in
-    made-device _ _ _ (omega arith) _
+    made_device _ _ _ (omega arith) _
     (c.new.ensures.same
     ∙ ap (λ (n : Node). made a.capacity_mib a.requested_mib a.several n a.boot) c.node_of-which.ensures)
     c.in-Device.is

@@ -1,7 +1,7 @@
 -- SPDX-License-Identifier: Apache-2.0 AND BSD-3-Clause
 -- `jambcopper::jambcopper_request` meets its contract: 12 where there is no record, else the device's call.
-use Rattle.jambcopper.proofs.Ways.{foreign, served, request-written}
-use Rattle.step.proofs.Kept.{request-changes}
+use Rattle.jambcopper.proofs.Ways.{foreign, served, request_written}
+use Rattle.step.proofs.Kept.{request_changes}
 use Rattle.jambcopper.proofs.jambcopper_request.Goals as goal
 
 pub returns-in_default : goal.returns-in_default
@@ -14,5 +14,5 @@ returns c =
     let met = c.request-s.ensures in
     served _ _ _ is _ known _ _ _ _ _ _ _
     met
-    (request-written _ _ is _ known _ _ met.recorded _ (request-changes _ _ _ _) c.encode_request.ensures)
+    (request_written _ _ is _ known _ _ met.recorded _ (request_changes _ _ _ _) c.encode_request.ensures)
     (c.tell-2.ensures.value, c.tell-2.ensures.words_after)

@@ -2,9 +2,9 @@
 -- `jambcopper::jambcopper_serve` meets its contract: 12 where there is no record, or no queue; no head that is taken; or the device's request, and the head by its answer.
 use native.Mathlib.Omega.{arith}
 use mathlib.Core.Path.{refl}
-use Rattle.step.proofs.Served.{always-short}
-use Rattle.queue.proofs.Turns.{told-as, walk-as}
-use Rattle.jambcopper.proofs.QueueWays.{no_record, no-queue, unmoved-told, about-told}
+use Rattle.step.proofs.Served.{always_short}
+use Rattle.queue.proofs.Turns.{told_as, walk_as}
+use Rattle.jambcopper.proofs.QueueWays.{no_record, no_queue, unmoved_told, about-told}
 use Rattle.jambcopper.proofs.jambcopper_serve.Goals as goal
 
 pub returns-in_default : goal.returns-in_default
@@ -12,12 +12,12 @@ returns-in_default c = no_record _ _ _ _ c.decode.ensures c.in_default.is _ _ _ 
 
 pub returns-in_default-decode_queue : goal.returns-in_default-decode_queue
 returns-in_default-decode_queue c =
-    no-queue _ _ _ _ c.decode.ensures _ c.in-Is.is _ c.decode_queue.ensures c.in_default-decode_queue.is _ _ _ _ (c.tell-in_default-decode_queue.ensures.value, c.tell-in_default-decode_queue.ensures.words_after)
+    no_queue _ _ _ _ c.decode.ensures _ c.in-Is.is _ c.decode_queue.ensures c.in_default-decode_queue.is _ _ _ _ (c.tell-in_default-decode_queue.ensures.value, c.tell-in_default-decode_queue.ensures.words_after)
 
 pub returns-in-NoHead : goal.returns-in-NoHead
 returns-in-NoHead c =
-    unmoved-told _ _ _ _ c.decode.ensures _ c.in-Is.is _ c.decode_queue.ensures _ c.in-Is-decode_queue.is _ _ _ _ _
-    (told-as _ _ _ _ _ _ c.next_taking.ensures _ c.in-NoHead.is)
+    unmoved_told _ _ _ _ c.decode.ensures _ c.in-Is.is _ c.decode_queue.ensures _ c.in-Is-decode_queue.is _ _ _ _ _
+    (told_as _ _ _ _ _ _ c.next_taking.ensures _ c.in-NoHead.is)
     (c.tell_queue.ensures.value, c.tell_queue.ensures.words_after)
 
 pub shape_of-words-in-Walk : goal.shape_of-words-in-Walk
@@ -27,6 +27,6 @@ pub returns-in-Walk : goal.returns-in-Walk
 returns-in-Walk c =
     about-told _ _ _ _ c.decode.ensures _ c.in-Is.is _ c.decode_queue.ensures _ c.in-Is-decode_queue.is
     _ _ _ _ _ _ _ c.jambcopper_request-number.ensures
-    refl (always-short _ _) _ _ _ _
-    (walk-as _ _ _ _ _ _ c.next_taking.ensures _ c.in-Walk.is _ c.took_head.ensures)
+    refl (always_short _ _) _ _ _ _
+    (walk_as _ _ _ _ _ _ c.next_taking.ensures _ c.in-Walk.is _ c.took_head.ensures)
     _ c.ending_told-ending.ensures _ _ _ _ _ c.settle-now.ensures (c.encode_queue.ensures.words_after, c.encode_queue.ensures.words_after_2) c.pass_on.ensures

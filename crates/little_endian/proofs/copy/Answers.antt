@@ -12,7 +12,7 @@ use lib.ListN.{length, drop, get_or, set, length-set, drop_of_length-le}
 use lib.Seq.{drop-cons}
 use borrow.Author.Tests.{leb-true, leb-false}
 use Rattle.little_endian.specs.Bytes.{put}
-use Rattle.little_endian.proofs.Laws.{put-past}
+use Rattle.little_endian.proofs.Laws.{put_past}
 use borrow.Author.Rules.{rules}
 use Rattle.little_endian.proofs.copy.Goals as goal
 
@@ -22,7 +22,7 @@ unfolding put
 none xs i ys h = ends (leb (length xs) i) refl
   where
     ends : (b : Bool) → leb (length xs) i ≡ b → put xs i (drop i ys) ≡ xs
-    ends true t = put-past xs i (drop i ys) (leb-true (length xs) i t)
+    ends true t = put_past xs i (drop i ys) (leb-true (length xs) i t)
     ends false t =
         let k : i < length xs = leb-false (length xs) i t in
         let l : length ys ≤ i = omega arith in

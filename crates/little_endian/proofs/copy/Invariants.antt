@@ -12,7 +12,7 @@ use lib.ListN.{length, drop, get_or, set, length-set, drop_of_length-le}
 use lib.Seq.{drop-cons}
 use borrow.Author.Tests.{leb-true, leb-false}
 use Rattle.little_endian.specs.Bytes.{put}
-use Rattle.little_endian.proofs.Laws.{put-past}
+use Rattle.little_endian.proofs.Laws.{put_past}
 use borrow.Author.Rules.{rules}
 use Rattle.little_endian.proofs.copy.Given as goal
 

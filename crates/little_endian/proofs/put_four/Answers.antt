@@ -1,6 +1,6 @@
 -- SPDX-License-Identifier: Apache-2.0 AND BSD-3-Clause
 -- `put_four` meets its contract: a number is written by its halves.
-use Rattle.little_endian.proofs.Laws.{put-halves}
+use Rattle.little_endian.proofs.Laws.{put_halves}
 use borrow.Author.Rules.{rules}
 use Rattle.little_endian.proofs.put_four.Goals as goal
 
@@ -9,4 +9,4 @@ returns c =
     let high = c.put_two-2 in
     let low = c.put_two in
     let a = c.args in
-    put-halves a.bytes.now a.at 2 2 a.v low.ensures high.ensures
+    put_halves a.bytes.now a.at 2 2 a.v low.ensures high.ensures

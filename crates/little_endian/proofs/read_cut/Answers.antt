@@ -7,7 +7,7 @@ use native.Mathlib.Omega.{arith}
 use lib.ListN.{length, drop, replicate, length-drop}
 use lib.Seq.{take_all}
 use Rattle.little_endian.specs.Bytes.{value, part, put}
-use Rattle.little_endian.proofs.Laws.{value-below, value-padded}
+use Rattle.little_endian.proofs.Laws.{value_below, value_padded}
 use borrow.Author.Rules.{rules}
 use Rattle.little_endian.proofs.read_cut.Goals as goal
 
@@ -19,7 +19,7 @@ padded xs at w h i =
     let z : at + 0 ≡ at = omega arith in
     let l : length (drop at xs) ≤ 8 = simp length-drop (omega arith) in
     let m : length (drop at xs) ≤ w = simp length-drop (omega arith) in
-    rw z at (value-padded xs 8 at 0 8 (omega arith))
+    rw z at (value_padded xs 8 at 0 8 (omega arith))
     ∙ ap value (take_all 8 (drop at xs) l ∙ sym (take_all w (drop at xs) m))
 
 pub returns : goal.returns
@@ -30,4 +30,4 @@ returns c =
     c.u64_at.ensures
     ∙ ap (λ (l : List ℕ). value (part l 0 8)) (c.copy.ensures ∙ ap (put (replicate 8 0) 0) c.from.ensures)
     ∙ padded a.bytes.now a.at a.width (omega arith) (omega arith) in
-    record { value = e; upper_bound = rw e (value-below a.bytes.now (λ i. omega (arith, known.given i)) a.at a.width) }
+    record { value = e; upper_bound = rw e (value_below a.bytes.now (λ i. omega (arith, known.given i)) a.at a.width) }

@@ -7,7 +7,7 @@ use native.Mathlib.Omega.{arith}
 use lib.ListN.{length, get_or}
 use lib.Seq.{drop-cons}
 use Rattle.little_endian.specs.Bytes.{value, part}
-use Rattle.little_endian.proofs.Laws.{value-halves}
+use Rattle.little_endian.proofs.Laws.{value_halves}
 use borrow.Author.Rules.{rules}
 use Rattle.little_endian.proofs.u16_at.Goals as goal
 
@@ -33,4 +33,4 @@ pub returns : goal.returns
 returns c =
     let xs = c.args.bytes.now in
     let at = c.args.at in
-    value-halves xs at 1 1 (omega arith) (byte xs at (omega arith)) (byte xs (at + 1) (omega arith))
+    value_halves xs at 1 1 (omega arith) (byte xs at (omega arith)) (byte xs (at + 1) (omega arith))

@@ -9,7 +9,7 @@ use native.Mathlib.Numerals.{add-one}
 use native.Mathlib.Nat.{suc-sub-suc, sub-zero}
 use lib.ListN.{length, set, length-set}
 use Rattle.little_endian.specs.Bytes.{little_endian, put}
-use Rattle.little_endian.proofs.Laws.{put-past}
+use Rattle.little_endian.proofs.Laws.{put_past}
 use Rattle.little_endian.proofs.write_number.Goals as goal
 
 -- no byte is left
@@ -43,4 +43,4 @@ loop-i-preserved c =
 pub returns : goal.returns
 returns c =
     let o = c.loop-i in
-    sym (put-past o.bytes o.i (little_endian o.left o.rest) c.loop-i-test.false) ∙ o.invariant.1
+    sym (put_past o.bytes o.i (little_endian o.left o.rest) c.loop-i-test.false) ∙ o.invariant.1

@@ -9,7 +9,7 @@ use native.Mathlib.Numerals.{add-one}
 use native.Mathlib.Nat.{suc-sub-suc, sub-zero}
 use lib.ListN.{length, set, length-set}
 use Rattle.little_endian.specs.Bytes.{little_endian, put}
-use Rattle.little_endian.proofs.Laws.{put-past}
+use Rattle.little_endian.proofs.Laws.{put_past}
 use Rattle.little_endian.proofs.write_number.Given as goal
 
 abbrev pub invariant-loop-i : goal.invariant-loop-i

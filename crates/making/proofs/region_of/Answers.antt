@@ -3,11 +3,11 @@
 use Prim.Native.Nat.{◌*◌}
 use mathlib.Core.Path.{◌∙◌}
 use native.Mathlib.Omega.{arith}
-use Rattle.units.proofs.Laws.{saturated-fits}
-use Rattle.making.proofs.Newly.{round-within}
+use Rattle.units.proofs.Laws.{saturated_fits}
+use Rattle.making.proofs.Newly.{round_within}
 use Rattle.making.proofs.region_of.Goals as goal
 
 pub returns : goal.returns
 returns c =
     let a = c.args in
-    c.next_multiple_of.ensures ∙ saturated-fits (omega (arith, round-within (a.capacity_mib * 1048576) (2 * a.alignment)))
+    c.next_multiple_of.ensures ∙ saturated_fits (omega (arith, round_within (a.capacity_mib * 1048576) (2 * a.alignment)))

@@ -2,7 +2,7 @@
 -- `placing::resize` meets its contract.
 use mathlib.Core.Path.{sym, ◌∙◌}
 use Rattle.step.specs.Step.{resizes}
-use Rattle.placing.proofs.Laws.{asked-within}
+use Rattle.placing.proofs.Laws.{asked_within}
 use Rattle.placing.proofs.resize.Goals as goal
 
 pub returns-in_default : goal.returns-in_default
@@ -12,7 +12,7 @@ returns-in_default c =
 
 pub ask_creation-requires : goal.ask_creation-requires
 ask_creation-requires c =
-    asked-within c.args.d c.requires _ _ _ _ _ _ (sym c.growth_of-growth.ensures ∙ c.in-Asks.is)
+    asked_within c.args.d c.requires _ _ _ _ _ _ (sym c.growth_of-growth.ensures ∙ c.in-Asks.is)
 
 pub returns : goal.returns
 unfolding resizes

@@ -7,20 +7,20 @@ use native.Mathlib.Omega.{arith}
 use Rattle.bitmap.proofs.Laws.{blocks-length}
 use Rattle.rows.proofs.Words.{count, whole}
 use Rattle.record.specs.Shape.{shaped_of}
-use Rattle.record.proofs.Laws.{shaped-is, requested-keeps}
+use Rattle.record.proofs.Laws.{shaped_is, requested_keeps}
 use Rattle.record.specs.Changes.{requested_to}
 use Rattle.step.specs.World.{world_of}
 use Rattle.step.specs.Step.{step, device_of, set_requested_size}
-use Rattle.step.proofs.Entry.{ready-is}
+use Rattle.step.proofs.Entry.{ready_is}
 use Rattle.making.proofs.Asked.{Asked, asked_is}
 use Rattle.placing.proofs.Laws.{resizes_gives}
-use Rattle.step.proofs.Giving.{refused-gives, stops, goes_on}
+use Rattle.step.proofs.Giving.{refused_gives, stops, goes_on}
 use Rattle.placing.proofs.set_requested_size.Goals as goal
 use Rattle.placing.proofs.set_requested_size.Goals.{Else-number-ne0, Else-requested_refused}
 
 -- past 12, 7, 5 and 11
 shape : (c : Else-number-ne0) → shaped_of c.args.d ≡ true
-shape c = (ready-is _ _ _ (sym c.ready_refusal-number.ensures ∙ c.if-number-ne0.false)).shaped
+shape c = (ready_is _ _ _ (sym c.ready_refusal-number.ensures ∙ c.if-number-ne0.false)).shaped
 
 -- past 1
 size : (c : Else-requested_refused) → (let a = c.args in Asked a.d.config.block_size (a.requested_mib * 1048576) a.d.config.region_size)
@@ -35,7 +35,7 @@ unfolding step set_requested_size
 returns-then-requested_refused c =
     simp (blocks-length, count, ← c.ready_refusal-number.ensures)
     (goes_on _ _ _ _ _ _ _ c.if-number-ne0.false
-    (refused-gives _ _ 1 _ _
+    (refused_gives _ _ 1 _ _
     (simp (← c.requested_refused.ensures, c.if-requested_refused.true))
     c.refuse-then-requested_refused.ensures))
 
@@ -46,7 +46,7 @@ pub resize-requires : goal.resize-requires
 resize-requires c =
     let d = c.args.d in
     let before = shape (goal.at.resize-requires c).Else-number-ne0 in
-    let after = requested-keeps _ before _ (rw (shaped-is d before).block_size at (size (goal.at.resize-requires c).Else-requested_refused).whole) (size (goal.at.resize-requires c).Else-requested_refused).within in
+    let after = requested_keeps _ before _ (rw (shaped_is d before).block_size at (size (goal.at.resize-requires c).Else-requested_refused).whole) (size (goal.at.resize-requires c).Else-requested_refused).within in
     cc
 
 pub returns : goal.returns

@@ -10,11 +10,11 @@ use Rattle.queue.specs.Queue.{next_unless, none_told, standing, taking_of}
 use Rattle.queue.proofs.next_taking.Goals as goal
 
 -- where no head stands next
-none-stands : (x : Next) → ((head : ℕ) → x ≡ HasHead head → ⊥) → (n : ℕ) → standing x n ≡ NoHead (none_told (next_unless n x))
+none_stands : (x : Next) → ((head : ℕ) → x ≡ HasHead head → ⊥) → (n : ℕ) → standing x n ≡ NoHead (none_told (next_unless n x))
 unfolding standing
-none-stands (HasHead head) k n = absurd (k head refl)
-none-stands HasNone k n = refl
-none-stands (HasRefused m) k n = refl
+none_stands (HasHead head) k n = absurd (k head refl)
+none_stands HasNone k n = refl
+none_stands (HasRefused m) k n = refl
 
 pub returns-then-not-queue_ok : goal.returns-then-not-queue_ok
 unfolding taking_of
@@ -23,7 +23,7 @@ returns-then-not-queue_ok c = rw (flag _ _ _ c.queue_ok.ensures c.if-not-queue_o
 pub returns-in_default : goal.returns-in_default
 unfolding taking_of
 returns-in_default c =
-    rw (flag _ _ _ c.queue_ok.ensures c.if-not-queue_ok.false, ← c.next_head-next.ensures, ← c.ready_refusal-number.ensures, none-stands _ c.in_default.not-Head _, ← c.none_told.ensures)
+    rw (flag _ _ _ c.queue_ok.ensures c.if-not-queue_ok.false, ← c.next_head-next.ensures, ← c.ready_refusal-number.ensures, none_stands _ c.in_default.not-Head _, ← c.none_told.ensures)
 
 pub returns : goal.returns
 unfolding taking_of standing

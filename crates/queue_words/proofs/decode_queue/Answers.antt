@@ -5,7 +5,7 @@ use native.Mathlib.Omega.{arith}
 use borrow.Author.Tests.{lt-leb}
 use Rattle.units.proofs.Tests.{flag}
 use Rattle.queue_words.specs.Words.{is_queue, queue_of, decoded_queue_of}
-use Rattle.queue_words.proofs.Laws.{bounds, unfit, fits-queue}
+use Rattle.queue_words.proofs.Laws.{bounds, unfit, fits_queue}
 use Rattle.queue_words.proofs.decode_queue.Goals as goal
 
 pub returns-then-words-lt-QUEUE_WORDS : goal.returns-then-words-lt-QUEUE_WORDS
@@ -29,4 +29,4 @@ unfolding decoded_queue_of queue_of
 returns c =
     let ws = c.args.words.now in
     let fits = bounds ws c.if-words-lt-QUEUE_WORDS.false (flag _ _ _ refl c.if-not-next_available-next_used.false) in
-    simp (fits-queue ws fits, c.taken_of-taken.ensures)
+    simp (fits_queue ws fits, c.taken_of-taken.ensures)

@@ -9,7 +9,7 @@ use Rattle.little_endian.specs.Bytes.{put}
 use Rattle.rings.specs.declared.Queue.{Queue}
 use Rattle.queue_words.specs.declared.DecodedQueue.TheVariants.{Is}
 use Rattle.queue_words.specs.Words.{queue_words, is_queue, decoded_queue_of}
-use Rattle.queue_words.proofs.Laws.{encoded-decodes}
+use Rattle.queue_words.proofs.Laws.{encoded_decodes}
 use Rattle.queue_words.proofs.encode_queue.Goals as goal
 
 -- the words that are written are the queue's, and decode to it where there is room
@@ -20,7 +20,7 @@ record Written (q : Queue) (ws ws' : List ℕ) : Type 0 where
 written : (q : Queue) (ws all ws' : List ℕ) → all ≡ queue_words q → is_queue all ≡ true → ws' ≡ put ws 0 all → Written q ws ws'
 written q ws all ws' e f w =
     let same = w ∙ ap (put ws 0) e in
-    record { same = same; decodes = λ room. ap decoded_queue_of same ∙ encoded-decodes q ws (rw (← e) f) room }
+    record { same = same; decodes = λ room. ap decoded_queue_of same ∙ encoded_decodes q ws (rw (← e) f) room }
 
 pub returns-then-words-lt-QUEUE_WORDS : goal.returns-then-words-lt-QUEUE_WORDS
 returns-then-words-lt-QUEUE_WORDS c =

@@ -6,7 +6,7 @@ use mathlib.Core.List.{List}
 use native.Mathlib.Omega.{arith}
 use lib.ListN.{length, get_or, set, length-set}
 use Rattle.little_endian.specs.Bytes.{put}
-use Rattle.words.proofs.Laws.{put_next, put-none}
+use Rattle.words.proofs.Laws.{put_next, put_none}
 use Rattle.queue_words.proofs.store_queue.Goals as goal
 
 -- six stores, one after the other
@@ -21,7 +21,7 @@ six xs ys h =
     ∙ put_next _ 3 ys (omega arith)
     ∙ put_next _ 4 ys (omega arith)
     ∙ put_next _ 5 ys (omega arith)
-    ∙ put-none _ 6 ys (omega arith))
+    ∙ put_none _ 6 ys (omega arith))
 
 pub bounds-words-1 : goal.bounds-words-1
 bounds-words-1 c = simp length-set (omega arith)

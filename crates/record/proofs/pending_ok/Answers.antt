@@ -4,7 +4,7 @@ use Prim.Native.Nat.{◌*◌, ◌/◌}
 use mathlib.Core.Path.{◌≡◌}
 use native.Mathlib.Nat.{le-div_iff_mul-le}
 use lib.Dec.{leb}
-use Rattle.units.proofs.Tests.{leb-same}
+use Rattle.units.proofs.Tests.{leb_same}
 use Rattle.record.specs.Shape.{pending_ok}
 use borrow.Author.Rules.{rules}
 use Rattle.record.proofs.pending_ok.Goals as goal
@@ -23,7 +23,7 @@ returns-in-Discard c =
     let a = c.args in
     let count = c.in-Discard.count in
     let whole = le-div_iff_mul-le {x = count} {y = a.plugged} c.requires in
-    let same : leb count (a.plugged / a.block_size) ≡ leb (count * a.block_size) a.plugged = leb-same count (a.plugged / a.block_size) (count * a.block_size) a.plugged whole.0 whole.1 in
+    let same : leb count (a.plugged / a.block_size) ≡ leb (count * a.block_size) a.plugged = leb_same count (a.plugged / a.block_size) (count * a.block_size) a.plugged whole.0 whole.1 in
     rw (c.in-Discard.is, ← same) (cc)
 
 pub returns-in-DiscardOne : goal.returns-in-DiscardOne

@@ -7,7 +7,7 @@ use native.Mathlib.Omega.{arith}
 use lib.Dec.{eqb}
 use borrow.Author.Tests.{eq-eqb, ne_eqb}
 use Rattle.units.proofs.Tests.{flag}
-use Rattle.record.proofs.Laws.{tested, aligned, unshaped, rest-is, single}
+use Rattle.record.proofs.Laws.{tested, aligned, unshaped, rest_is, single}
 use Rattle.record.specs.Shape.{shaped_of, is_idle}
 use Rattle.record.specs.Tests.{rest_ok}
 use Rattle.record.proofs.shaped.Goals as goal
@@ -50,9 +50,9 @@ returns-then-start-alignment-ne0 c =
     unshaped d (eqb (d.config.addr.0 % d.alignment) 0) (λ p. eq-eqb _ _ (tested _ p).start) (ne_eqb _ _ c.if-start-alignment-ne0.true)
 
 -- past the six tests
-past-6 : (c : Else-start-alignment-ne0) → let d = c.args.d in shaped_of d ≡ rest_ok d.config.block_size d.config.addr.0 d.config.region_size d.several d.pending d.config.plugged_size
-past-6 c =
-    rest-is c.args.d
+past_6 : (c : Else-start-alignment-ne0) → let d = c.args.d in shaped_of d ≡ rest_ok d.config.block_size d.config.addr.0 d.config.region_size d.several d.pending d.config.plugged_size
+past_6 c =
+    rest_is c.args.d
     (eq-eqb _ _ c.if-block_size-ne-BLOCK_SIZE.false)
     (flag _ _ _ c.region_ok.ensures c.if-not-region_ok.false)
     (record {
@@ -67,7 +67,7 @@ returns-then-alone c =
     let d = c.args.d in
     let alone : (not d.several && is_idle d.pending) ≡ true = cc in
     c.sum_within.ensures
-    ∙ sym (past-6 (goal.at.returns-then-alone c).Else-start-alignment-ne0 ∙ single d.config.block_size d.config.addr.0 d.config.region_size d.config.plugged_size d.several d.pending alone)
+    ∙ sym (past_6 (goal.at.returns-then-alone c).Else-start-alignment-ne0 ∙ single d.config.block_size d.config.addr.0 d.config.region_size d.config.plugged_size d.several d.pending alone)
 
 pub returns : goal.returns
-returns c = c.rest_ok.ensures ∙ sym (past-6 (goal.at.returns c).Else-start-alignment-ne0)
+returns c = c.rest_ok.ensures ∙ sym (past_6 (goal.at.returns c).Else-start-alignment-ne0)

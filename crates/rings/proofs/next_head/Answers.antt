@@ -7,7 +7,7 @@ use mathlib.Core.Bool.{true}
 use mathlib.Core.Path.{◌≡◌}
 use Rattle.units.proofs.Tests.{flag}
 use Rattle.rings.specs.Rings.{rings_inside, next_head}
-use Rattle.rings.proofs.Laws.{RingsLie, rings-lie}
+use Rattle.rings.proofs.Laws.{RingsLie, rings_lie}
 use Rattle.rings.proofs.next_head.Goals as goal
 use Rattle.rings.proofs.next_head.Goals.{Else-not-rings_inside}
 
@@ -20,16 +20,16 @@ inside_both : (c : Else-not-rings_inside) → let a = c.args in rings_inside (le
 inside_both c = flag _ _ _ c.rings_inside.ensures c.if-not-rings_inside.false
 
 lie : (c : Else-not-rings_inside) → let a = c.args in RingsLie (length a.mem.now) a.base.0 a.q
-lie c = rings-lie _ _ _ (inside_both c)
+lie c = rings_lie _ _ _ (inside_both c)
 
 pub overflow_sub-available : goal.overflow_sub-available
-overflow_sub-available c = let f = (lie (goal.at.overflow_sub-available c).Else-not-rings_inside).available-lies in omega arith
+overflow_sub-available c = let f = (lie (goal.at.overflow_sub-available c).Else-not-rings_inside).available_lies in omega arith
 
 pub overflow_add-available : goal.overflow_add-available
-overflow_add-available c = let f = (lie (goal.at.overflow_add-available c).Else-not-rings_inside).available-lies in omega arith
+overflow_add-available c = let f = (lie (goal.at.overflow_add-available c).Else-not-rings_inside).available_lies in omega arith
 
 pub read_u16-requires : goal.read_u16-requires
-read_u16-requires c = let f = (lie (goal.at.read_u16-requires c).Else-not-rings_inside).available-lies in omega arith
+read_u16-requires c = let f = (lie (goal.at.read_u16-requires c).Else-not-rings_inside).available_lies in omega arith
 
 pub returns-then-over_full : goal.returns-then-over_full
 unfolding next_head
@@ -42,13 +42,13 @@ returns-then-ahead-eq0 c =
     simp (inside_both (goal.at.returns-then-ahead-eq0 c).Else-not-rings_inside, ← c.read_u16.ensures, ← c.ahead_of-ahead.ensures, le-ltb _ _ c.if-over_full.false, eq-eqb _ _ c.if-ahead-eq0.true)
 
 pub overflow_add-available-2 : goal.overflow_add-available-2
-overflow_add-available-2 c = let f = (lie (goal.at.overflow_add-available-2 c).Else-not-rings_inside).available-lies in omega arith
+overflow_add-available-2 c = let f = (lie (goal.at.overflow_add-available-2 c).Else-not-rings_inside).available_lies in omega arith
 
 pub overflow_add-available-3 : goal.overflow_add-available-3
-overflow_add-available-3 c = let f = (lie (goal.at.overflow_add-available-3 c).Else-not-rings_inside).available-lies in omega arith
+overflow_add-available-3 c = let f = (lie (goal.at.overflow_add-available-3 c).Else-not-rings_inside).available_lies in omega arith
 
 pub read_u16-requires-2 : goal.read_u16-requires-2
-read_u16-requires-2 c = let f = (lie (goal.at.read_u16-requires-2 c).Else-not-rings_inside).available-lies in omega arith
+read_u16-requires-2 c = let f = (lie (goal.at.read_u16-requires-2 c).Else-not-rings_inside).available_lies in omega arith
 
 pub returns : goal.returns
 unfolding next_head

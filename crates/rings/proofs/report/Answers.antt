@@ -2,15 +2,15 @@
 -- `rings::report` meets its contract: the element and the index are put where the ring is placed, and nothing where it is not.
 use native.Mathlib.Omega.{arith}
 use lib.ListN.{length}
-use Rattle.descriptors.proofs.Laws.{Found, place_found, place-outside}
+use Rattle.descriptors.proofs.Laws.{Found, place_found, place_outside}
 use Rattle.rings.specs.Rings.{reported}
-use Rattle.rings.proofs.Laws.{reported-by}
+use Rattle.rings.proofs.Laws.{reported_by}
 use Rattle.rings.proofs.report.Goals as goal
 use Rattle.rings.proofs.report.Goals.{In-At}
 
 pub returns-in_default : goal.returns-in_default
 unfolding reported
-returns-in_default c = simp (place-outside _ _ _ _ _ c.place_of.ensures c.in_default.is)
+returns-in_default c = simp (place_outside _ _ _ _ _ c.place_of.ensures c.in_default.is)
 
 placed : (c : In-At) → let a = c.args in
     Found (length a.mem.now) a.base.0 a.used.0 1030 c.in-At.at
@@ -31,5 +31,5 @@ overflow_add-at c = let f = placed (goal.at.overflow_add-at c).In-At in omega ar
 pub returns : goal.returns
 returns c =
     let f = placed (goal.at.returns c).In-At in
-    reported-by _ _ _ _ _ _ _ _ f.lies f.place c.write_u32.ensures c.write_u32-2.ensures c.write_u16.ensures
+    reported_by _ _ _ _ _ _ _ _ f.lies f.place c.write_u32.ensures c.write_u32-2.ensures c.write_u16.ensures
     c.index_after.ensures

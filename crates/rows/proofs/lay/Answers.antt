@@ -3,19 +3,19 @@
 use mathlib.Core.Path.{refl, sym, ap, ◌∙◌}
 use lib.ListN.{drop_of_length-le}
 use Rattle.rows.specs.Rows.{rows_of, written}
-use Rattle.rows.proofs.Turns.{laid-start, laid_none, laid-put}
-use Rattle.rows.proofs.Words.{whole, put-length}
+use Rattle.rows.proofs.Turns.{laid_start, laid_none, laid_put}
+use Rattle.rows.proofs.Words.{whole, put_length}
 use Rattle.rows.proofs.lay.Goals as goal
 
 pub loop-j-init : goal.loop-j-init
-loop-j-init c = let t = c.args.table.now in (refl, ap (written t) (laid-start (rows_of t) c.args.slots.now))
+loop-j-init c = let t = c.args.table.now in (refl, ap (written t) (laid_start (rows_of t) c.args.slots.now))
 
 pub loop-j-preserved : goal.loop-j-preserved
 loop-j-preserved c =
     let a = c.args in
     let o = c.loop-j in
     let p = c.put_row in
-    (put-length o.table p.new.table o.j _ p.ensures ∙ o.invariant.0, laid-put o.table p.new.table o.j a.slots.now c.loop-j-test.true p.ensures ∙ o.invariant.1)
+    (put_length o.table p.new.table o.j _ p.ensures ∙ o.invariant.0, laid_put o.table p.new.table o.j a.slots.now c.loop-j-test.true p.ensures ∙ o.invariant.1)
 
 pub shape_of-table : goal.shape_of-table
 shape_of-table c = c.loop-j.invariant.0

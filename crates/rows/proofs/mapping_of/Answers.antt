@@ -5,18 +5,18 @@ use native.Mathlib.Omega.{arith}
 use Rattle.std.proofs.Common.{◌≢◌}
 use Rattle.rows.specs.Rows.{rows_of}
 use Rattle.rows.specs.declared.Mapping.TheVariants.{At}
-use Rattle.rows.proofs.Laws.{mapping-unmapped, mapping-at}
+use Rattle.rows.proofs.Laws.{mapping_unmapped, mapping_at}
 use Rattle.rows.proofs.mapping_of.Goals as goal
 
 pub returns-then-unmapped : goal.returns-then-unmapped
 returns-then-unmapped c =
     let a = c.args in
     let e = ap (λ r. r.mapped) c.row_at-found.ensures in
-    sym (mapping-unmapped (rows_of a.table.now) a.row (omega arith))
+    sym (mapping_unmapped (rows_of a.table.now) a.row (omega arith))
 
 pub returns : goal.returns
 returns c =
     let a = c.args in
     let e = c.row_at-found.ensures in
     let n : c.row_at-found.result.mapped ≢ 0 = omega arith in
-    ap (λ r. At r.host) e ∙ sym (mapping-at (rows_of a.table.now) a.row (λ z. n (ap (λ r. r.mapped) e ∙ z)))
+    ap (λ r. At r.host) e ∙ sym (mapping_at (rows_of a.table.now) a.row (λ z. n (ap (λ r. r.mapped) e ∙ z)))

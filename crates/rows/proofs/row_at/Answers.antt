@@ -4,7 +4,7 @@ use mathlib.Core.Path.{sym}
 use native.Mathlib.Omega.{arith}
 use Rattle.rows.specs.Rows.{rows_of}
 use lib.ListN.{get_or-eq_default}
-use Rattle.rows.proofs.Words.{count, words-of-row}
+use Rattle.rows.proofs.Words.{count, words_of_row}
 use Rattle.rows.proofs.row_at.Goals as goal
 
 pub returns-then-row_count-row : goal.returns-then-row_count-row
@@ -38,4 +38,4 @@ pub bounds-table-at-3 : goal.bounds-table-at-3
 bounds-table-at-3 c = omega (arith, count c.args.table.now)
 
 pub returns : goal.returns
-returns c = words-of-row c.args.table.now c.args.row (omega arith)
+returns c = words_of_row c.args.table.now c.args.row (omega arith)

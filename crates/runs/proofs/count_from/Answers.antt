@@ -4,17 +4,17 @@ use Prim.Native.Nat.{min}
 use mathlib.Core.Path.{ap, sym, ◌∙◌}
 use Rattle.bitmap.specs.Blocks.{blocks}
 use Rattle.bitmap.proofs.Laws.{blocks-length}
-use Rattle.runs.proofs.Turns.{stop-after, room_after, row-stops, row_ends}
+use Rattle.runs.proofs.Turns.{stop_after, room_after, row_stops, row_ends}
 use Rattle.runs.proofs.count_from.Goals as goal
 
 pub overflow_sub-result : goal.overflow_sub-result
-overflow_sub-result c = stop-after (blocks c.args.bitmap.now) _ _ _ c.next_clear.ensures _ c.in-At.is
+overflow_sub-result c = stop_after (blocks c.args.bitmap.now) _ _ _ c.next_clear.ensures _ c.in-At.is
 
 pub overflow_sub-result-in-Nothing : goal.overflow_sub-result-in-Nothing
 overflow_sub-result-in-Nothing c = room_after (blocks c.args.bitmap.now) c.args.end c.args.first c.requires _ (c.blocks_within.ensures ∙ ap (min c.args.end) (sym (blocks-length c.args.bitmap.now)))
 
 pub returns-in-At : goal.returns-in-At
-returns-in-At c = row-stops (blocks c.args.bitmap.now) _ _ c.requires _ c.next_clear.ensures _ c.in-At.is
+returns-in-At c = row_stops (blocks c.args.bitmap.now) _ _ c.requires _ c.next_clear.ensures _ c.in-At.is
 
 pub returns-in-Nothing : goal.returns-in-Nothing
 returns-in-Nothing c = row_ends (blocks c.args.bitmap.now) _ _ c.requires _ c.next_clear.ensures c.in-Nothing.is _ (c.blocks_within.ensures ∙ ap (min c.args.end) (sym (blocks-length c.args.bitmap.now)))

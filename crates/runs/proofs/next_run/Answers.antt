@@ -1,14 +1,14 @@
 -- SPDX-License-Identifier: Apache-2.0 AND BSD-3-Clause
 -- `runs::next_run` meets its contract.
 use Rattle.bitmap.specs.Blocks.{blocks}
-use Rattle.runs.proofs.Turns.{next-found, next-none}
+use Rattle.runs.proofs.Turns.{next_found, next_none}
 use Rattle.runs.proofs.next_run.Goals as goal
 
 pub returns-in_default : goal.returns-in_default
-returns-in_default c = next-none (blocks c.args.bitmap.now) _ _ _ c.next_set.ensures c.in_default.is
+returns-in_default c = next_none (blocks c.args.bitmap.now) _ _ _ c.next_set.ensures c.in_default.is
 
 pub count_from-requires : goal.count_from-requires
-count_from-requires c = (next-found (blocks c.args.bitmap.now) _ _ _ c.next_set.ensures _ 0 c.in-At.is).0
+count_from-requires c = (next_found (blocks c.args.bitmap.now) _ _ _ c.next_set.ensures _ 0 c.in-At.is).0
 
 pub returns : goal.returns
-returns c = (next-found (blocks c.args.bitmap.now) _ _ _ c.next_set.ensures _ _ c.in-At.is).1 c.count_from.ensures
+returns c = (next_found (blocks c.args.bitmap.now) _ _ _ c.next_set.ensures _ _ c.in-At.is).1 c.count_from.ensures

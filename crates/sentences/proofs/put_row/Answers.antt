@@ -4,7 +4,7 @@ use mathlib.Core.Path.{◌≡◌}
 use native.Mathlib.Omega.{arith}
 use Rattle.text.proofs.Puts.{then}
 use Rattle.sentences.specs.Summary.{row_text}
-use Rattle.sentences.proofs.Rows.{put-none, put-long, row_more}
+use Rattle.sentences.proofs.Rows.{put_none, put_long, row_more}
 use Rattle.sentences.proofs.put_row.Goals as goal
 
 pub within-to-requires : goal.within-to-requires
@@ -12,7 +12,7 @@ within-to-requires c = tt
 
 pub loop-i-init : goal.loop-i-init
 unfolding row_text
-loop-i-init c = (omega arith, put-none _ _ _ c.within-to.ensures)
+loop-i-init c = (omega arith, put_none _ _ _ c.within-to.ensures)
 
 pub is_set-requires : goal.is_set-requires
 is_set-requires c = tt
@@ -31,7 +31,7 @@ loop-i-preserved c = (
 )
 
 pub shape_of-out : goal.shape_of-out
-shape_of-out c = put-long c.loop-i.invariant.1
+shape_of-out c = put_long c.loop-i.invariant.1
 
 pub returns : goal.returns
 returns c =

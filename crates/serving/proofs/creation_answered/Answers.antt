@@ -1,7 +1,7 @@
 -- SPDX-License-Identifier: Apache-2.0 AND BSD-3-Clause
 -- `serving::creation_answered` meets its contract: 10 where the host failed, then 9.
 use native.Mathlib.Omega.{arith}
-use Rattle.record.proofs.Laws.{shaped-is, create-is}
+use Rattle.record.proofs.Laws.{shaped_is, create_is}
 use Rattle.serving.proofs.Creation.{failed, past, done}
 use Rattle.serving.proofs.creation_answered.Goals as goal
 
@@ -11,8 +11,8 @@ returns-then-not-ok c = failed _ _ _ _ _ _ _ _ c.pending_to.ensures c.if-not-ok.
 pub covered_by-requires : goal.covered_by-requires
 covered_by-requires c =
     let p = c.requires in
-    let r = create-is _ p.0 _ _ p.1 in
-    let s = shaped-is _ p.0 in
+    let r = create_is _ p.0 _ _ p.1 in
+    let s = shaped_is _ p.0 in
     (r.ordered, omega (arith, r.inside, s.rows_few))
 
 pub returns-then-not-sum_within : goal.returns-then-not-sum_within

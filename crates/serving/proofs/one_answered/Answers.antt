@@ -1,22 +1,22 @@
 -- SPDX-License-Identifier: Apache-2.0 AND BSD-3-Clause
 -- `serving::one_answered` meets its contract: the block is clear when the search goes on behind it.
 use native.Mathlib.Omega.{arith}
-use Rattle.record.proofs.Laws.{shaped-is, discard-one-is}
-use Rattle.serving.proofs.Entries.{less-shaped, one-fails, one-done}
+use Rattle.record.proofs.Laws.{shaped_is, discard_one_is}
+use Rattle.serving.proofs.Entries.{less_shaped, one_fails, one_done}
 use Rattle.serving.proofs.one_answered.Goals as goal
 
 pub returns-then-not-ok : goal.returns-then-not-ok
-returns-then-not-ok c = one-fails _ _ _ c.requires.0 _ _ _ _ _ c.if-not-ok.true c.stopped.ensures
+returns-then-not-ok c = one_fails _ _ _ c.requires.0 _ _ _ _ _ c.if-not-ok.true c.stopped.ensures
 
 pub overflow_add-block : goal.overflow_add-block
 overflow_add-block c =
     let pre = c.requires in
-    omega (arith, shaped-is _ pre.0, discard-one-is _ pre.0 _ _ pre.1)
+    omega (arith, shaped_is _ pre.0, discard_one_is _ pre.0 _ _ pre.1)
 
 pub unplug_all-requires : goal.unplug_all-requires
-unplug_all-requires c = less-shaped _ _ _ _ c.requires.0 c.saturating_sub-left.ensures c.plugged_to.ensures c.pending_to-cleared.ensures
+unplug_all-requires c = less_shaped _ _ _ _ c.requires.0 c.saturating_sub-left.ensures c.plugged_to.ensures c.pending_to-cleared.ensures
 
 pub returns : goal.returns
 returns c =
-    one-done _ _ _ c.requires.0 _ _ _ _ _ c.if-not-ok.false _ c.set_range.ensures _ c.saturating_sub-left.ensures _ _
+    one_done _ _ _ c.requires.0 _ _ _ _ _ c.if-not-ok.false _ c.set_range.ensures _ c.saturating_sub-left.ensures _ _
     c.plugged_to.ensures c.pending_to-cleared.ensures c.unplug_all.ensures

@@ -1,23 +1,23 @@
 -- SPDX-License-Identifier: Apache-2.0 AND BSD-3-Clause
 -- `serving::plug` meets its contract: each `return` is a leaf, NACK before the tests of the range.
 use native.Mathlib.Omega.{arith}
-use Rattle.record.proofs.Laws.{shaped-is}
-use Rattle.serving.proofs.Ways.{plug-nacks, plug-errs, plug-acks}
+use Rattle.record.proofs.Laws.{shaped_is}
+use Rattle.serving.proofs.Ways.{plug_nacks, plug_errs, plug_acks}
 use Rattle.serving.proofs.plug.Goals as goal
 
 pub overflow_cast-block_size : goal.overflow_cast-block_size
-overflow_cast-block_size c = let shape = shaped-is _ c.requires in omega arith
+overflow_cast-block_size c = let shape = shaped_is _ c.requires in omega arith
 
 pub returns-then-not-sum_within : goal.returns-then-not-sum_within
-returns-then-not-sum_within c = plug-nacks _ _ _ c.requires _ _ _ _ _ _ _ c.bytes_of-size.ensures _ c.sum_within.ensures c.if-not-sum_within.true c.ended.ensures
+returns-then-not-sum_within c = plug_nacks _ _ _ c.requires _ _ _ _ _ _ _ c.bytes_of-size.ensures _ c.sum_within.ensures c.if-not-sum_within.true c.ended.ensures
 
 pub returns-in_default : goal.returns-in_default
-returns-in_default c = plug-errs _ _ _ c.requires _ _ _ _ _ _ _ c.bytes_of-size.ensures _ c.sum_within.ensures c.if-not-sum_within.false _ c.change_of-change.ensures c.in_default.not-Legal _ c.why.ensures c.ended-in_default.ensures
+returns-in_default c = plug_errs _ _ _ c.requires _ _ _ _ _ _ _ c.bytes_of-size.ensures _ c.sum_within.ensures c.if-not-sum_within.false _ c.change_of-change.ensures c.in_default.not-Legal _ c.why.ensures c.ended-in_default.ensures
 
 pub overflow_add-plugged : goal.overflow_add-plugged
 overflow_add-plugged c =
-    let shape = shaped-is _ c.requires in
+    let shape = shaped_is _ c.requires in
     omega (arith, shape, rw shape.block_size at c.bytes_of-size.ensures)
 
 pub returns : goal.returns
-returns c = plug-acks _ _ _ c.requires _ _ _ _ _ _ _ c.bytes_of-size.ensures _ c.sum_within.ensures c.if-not-sum_within.false _ c.change_of-change.ensures _ _ _ c.in-Legal.is _ c.set_range.ensures _ c.plugged_to.ensures c.ended-2.ensures
+returns c = plug_acks _ _ _ c.requires _ _ _ _ _ _ _ c.bytes_of-size.ensures _ c.sum_within.ensures c.if-not-sum_within.false _ c.change_of-change.ensures _ _ _ c.in-Legal.is _ c.set_range.ensures _ c.plugged_to.ensures c.ended-2.ensures

@@ -1,18 +1,18 @@
 -- SPDX-License-Identifier: Apache-2.0 AND BSD-3-Clause
 -- `serving::unplug` meets its contract: every ERROR comes before 12, and 12 before the question.
 use native.Mathlib.Omega.{arith}
-use Rattle.record.proofs.Laws.{shaped-is}
-use Rattle.serving.proofs.Ways.{unplug-errs, unplug-refuses, unplug-asks}
+use Rattle.record.proofs.Laws.{shaped_is}
+use Rattle.serving.proofs.Ways.{unplug_errs, unplug_refuses, unplug_asks}
 use Rattle.serving.proofs.unplug.Goals as goal
 
 pub overflow_cast-block_size : goal.overflow_cast-block_size
-overflow_cast-block_size c = let shape = shaped-is _ c.requires in omega arith
+overflow_cast-block_size c = let shape = shaped_is _ c.requires in omega arith
 
 pub returns-in_default : goal.returns-in_default
-returns-in_default c = unplug-errs _ _ _ c.requires _ _ _ _ _ _ c.change_of-change.ensures c.in_default.not-Legal _ c.why.ensures c.ended.ensures
+returns-in_default c = unplug_errs _ _ _ c.requires _ _ _ _ _ _ c.change_of-change.ensures c.in_default.not-Legal _ c.why.ensures c.ended.ensures
 
 pub returns-then-d-size : goal.returns-then-d-size
-returns-then-d-size c = unplug-refuses _ _ _ c.requires _ _ _ _ _ _ c.change_of-change.ensures _ _ _ c.in-Legal.is _ c.bytes_of-size.ensures c.if-d-size.true c.refuse.ensures
+returns-then-d-size c = unplug_refuses _ _ _ c.requires _ _ _ _ _ _ c.change_of-change.ensures _ _ _ c.in-Legal.is _ c.bytes_of-size.ensures c.if-d-size.true c.refuse.ensures
 
 pub returns : goal.returns
-returns c = unplug-asks _ _ _ c.requires _ _ _ _ _ _ c.change_of-change.ensures _ _ _ c.in-Legal.is _ c.bytes_of-size.ensures c.if-d-size.false c.asked.ensures
+returns c = unplug_asks _ _ _ c.requires _ _ _ _ _ _ c.change_of-change.ensures _ _ _ c.in-Legal.is _ c.bytes_of-size.ensures c.if-d-size.false c.asked.ensures

@@ -1,17 +1,17 @@
 -- SPDX-License-Identifier: Apache-2.0 AND BSD-3-Clause
 -- `serving::unplug_one` meets its contract: past the test of the usable size, the map table decides.
 use native.Mathlib.Omega.{arith}
-use Rattle.serving.proofs.Ways.{block-fits, one-past, one-errs, one-asks}
+use Rattle.serving.proofs.Ways.{block_fits, one_past, one_errs, one_asks}
 use Rattle.serving.proofs.unplug_one.Goals as goal
 
 pub overflow_mul-offset : goal.overflow_mul-offset
-overflow_mul-offset c = let fits = block-fits _ c.requires.0 _ c.requires.1 in omega arith
+overflow_mul-offset c = let fits = block_fits _ c.requires.0 _ c.requires.1 in omega arith
 
 pub returns-then-d-offset : goal.returns-then-d-offset
-returns-then-d-offset c = one-past _ _ _ c.requires.0 _ _ _ _ c.requires.1 c.requires.2 c.if-d-offset.true c.stopped.ensures
+returns-then-d-offset c = one_past _ _ _ c.requires.0 _ _ _ _ c.requires.1 c.requires.2 c.if-d-offset.true c.stopped.ensures
 
 pub returns-in_default : goal.returns-in_default
-returns-in_default c = one-errs _ _ _ c.requires.0 _ _ _ _ c.requires.1 c.requires.2 c.if-d-offset.false _ c.host_of-found.ensures c.in_default.not-At _ c.why.ensures c.stopped-in_default.ensures
+returns-in_default c = one_errs _ _ _ c.requires.0 _ _ _ _ c.requires.1 c.requires.2 c.if-d-offset.false _ c.host_of-found.ensures c.in_default.not-At _ c.why.ensures c.stopped-in_default.ensures
 
 pub returns : goal.returns
-returns c = one-asks _ _ _ c.requires.0 _ _ _ _ c.requires.1 c.requires.2 c.if-d-offset.false _ c.host_of-found.ensures _ c.in-At.is c.asked.ensures
+returns c = one_asks _ _ _ c.requires.0 _ _ _ _ c.requires.1 c.requires.2 c.if-d-offset.false _ c.host_of-found.ensures _ c.in-At.is c.asked.ensures

@@ -7,7 +7,7 @@ use mathlib.Core.Bool.{Bool, true, false}
 use lib.Dec.{leb}
 use native.Mathlib.Omega.{arith}
 use Rattle.units.specs.Numbers.{top, blocks_in, map_regions}
-use Rattle.units.proofs.Tests.{leb-same}
+use Rattle.units.proofs.Tests.{leb_same}
 use Rattle.step.specs.Step.{tables_fit}
 use Rattle.step.proofs.tables_fit.Goals as goal
 
@@ -29,7 +29,7 @@ returns c =
     let blocks = blocks_in a.d.config.block_size a.d.config.region_size in
     let rows = map_regions a.d.config.region_size a.d.several in
     let eight : leb ((blocks + 7) / 8) a.bytes ≡ leb blocks (8 * a.bytes) =
-    leb-same ((blocks + 7) / 8) a.bytes blocks (8 * a.bytes) (λ h. omega arith) (λ h. omega arith) in
+    leb_same ((blocks + 7) / 8) a.bytes blocks (8 * a.bytes) (λ h. omega arith) (λ h. omega arith) in
     let three : leb (rows * 3) a.words ≡ leb rows (a.words / 3) =
-    leb-same (rows * 3) a.words rows (a.words / 3) (λ h. omega arith) (λ h. omega arith) in
+    leb_same (rows * 3) a.words rows (a.words / 3) (λ h. omega arith) (λ h. omega arith) in
     simp (c.bytes_for-needed.ensures, c.map_regions-rows.ensures, eight, three)

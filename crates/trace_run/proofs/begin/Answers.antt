@@ -1,17 +1,17 @@
 -- SPDX-License-Identifier: Apache-2.0 AND BSD-3-Clause
 -- `trace_run::begin` meets its contract: a device is made, which has the stated shape, or the line is refused.
 use mathlib.Core.Path.{sym, ◌∙◌}
-use Rattle.making.proofs.Newly.{made-new}
+use Rattle.making.proofs.Newly.{made_new}
 use Rattle.trace_run.specs.Run.{begun_on}
-use Rattle.trace_run.proofs.Laws.{printed-comes}
+use Rattle.trace_run.proofs.Laws.{printed_comes}
 use Rattle.trace_run.proofs.begin.Goals as goal
 
 pub put_in_place-requires : goal.put_in_place-requires
-put_in_place-requires c = ((made-new _ _ _ _ _ _ (sym c.new-made.ensures.same ∙ c.in-Device.is)).shape, c.requires)
+put_in_place-requires c = ((made_new _ _ _ _ _ _ (sym c.new-made.ensures.same ∙ c.in-Device.is)).shape, c.requires)
 
 pub returns-in-Refused : goal.returns-in-Refused
 unfolding begun_on
-returns-in-Refused c = rw (← c.new-made.ensures.same, c.in-Refused.is) (printed-comes _ c.refuse.ensures)
+returns-in-Refused c = rw (← c.new-made.ensures.same, c.in-Refused.is) (printed_comes _ c.refuse.ensures)
 
 pub returns-in-Device : goal.returns-in-Device
 unfolding begun_on

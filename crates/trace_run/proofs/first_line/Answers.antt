@@ -1,7 +1,7 @@
 -- SPDX-License-Identifier: Apache-2.0 AND BSD-3-Clause
 -- `trace_run::first_line` meets its contract: each kind of line has its case.
 use Rattle.trace_run.specs.Run.{turn}
-use Rattle.trace_run.proofs.Laws.{printed-comes}
+use Rattle.trace_run.proofs.Laws.{printed_comes}
 use Rattle.trace_run.proofs.first_line.Goals as goal
 
 pub begin-requires : goal.begin-requires
@@ -13,8 +13,8 @@ returns-in-First c = rw c.in-First.is c.begin.ensures
 
 pub returns-in-Later : goal.returns-in-Later
 unfolding turn
-returns-in-Later c = rw c.in-Later.is (printed-comes _ c.refuse.ensures)
+returns-in-Later c = rw c.in-Later.is (printed_comes _ c.refuse.ensures)
 
 pub returns-in-Bad : goal.returns-in-Bad
 unfolding turn
-returns-in-Bad c = rw c.in-Bad.is (printed-comes _ c.refuse-in-Bad.ensures)
+returns-in-Bad c = rw c.in-Bad.is (printed_comes _ c.refuse-in-Bad.ensures)

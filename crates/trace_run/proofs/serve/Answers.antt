@@ -2,11 +2,11 @@
 -- `trace_run::serve` meets its contract: the line is read, and then served where the run stands.
 use mathlib.Core.Path.{refl}
 use Rattle.trace_run.specs.Run.{turn}
-use Rattle.trace_run.proofs.Laws.{slot-fits, ended-comes}
+use Rattle.trace_run.proofs.Laws.{slot_fits, ended_comes}
 use Rattle.trace_run.proofs.serve.Goals as goal
 
 pub first_line-requires : goal.first_line-requires
-first_line-requires c = slot-fits _ _ c.read_line-read.ensures
+first_line-requires c = slot_fits _ _ c.read_line-read.ensures
 
 pub returns-in-Before : goal.returns-in-Before
 returns-in-Before c = record { line = _; reads = c.read_line-read.ensures; comes = rw c.in-Before.is c.first_line.ensures }
@@ -16,4 +16,4 @@ returns-in-On c = record { line = _; reads = c.read_line-read.ensures; comes = r
 
 pub returns-in-Ended : goal.returns-in-Ended
 unfolding turn
-returns-in-Ended c = record { line = _; reads = c.read_line-read.ensures; comes = rw c.in-Ended.is (ended-comes _ _ _ refl refl refl) }
+returns-in-Ended c = record { line = _; reads = c.read_line-read.ensures; comes = rw c.in-Ended.is (ended_comes _ _ _ refl refl refl) }

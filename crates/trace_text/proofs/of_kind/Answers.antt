@@ -1,7 +1,7 @@
 -- SPDX-License-Identifier: Apache-2.0 AND BSD-3-Clause
 -- `trace_text::of_kind` meets its contract: the whole text is scanned, or it is not.
 use mathlib.Core.Path.{refl, sym, ◌∙◌}
-use Rattle.forms.proofs.Laws.{scan-stored}
+use Rattle.forms.proofs.Laws.{scan_stored}
 use Rattle.trace_text.specs.Reading.{kind_of}
 use Rattle.trace_text.proofs.of_kind.Goals as goal
 
@@ -10,7 +10,7 @@ unfolding kind_of
 returns-then-scan c =
     let o = c.scan.ensures in
     let e = c.if-scan.true in
-    let f = scan-stored o e in
+    let f = scan_stored o e in
     rw (sym o.answer ∙ e, ← f 0 refl, ← f 1 refl, ← f 2 refl, ← f 3 refl, ← f 4 refl, ← f 5 refl, ← f 6 refl) c.made.ensures
 
 pub returns : goal.returns

@@ -3,16 +3,16 @@
 use Prim.Native.Nat.{◌<◌, ◌%◌}
 use native.Mathlib.Nat.{mod-lt}
 use native.Mathlib.Omega.{arith}
-use Rattle.units.proofs.Laws.{round-multiple, round-next, round-none}
+use Rattle.units.proofs.Laws.{round_multiple, round_next, round_none}
 use Rattle.units.proofs.next_multiple_of.Goals as goal
 
 pub returns-then-to-eq0 : goal.returns-then-to-eq0
-returns-then-to-eq0 c = rw (c.if-to-eq0.true, round-none)
+returns-then-to-eq0 c = rw (c.if-to-eq0.true, round_none)
 
 pub returns-then-over-eq0 : goal.returns-then-over-eq0
 returns-then-over-eq0 c =
     let a = c.args in
-    rw (round-multiple a.n a.to (omega arith) c.if-over-eq0.true) (omega arith)
+    rw (round_multiple a.n a.to (omega arith) c.if-over-eq0.true) (omega arith)
 
 pub overflow_sub-to : goal.overflow_sub-to
 overflow_sub-to c =
@@ -23,4 +23,4 @@ overflow_sub-to c =
 pub returns : goal.returns
 returns c =
     let a = c.args in
-    rw (round-next a.n a.to (omega arith) (omega arith)) c.saturating_add.ensures
+    rw (round_next a.n a.to (omega arith) (omega arith)) c.saturating_add.ensures

@@ -5,7 +5,7 @@ use mathlib.Core.Path.{sym}
 use native.Mathlib.Nat.{le-div_iff_mul-le, mul-zero}
 use native.Mathlib.Omega.{arith}
 use borrow.Author.Tests.{le-leb}
-use Rattle.units.proofs.Tests.{leb-same}
+use Rattle.units.proofs.Tests.{leb_same}
 use Rattle.units.proofs.product_within.Goals as goal
 
 pub returns-then-b-eq0 : goal.returns-then-b-eq0
@@ -16,6 +16,6 @@ returns-then-b-eq0 c =
 pub returns : goal.returns
 returns c =
     let a = c.args in
-    leb-same a.a (a.limit / a.b) (a.a * a.b) a.limit
+    leb_same a.a (a.limit / a.b) (a.a * a.b) a.limit
     (le-div_iff_mul-le (omega arith)).0
     (le-div_iff_mul-le (omega arith)).1

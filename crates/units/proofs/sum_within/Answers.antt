@@ -2,7 +2,7 @@
 -- `units::sum_within` meets its contract: a limit less one summand is compared with the other.
 use native.Mathlib.Omega.{arith}
 use borrow.Author.Tests.{lt-leb}
-use Rattle.units.proofs.Tests.{leb-same}
+use Rattle.units.proofs.Tests.{leb_same}
 use Prim.Native.Nat.{◌+◌, ◌-◌}
 use mathlib.Core.Path.{sym}
 use Rattle.units.proofs.sum_within.Goals as goal
@@ -13,4 +13,4 @@ returns-then-limit-b c =
     sym (omega (arith, lt-leb))
 
 pub returns : goal.returns
-returns c = let a = c.args in leb-same a.a (a.limit - a.b) (a.a + a.b) a.limit (λ h. omega arith) (λ h. omega arith)
+returns c = let a = c.args in leb_same a.a (a.limit - a.b) (a.a + a.b) a.limit (λ h. omega arith) (λ h. omega arith)

@@ -12,7 +12,7 @@ use Rattle.wire.specs.declared.Field.{Field}
 use Rattle.little_endian.specs.Bytes.{little_endian, put}
 use Rattle.wire.specs.Layout.{config_fields, config_values, fields_laid, config_bytes}
 use Rattle.little_endian.proofs.Laws.{length-put}
-use Rattle.wire.proofs.Laws.{length-config, eight}
+use Rattle.wire.proofs.Laws.{length_config, eight}
 use Rattle.wire.proofs.read_config.Goals as goal
 
 abbrev field : ℕ → Field
@@ -41,7 +41,7 @@ pub returns-then-past : goal.returns-then-past
 unfolding put
 returns-then-past c =
     let config = config_bytes c.args.config in
-    let h : length config ≤ c.args.offset = rw length-config (omega arith) in
+    let h : length config ≤ c.args.offset = rw length_config (omega arith) in
     rw (drop_of_length-le config h)
 
 pub loop-k-init : goal.loop-k-init

@@ -8,7 +8,7 @@ use lib.ListN.{length}
 use Rattle.wire.specs.declared.VirtioMemResp.{VirtioMemResp}
 use Rattle.little_endian.specs.Bytes.{little_endian, put}
 use Rattle.wire.specs.Layout.{response_bytes}
-use Rattle.little_endian.proofs.Laws.{length-little_endian, put-append, put-past}
+use Rattle.little_endian.proofs.Laws.{length-little_endian, put_append, put_past}
 use Rattle.wire.proofs.write_response.Goals as goal
 
 -- a type has two bytes, so the six above them are zeros
@@ -22,7 +22,7 @@ both : (xs : List ℕ) (at : ℕ) (r : VirtioMemResp) → r.resp_type < 65536 �
     → zs ≡ put xs at (response_bytes r)
 both xs at r h e f =
     let n : length (little_endian 8 r.resp_type) ≡ 8 = length-little_endian 8 r.resp_type in
-    rw (typed r h, put-append, n, ← e) f
+    rw (typed r h, put_append, n, ← e) f
 
 pub returns-then-at-places : goal.returns-then-at-places
 returns-then-at-places c =
@@ -33,4 +33,4 @@ pub returns-else-at-places : goal.returns-else-at-places
 returns-else-at-places c =
     let a = c.args in
     both a.bytes.now a.at a.resp (omega arith) c.write_u64.ensures
-    (sym (put-past c.write_u64.new.bytes (a.at + 8) (little_endian 2 a.resp.state) (omega arith)))
+    (sym (put_past c.write_u64.new.bytes (a.at + 8) (little_endian 2 a.resp.state) (omega arith)))

@@ -7,7 +7,7 @@ use lib.ListN.{get_or}
 use Rattle.little_endian.specs.Bytes.{put}
 use Rattle.record.specs.declared.Device.{Device}
 use Rattle.words.specs.Record.{bit, pending_words, words_of, decoded_of}
-use Rattle.words.proofs.Laws.{four, encoded-decodes}
+use Rattle.words.proofs.Laws.{four, encoded_decodes}
 use native.Mathlib.Omega.{arith}
 use Rattle.words.proofs.encode.Goals as goal
 
@@ -44,4 +44,4 @@ returns c =
     (encoded d _ _ _ c.pending_words-pending.ensures
     c.bit.ensures
     c.bit-2.ensures) in
-    record { words_after = written; words_after_2 = λ room. ap decoded_of written ∙ encoded-decodes d ws (omega arith) room }
+    record { words_after = written; words_after_2 = λ room. ap decoded_of written ∙ encoded_decodes d ws (omega arith) room }

@@ -4,8 +4,8 @@
 use mathlib.Core.Path.{refl, sym, ◌∙◌}
 use native.Mathlib.Omega.{arith}
 use lib.ListN.{drop, length-set}
-use Rattle.little_endian.proofs.Laws.{put-past}
-use Rattle.words.proofs.Laws.{put_next, put-none}
+use Rattle.little_endian.proofs.Laws.{put_past}
+use Rattle.words.proofs.Laws.{put_next, put_none}
 use Rattle.words.proofs.write_words.Goals as goal
 
 pub loop-i-init : goal.loop-i-init
@@ -14,7 +14,7 @@ loop-i-init c = (refl, refl)
 pub returns-then-what-i : goal.returns-then-what-i
 returns-then-what-i c =
     let o = c.loop-i in
-    sym (put-none o.words o.i c.args.what.now c.if-what-i.true) ∙ o.invariant.1
+    sym (put_none o.words o.i c.args.what.now c.if-what-i.true) ∙ o.invariant.1
 
 pub loop-i-smaller : goal.loop-i-smaller
 loop-i-smaller c = simp length-set (omega arith)
@@ -29,4 +29,4 @@ loop-i-preserved c =
 pub returns : goal.returns
 returns c =
     let o = c.loop-i in
-    sym (put-past o.words o.i (drop o.i c.args.what.now) c.loop-i-test.false) ∙ o.invariant.1
+    sym (put_past o.words o.i (drop o.i c.args.what.now) c.loop-i-test.false) ∙ o.invariant.1

@@ -8,30 +8,30 @@ use Rattle.record.proofs.Laws.{aligned}
 use Rattle.making.specs.declared.Made.{Made}
 use Rattle.making.specs.Made.{made, made_number, MadeAs}
 use Rattle.making.proofs.Asked.{asked_is}
-use Rattle.making.proofs.Newly.{alignment-ok}
+use Rattle.making.proofs.Newly.{alignment_ok_lem}
 use Rattle.making.proofs.Mem.new.Goals as goal
 
 -- the number goes with the device or the refusal
-as-made : {m r : Made} → r ≡ m → MadeAs m r
-as-made e = record { same = e; numbered = ap made_number e }
+as_made : {m r : Made} → r ≡ m → MadeAs m r
+as_made e = record { same = e; numbered = ap made_number e }
 
 pub returns-then-too_large : goal.returns-then-too_large
 unfolding made
-returns-then-too_large c = as-made (simp (lt-ltb 1048576 c.args.capacity_mib (omega arith)))
+returns-then-too_large c = as_made (simp (lt-ltb 1048576 c.args.capacity_mib (omega arith)))
 
 pub returns-then-capacity_mib-eq0 : goal.returns-then-capacity_mib-eq0
 unfolding made
-returns-then-capacity_mib-eq0 c = as-made (simp (le-ltb 1048576 c.args.capacity_mib (omega arith), eq-eqb _ 0 c.if-capacity_mib-eq0.true))
+returns-then-capacity_mib-eq0 c = as_made (simp (le-ltb 1048576 c.args.capacity_mib (omega arith), eq-eqb _ 0 c.if-capacity_mib-eq0.true))
 
 pub region_of-region-requires : goal.region_of-region-requires
 region_of-region-requires c =
     let boot = c.args.boot in
-    (omega arith, rw c.alignment_of-alignment.ensures (aligned _ (alignment-ok boot)).high)
+    (omega arith, rw c.alignment_of-alignment.ensures (aligned _ (alignment_ok_lem boot)).high)
 
 pub returns-then-requested_refused : goal.returns-then-requested_refused
 unfolding made
 returns-then-requested_refused c =
-    as-made
+    as_made
     (simp
     (le-ltb 1048576 c.args.capacity_mib (omega arith), ne_eqb _ 0 c.if-capacity_mib-eq0.false, ← c.alignment_of-alignment.ensures, ← c.region_of-region.ensures, ← c.requested_refused.ensures, c.if-requested_refused.true))
 
@@ -42,6 +42,6 @@ overflow_mul-requested_mib c =
 pub returns : goal.returns
 unfolding made
 returns c =
-    as-made
+    as_made
     (simp
     (le-ltb 1048576 c.args.capacity_mib (omega arith), ne_eqb _ 0 c.if-capacity_mib-eq0.false, ← c.alignment_of-alignment.ensures, ← c.region_of-region.ensures, ← c.requested_refused.ensures, c.if-requested_refused.false, c.new_device-device.ensures))
