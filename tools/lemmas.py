@@ -142,4 +142,5 @@ def main():
     for f, t in after.items(): open(f, "w", encoding="utf-8").write(t)
 
 
-main()
+if __name__ == "__main__":
+    main()
