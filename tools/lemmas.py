@@ -24,11 +24,11 @@ def words(text):
     return set(NAME.findall(re.sub(r"--[^\n]*", "", text)))
 
 
-def declared(text):
+def declared(text, inner=INNER):
     """(name, statement, is a field or stands below parameters) of each declaration of a file."""
     lines, out = text.split("\n"), []
     for i, l in enumerate(lines):
-        m = TOP.match(l) or INNER.match(l)
+        m = TOP.match(l) or inner.match(l)
         if not m: continue
         deep = len(l) - len(l.lstrip())
         said = [l[m.end():]]

@@ -7,12 +7,15 @@ import glob, os, re, sys
 sys.dont_write_bytecode = True
 from lemmas import declared
 
+# a field, or what stands in a section
+INNER = re.compile(r"^ +(?:(?:abbrev|unfoldable) )?(?:pub )?([^\s(){}.;,@\"]+) :(?= |$)")
+
 
 def load(root):
     found = {}
     for f in sorted(glob.glob(f"{root}/crates/*/specs/*.antt") + glob.glob(f"{root}/crates/*/proofs/*.antt")):
         place = os.path.relpath(f, root)
-        for name, statement, _ in declared(open(f, encoding="utf-8").read()):
+        for name, statement, _ in declared(open(f, encoding="utf-8").read(), INNER):
             said = re.sub(r"--[^\n]*", "", statement)
             found.setdefault((place, name), []).append(re.sub(r"\s+", " ", said).strip())
     return found
