@@ -9,6 +9,7 @@
 --     ones-       counting: in two parts, after a fill, none, all, of a plug and an unplug
 --     take-       the first n blocks, after a fill
 --     next-       the next set block: what it is, that there is none, going on from where a search stopped, what a search reads
+use Rattle.std.specs.Prelude.{Some, None}
 use Prim.Native.Nat.{ℕ, zero, suc, ◌+◌, ◌-◌, ◌*◌, ◌/◌, ◌≤◌, ◌<◌, zero-le, min}
 use mathlib.Core.Path.{◌≡◌, refl, ap, ◌∙◌, sym}
 use mathlib.Core.Bool.{Bool, true, false, ◌&&◌, beq, and_assoc, not}
@@ -18,7 +19,6 @@ use native.Mathlib.Nat.{zero-add, add-zero, suc-add, le_of_suc-le-suc, not-suc-l
 use native.Mathlib.Omega.{arith}
 use lib.ListN.{length, take, drop, replicate, length-append, length-take, length-drop, drop_of_length-le, get_or-eq_default}
 use lib.Seq.{get_or-take, get_or-drop, take-take, drop-cons, take-nil, drop-nil, take-add, take-append-add, drop-append-add, drop-drop}
-use Rattle.bitmap.specs.declared.Found.TheVariants.{At, Nothing}
 use Rattle.bitmap.specs.Blocks.{low_bits, blocks, block_at, range, every, all_are, ones, fill, first_from, next_in_state, next_set}
 
 lt_or_ge : (a b : ℕ) → (a < b) ⊎ (b ≤ a)
@@ -395,7 +395,7 @@ first_later v b s i bs q r =
     let w : i - s ≡ suc (i - suc s) = omega (arith, r.from_on) in
     record { from_on = omega (arith, r.from_on); exists = omega (arith, r.exists); found = rw w r.found; none_below = rw (w, q) r.none_below }
 
-first_at : (v : Bool) (s i : ℕ) (bs : List Bool) → first_from v s bs ≡ At i → First v s i bs
+first_at : (v : Bool) (s i : ℕ) (bs : List Bool) → first_from v s bs ≡ Some i → First v s i bs
 unfolding first_from
 first_at v s i [] e = absurd (let z : ◌≡◌ {A = ℕ} 0 1 = cc in omega arith)
 first_at true s i (true ∷ bs) e = let w : s ≡ i = cc in first_here true true s i bs refl w
@@ -403,7 +403,7 @@ first_at false s i (false ∷ bs) e = let w : s ≡ i = cc in first_here false f
 first_at true s i (false ∷ bs) e = first_later true false s i bs refl (first_at true (suc s) i bs e)
 first_at false s i (true ∷ bs) e = first_later false true s i bs refl (first_at false (suc s) i bs e)
 
-pub next_at : (v : Bool) (bs : List Bool) (f e i : ℕ) → next_in_state v bs f e ≡ At i → Lowest v bs f e i
+pub next_at : (v : Bool) (bs : List Bool) (f e i : ℕ) → next_in_state v bs f e ≡ Some i → Lowest v bs f e i
 next_at v bs f e i p =
     let r = first_at v f i (range bs f (e - f)) p in
     let l = range_length bs f (e - f) in
@@ -415,7 +415,7 @@ next_at v bs f e i p =
       none_below = rw (take-take (i - f) (e - f) (drop f bs) (omega (arith, r.exists))) at r.none_below;
     }
 
-first_nothing : (v : Bool) (s : ℕ) (bs : List Bool) → first_from v s bs ≡ Nothing → every (not v) bs ≡ true
+first_nothing : (v : Bool) (s : ℕ) (bs : List Bool) → first_from v s bs ≡ None → every (not v) bs ≡ true
 unfolding first_from every
 first_nothing v s [] e = refl
 first_nothing true s (true ∷ bs) e = absurd (let z : ◌≡◌ {A = ℕ} 0 1 = cc in omega arith)
@@ -423,10 +423,10 @@ first_nothing false s (false ∷ bs) e = absurd (let z : ◌≡◌ {A = ℕ} 0 1
 first_nothing true s (false ∷ bs) e = first_nothing true (suc s) bs e
 first_nothing false s (true ∷ bs) e = first_nothing false (suc s) bs e
 
-pub next_nothing : (v : Bool) (bs : List Bool) (f e : ℕ) → next_in_state v bs f e ≡ Nothing → all_are bs f (e - f) (not v) ≡ true
+pub next_nothing : (v : Bool) (bs : List Bool) (f e : ℕ) → next_in_state v bs f e ≡ None → all_are bs f (e - f) (not v) ≡ true
 next_nothing v bs f e p = first_nothing v f (range bs f (e - f)) p
 
-pub next_nothing_ones : (bs : List Bool) (f e : ℕ) → next_set bs f e ≡ Nothing → ones (range bs f (e - f)) ≡ 0
+pub next_nothing_ones : (bs : List Bool) (f e : ℕ) → next_set bs f e ≡ None → ones (range bs f (e - f)) ≡ 0
 next_nothing_ones bs f e p = ones_none (range bs f (e - f)) (next_nothing true bs f e p)
 
 -- a search goes on past clear blocks
@@ -452,7 +452,7 @@ next_skip (suc k) bs f e h =
     rw w (next_skip k bs (suc f) e (λ i p q. h i (omega arith) (omega arith)) ∙ next_step bs f e (h f (omega arith) (omega arith)))
 
 -- the block that was found, cleared: the search goes on after it
-pub next_cleared : (bs : List Bool) (f e i : ℕ) → next_set bs f e ≡ At i → next_set (fill bs i 1 false) f e ≡ next_set bs (suc i) e
+pub next_cleared : (bs : List Bool) (f e i : ℕ) → next_set bs f e ≡ Some i → next_set (fill bs i 1 false) f e ≡ next_set bs (suc i) e
 next_cleared bs f e i p =
     let r = next_at true bs f e i p in
     let w : f + suc (i - f) ≡ suc i = omega arith in

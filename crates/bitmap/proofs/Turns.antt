@@ -1,5 +1,6 @@
 -- SPDX-License-Identifier: Apache-2.0 AND BSD-3-Clause
 -- What one turn of a loop over the blocks does, where the loop stands at bit k of byte j, with `left` blocks to go; and a range by its parts.
+use Rattle.std.specs.Prelude.{Some}
 use Prim.Native.Nat.{ℕ, zero, suc, ◌+◌, ◌-◌, ◌*◌, ◌/◌, ◌%◌, ◌≤◌, ◌<◌}
 use mathlib.Core.Path.{◌≡◌, refl, ap, ◌∙◌, sym}
 use mathlib.Core.Bool.{Bool, true, false, not, ◌&&◌, beq}
@@ -7,7 +8,6 @@ use mathlib.Core.List.{List, [], ◌∷◌}
 use native.Mathlib.Omega.{arith}
 use lib.ListN.{length, get_or, set, length-set, get_or-eq_default}
 use lib.Seq.{take-set-le, drop-set-lt, set-get_or}
-use Rattle.bitmap.specs.declared.Found.TheVariants.{At}
 use Rattle.bitmap.specs.Blocks.{low_bits, blocks, block_at, range, all_are, fill, first_from, Filled}
 use Rattle.bitmap.specs.Whole.{whole}
 use Rattle.bitmap.proofs.Laws.{low_length, blocks-length, at_inside, range_step, range_end, all_split, fill_none, fill_end, fill_split}
@@ -55,7 +55,7 @@ module _ (xs : List ℕ) (v : Bool) where
   all_then f n c h = let e : c ≡ n + (c - n) = omega arith in ap (λ (t : ℕ). all_are (blocks xs) f t v) e ∙ all_split (blocks xs) f n (c - n) v
 
 -- ---- a search: at the block that it looks for, at another, and past a byte that has none
-pub first_hit : (v b : Bool) (at : ℕ) (bs : List Bool) → beq b v ≡ true → first_from v at (b ∷ bs) ≡ At at
+pub first_hit : (v b : Bool) (at : ℕ) (bs : List Bool) → beq b v ≡ true → first_from v at (b ∷ bs) ≡ Some at
 unfolding first_from
 first_hit v b at bs e = rw e
 

@@ -1,10 +1,8 @@
 -- SPDX-License-Identifier: Apache-2.0 AND BSD-3-Clause
 -- What a packed bitmap means: a list of truth values, one for each block, block 0 first, true where the block is plugged.
 -- Only `low_bits`, `blocks`, `Outside` and `Filled` speak of bytes: every other definition is on that list. A block exists if it is in the list: what lies past the end is in no range (R8.2).
-use Rattle.std.specs.Prelude.{ℕ, zero, suc, ◌+◌, ◌-◌, ◌*◌, ◌/◌, ◌%◌, ◌≤◌, ◌≡◌, Bool, true, false, cond, ◌&&◌, List, [], ◌∷◌, ◌++◌, eqb, length, get_or, take, drop}
+use Rattle.std.specs.Prelude.{ℕ, zero, suc, ◌+◌, ◌-◌, ◌*◌, ◌/◌, ◌%◌, ◌≤◌, ◌≡◌, Bool, true, false, cond, ◌&&◌, List, [], ◌∷◌, ◌++◌, eqb, length, get_or, take, drop, Option, Some, None}
 use Rattle.std.specs.Bool.{beq}
-use Rattle.bitmap.specs.declared.Found.{Found}
-use Rattle.bitmap.specs.declared.Found.TheVariants.{At, Nothing}
 
 -- the n lowest bits of x, the lowest first
 unfoldable pub low_bits : (n x : ℕ) → List Bool
@@ -47,18 +45,18 @@ fill (b ∷ bs) zero zero v = b ∷ bs
 fill (b ∷ bs) zero (suc count) v = v ∷ fill bs zero count v
 
 -- the place of the first block in the state v, where the first of the list is block i
-unfoldable pub first_from : Bool → ℕ → List Bool → Found
-first_from v i [] = Nothing
-first_from v i (b ∷ bs) = cond (beq b v) (At i) (first_from v (suc i) bs)
+unfoldable pub first_from : Bool → ℕ → List Bool → Option ℕ
+first_from v i [] = None
+first_from v i (b ∷ bs) = cond (beq b v) (Some i) (first_from v (suc i) bs)
 
 -- the lowest block in the state v that exists from `from` up to, not including, `end`
-abbrev pub next_in_state : Bool → List Bool → (from end : ℕ) → Found
+abbrev pub next_in_state : Bool → List Bool → (from end : ℕ) → Option ℕ
 next_in_state v bs from end = first_from v from (range bs from (end - from))
 
-abbrev pub next_set : List Bool → (from end : ℕ) → Found
+abbrev pub next_set : List Bool → (from end : ℕ) → Option ℕ
 next_set bs from end = next_in_state true bs from end
 
-abbrev pub next_clear : List Bool → (from end : ℕ) → Found
+abbrev pub next_clear : List Bool → (from end : ℕ) → Option ℕ
 next_clear bs from end = next_in_state false bs from end
 
 -- R2.11: the lent bytes at entry and at exit differ in no byte that lies wholly outside the blocks from `first` to `end`

@@ -12,13 +12,6 @@ ghost use Rattle.bitmap.specs.Whole.{whole, wholes};
 use little_endian::read_u64;
 use units::smaller;
 
-// The block that a search ended at.
-#[derive(Clone, Copy)]
-pub enum Found {
-    At(usize),
-    Nothing,
-}
-
 // Bit k of a byte.
 fn bit(b: u8, k: usize) -> bool
     requires { k < 8 }
@@ -198,7 +191,7 @@ pub fn set_range(bitmap: &mut [u8], first: usize, count: usize, plugged: bool)
 
 // The lowest block in this state that exists from `from` up to, not including, `end`. A byte without one is passed at
 // once.
-fn next_of(bitmap: &[u8], from: usize, end: usize, v: bool) -> Found
+fn next_of(bitmap: &[u8], from: usize, end: usize, v: bool) -> Option<usize>
     ensures { result ≡ next_in_state v (blocks bitmap.now) from end }
 {
     let passed = whole_byte(!v);
@@ -207,32 +200,32 @@ fn next_of(bitmap: &[u8], from: usize, end: usize, v: bool) -> Found
     let mut at = from;
     while j < bitmap.len() {
         if end <= at {
-            return Found::Nothing;
+            return None;
         }
         if (k == 0) & (bitmap[j] == passed) & (8 <= end - at) {
             j += 1;
             at += 8;
         } else {
             if bit(bitmap[j], k) == v {
-                return Found::At(at);
+                return Some(at);
             }
             j += (k + 1) / 8;
             k = (k + 1) % 8;
             at += 1;
         }
     }
-    Found::Nothing
+    None
 }
 
 // The lowest plugged block from `from` up to, not including, `end`.
-pub fn next_set(bitmap: &[u8], from: usize, end: usize) -> Found
+pub fn next_set(bitmap: &[u8], from: usize, end: usize) -> Option<usize>
     ensures { result ≡ next_set (blocks bitmap.now) from end }
 {
     next_of(bitmap, from, end, true)
 }
 
 // The lowest block that exists and is not plugged, from `from` up to, not including, `end`.
-pub fn next_clear(bitmap: &[u8], from: usize, end: usize) -> Found
+pub fn next_clear(bitmap: &[u8], from: usize, end: usize) -> Option<usize>
     ensures { result ≡ next_clear (blocks bitmap.now) from end }
 {
     next_of(bitmap, from, end, false)

@@ -1,5 +1,6 @@
 -- SPDX-License-Identifier: Apache-2.0 AND BSD-3-Clause
 -- Laws on the chain, for callers: what a delivery leaves and what a parse reads.
+use Rattle.std.specs.Prelude.{Option, Some, None}
 use Prim.Native.Nat.{ℕ, ◌+◌, ◌-◌, ◌≤◌}
 use mathlib.Core.Path.{◌≡◌, refl, sym, ap, ◌∙◌}
 use mathlib.Core.Bool.{Bool, true, false, cond, not, ◌&&◌}
@@ -16,8 +17,6 @@ use Rattle.wire.specs.declared.VirtioMemResp.{VirtioMemResp}
 use Rattle.wire.specs.Layout.{request_at, response_bytes}
 use Rattle.wire.proofs.Laws.{request_part, length_response}
 use Rattle.descriptors.specs.declared.Descriptor.{Descriptor}
-use Rattle.descriptors.specs.declared.Link.{Link}
-use Rattle.descriptors.specs.declared.Link.TheVariants.{Is, Missing}
 use Rattle.descriptors.specs.Standard.{descriptor_at, descriptor_addr, has_next, is_write_only, is_indirect}
 use Rattle.descriptors.specs.Descriptors.{inside, link_at, link_after}
 use Rattle.descriptors.proofs.Laws.{inside_facts, descriptor_part}
@@ -33,19 +32,19 @@ either P false x y p q = q
 
 -- a reason from 21 to 27, or a request that stands somewhere in the memory: what holds of each holds of a parse
 module _ (P : Parsed → Type 0) (bad : (reason : ℕ) → 21 ≤ reason → reason ≤ 27 → P (Bad reason)) where
-  second_cases : (req : VirtioMemReq) (found : Link) → ((status : GuestAddr) → P (Request req status)) → P (with_second req found)
+  second_cases : (req : VirtioMemReq) (found : Option Descriptor) → ((status : GuestAddr) → P (Request req status)) → P (with_second req found)
   unfolding with_second
-  second_cases req Missing good = bad 21 (omega arith) (omega arith)
-  second_cases req (Is second) good =
+  second_cases req None good = bad 21 (omega arith) (omega arith)
+  second_cases req (Some second) good =
       either P (is_indirect second) _ _ (bad 27 (omega arith) (omega arith))
       (either P (not (is_write_only second)) _ _ (bad 25 (omega arith) (omega arith))
       (either P (ltb second.len 10) _ _ (bad 26 (omega arith) (omega arith)) (good second.addr)))
 
-  first_cases : (mem : List ℕ) (base table : ℕ) (found : Link) → ((at : ℕ) (status : GuestAddr) → P (Request (request_at mem at) status))
+  first_cases : (mem : List ℕ) (base table : ℕ) (found : Option Descriptor) → ((at : ℕ) (status : GuestAddr) → P (Request (request_at mem at) status))
       → P (with_first mem base table found)
   unfolding with_first
-  first_cases mem base table Missing good = bad 21 (omega arith) (omega arith)
-  first_cases mem base table (Is first) good =
+  first_cases mem base table None good = bad 21 (omega arith) (omega arith)
+  first_cases mem base table (Some first) good =
       either P (is_indirect first) _ _ (bad 27 (omega arith) (omega arith))
       (either P (is_write_only first) _ _ (bad 22 (omega arith) (omega arith))
       (either P (not (eqb first.len 24)) _ _ (bad 23 (omega arith) (omega arith))
@@ -124,21 +123,21 @@ link_same mem mem' base table index long same =
     let at = descriptor_addr table index in
     let lies = inside (length mem) base at 16 in
     rw (← long)
-    (chosen_same (ltb index 128 && lies) (Is (descriptor_at mem (at - base))) (Is (descriptor_at mem' (at - base))) Missing
-    (λ t. ap Is (read_same 16 descriptor_at descriptor_part mem mem' (at - base) (same (and_right (ltb index 128) lies t)))))
+    (chosen_same (ltb index 128 && lies) (Some (descriptor_at mem (at - base))) (Some (descriptor_at mem' (at - base))) None
+    (λ t. ap Some (read_same 16 descriptor_at descriptor_part mem mem' (at - base) (same (and_right (ltb index 128) lies t)))))
 
 link_after_same : (mem mem' : List ℕ) (base table : ℕ) (d : Descriptor) → length mem ≡ length mem'
     → (has_next d ≡ true → SameAt mem mem' base (descriptor_addr table d.next) 16)
     → link_after mem base table d ≡ link_after mem' base table d
 unfolding link_after
 link_after_same mem mem' base table d long same =
-    chosen_same (has_next d) (link_at mem base table d.next) (link_at mem' base table d.next) Missing
+    chosen_same (has_next d) (link_at mem base table d.next) (link_at mem' base table d.next) None
     (λ t. link_same mem mem' base table d.next long (same t))
 
 first_same : (mem mem' : List ℕ) (base table : ℕ) (first : Descriptor) → length mem ≡ length mem'
     → SameAt mem mem' base first.addr.0 24
     → (has_next first ≡ true → SameAt mem mem' base (descriptor_addr table first.next) 16)
-    → with_first mem base table (Is first) ≡ with_first mem' base table (Is first)
+    → with_first mem base table (Some first) ≡ with_first mem' base table (Some first)
 unfolding with_first
 first_same mem mem' base table first long request second =
     by_test (inside (length mem) base first.addr.0 24)
@@ -154,15 +153,15 @@ first_same mem mem' base table first long request second =
 pub record SameChain (mem mem' : List ℕ) (base table head : ℕ) : Type 0 where
   pub long : length mem ≡ length mem'
   pub first : SameAt mem mem' base (descriptor_addr table head) 16
-  pub request : (d : Descriptor) → link_at mem base table head ≡ Is d → SameAt mem mem' base d.addr.0 24
-  pub second : (d : Descriptor) → link_at mem base table head ≡ Is d → has_next d ≡ true
+  pub request : (d : Descriptor) → link_at mem base table head ≡ Some d → SameAt mem mem' base d.addr.0 24
+  pub second : (d : Descriptor) → link_at mem base table head ≡ Some d → has_next d ≡ true
       → SameAt mem mem' base (descriptor_addr table d.next) 16
 
 found_same : (mem mem' : List ℕ) (base table head : ℕ) → SameChain mem mem' base table head
-    → (found : Link) → link_at mem base table head ≡ found → with_first mem base table found ≡ with_first mem' base table found
+    → (found : Option Descriptor) → link_at mem base table head ≡ found → with_first mem base table found ≡ with_first mem' base table found
 unfolding with_first
-found_same mem mem' base table head same Missing is = refl
-found_same mem mem' base table head same (Is d) is =
+found_same mem mem' base table head same None is = refl
+found_same mem mem' base table head same (Some d) is =
     first_same mem mem' base table d same.long (same.request d is) (same.second d is)
 
 -- a parse does not depend on bytes outside the descriptors and the request

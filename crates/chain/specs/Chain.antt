@@ -1,12 +1,11 @@
 -- SPDX-License-Identifier: Apache-2.0 AND BSD-3-Clause
 -- The chain, test by test (R9): `mem` is the bytes of guest memory from the guest address `base` on, `table` the guest address of the descriptors, `status` that of the response.
-use Rattle.std.specs.Prelude.{ℕ, ◌-◌, Bool, cond, not, List, ltb, eqb, length}
+use Rattle.descriptors.specs.declared.Descriptor.{Descriptor}
+use Rattle.std.specs.Prelude.{ℕ, ◌-◌, Bool, cond, not, List, ltb, eqb, length, Option, Some, None}
 use Rattle.little_endian.specs.Bytes.{put}
 use Rattle.wire.specs.declared.VirtioMemReq.{VirtioMemReq}
 use Rattle.wire.specs.declared.VirtioMemResp.{VirtioMemResp}
 use Rattle.wire.specs.Layout.{request_at, response_bytes}
-use Rattle.descriptors.specs.declared.Link.{Link}
-use Rattle.descriptors.specs.declared.Link.TheVariants.{Is, Missing}
 use Rattle.descriptors.specs.Standard.{is_write_only, is_indirect}
 use Rattle.descriptors.specs.Descriptors.{inside, link_at, link_after}
 use Rattle.chain.specs.declared.Parsed.{Parsed}
@@ -35,18 +34,18 @@ abbrev pub indirect : Parsed
 indirect = Bad 27
 
 -- R9.5; R9.6: no later descriptor is looked at
-unfoldable pub with_second : (req : VirtioMemReq) (second : Link) → Parsed
-with_second req Missing = missing
-with_second req (Is second) =
+unfoldable pub with_second : (req : VirtioMemReq) (second : Option Descriptor) → Parsed
+with_second req None = missing
+with_second req (Some second) =
     cond (is_indirect second) indirect
     (cond (not (is_write_only second)) second_not_writable
     (cond (ltb second.len 10) second_under10
     (Request req second.addr)))
 
 -- R9.4
-unfoldable pub with_first : (mem : List ℕ) (base table : ℕ) (first : Link) → Parsed
-with_first mem base table Missing = missing
-with_first mem base table (Is first) =
+unfoldable pub with_first : (mem : List ℕ) (base table : ℕ) (first : Option Descriptor) → Parsed
+with_first mem base table None = missing
+with_first mem base table (Some first) =
     cond (is_indirect first) indirect
     (cond (is_write_only first) first_write_only
     (cond (not (eqb first.len 24)) length_not24

@@ -5,7 +5,7 @@
 ghost use Rattle.std.specs.Prelude.{◌≡◌};
 ghost use Rattle.chain.specs.Chain.{with_first, with_second, parsed, reason_of, reaches, delivered};
 
-use descriptors::{Link, Place, link_after, link_at, place_of};
+use descriptors::{link_after, link_at, place_of};
 use units::GuestAddr;
 use wire::{VirtioMemReq, VirtioMemResp, read_request, write_response};
 
@@ -35,10 +35,10 @@ impl Parsed {
 
 // The tests of the second descriptor (R9.5).
 #[tactic(auto, unfolding(crate::specs::Chain::with_second))]
-fn with_second(req: VirtioMemReq, found: Link) -> Parsed
+fn with_second(req: VirtioMemReq, found: Option<Descriptor>) -> Parsed
     ensures { result ≡ with_second req found }
 {
-    let Link::Is(second) = found else {
+    let Some(second) = found else {
         return Parsed::Bad(21);
     };
     let read_only = !second.is_write_only();
@@ -59,10 +59,10 @@ fn with_second(req: VirtioMemReq, found: Link) -> Parsed
 
 // The tests of the first descriptor (R9.4); the request is read here and nowhere else (R9.9).
 #[tactic(auto, using(descriptors::proofs::Laws::place_found), unfolding(crate::specs::Chain::with_first))]
-fn with_first(mem: &[u8], base: GuestAddr, table: GuestAddr, found: Link) -> Parsed
+fn with_first(mem: &[u8], base: GuestAddr, table: GuestAddr, found: Option<Descriptor>) -> Parsed
     ensures { result ≡ with_first mem.now base.0 table.0 found }
 {
-    let Link::Is(first) = found else {
+    let Some(first) = found else {
         return Parsed::Bad(21);
     };
     let write_only = first.is_write_only();
@@ -78,7 +78,7 @@ fn with_first(mem: &[u8], base: GuestAddr, table: GuestAddr, found: Link) -> Par
         return Parsed::Bad(23);
     }
     let addr = first.addr;
-    let Place::At(at) = place_of(mem, base, addr, REQUEST_SIZE as u64) else {
+    let Some(at) = place_of(mem, base, addr, REQUEST_SIZE as u64) else {
         return Parsed::Bad(24);
     };
     let req = read_request(mem, at);
@@ -97,7 +97,7 @@ pub fn deliver(mem: &mut [u8], base: GuestAddr, status: GuestAddr, resp: VirtioM
     ensures value { result ≡ reaches mem.old base.0 status.0 }
     ensures mem_after { mem.new ≡ delivered mem.old base.0 status.0 resp }
 {
-    let Place::At(at) = place_of(&mem[..], base, status, RESPONSE_SIZE as u64) else {
+    let Some(at) = place_of(&mem[..], base, status, RESPONSE_SIZE as u64) else {
         return false;
     };
     write_response(mem, at, resp);

@@ -8,7 +8,7 @@ ghost use Rattle.chain.specs.Chain.{parsed};
 ghost use Rattle.chain_reader.specs.Reader.{reader_index, second_link};
 
 use chain::{Parsed, parse};
-use descriptors::{Link, link_at};
+use descriptors::link_at;
 use units::GuestAddr;
 
 // An index at which no descriptor is.
@@ -18,7 +18,7 @@ const NO_INDEX: u16 = 128;
 fn index_after(mem: &[u8], base: GuestAddr, descriptors: GuestAddr, index: u16) -> u16
     ensures { result ≡ reader_index (link_at mem.now base.0 descriptors.0 index) }
 {
-    let Link::Is(current) = link_at(mem, base, descriptors, index) else {
+    let Some(current) = link_at(mem, base, descriptors, index) else {
         return NO_INDEX;
     };
     if current.has_next() {
@@ -52,7 +52,7 @@ impl<'a> ChainReader<'a> {
     }
 
     // The descriptor where the reader stands.
-    pub fn current(self) -> Link
+    pub fn current(self) -> Option<Descriptor>
         ensures { result ≡ link_at self.entry.mem.now self.entry.base.0
             self.entry.descriptors.0 self.entry.index }
     {
@@ -85,7 +85,7 @@ impl<'a> ChainReader<'a> {
 }
 
 // The second descriptor of a chain, by a reader.
-pub fn second_link(mem: &[u8], base: GuestAddr, descriptors: GuestAddr, head: u16) -> Link
+pub fn second_link(mem: &[u8], base: GuestAddr, descriptors: GuestAddr, head: u16) -> Option<Descriptor>
     ensures { result ≡ second_link mem.now base.0 descriptors.0 head }
 {
     ChainReader::new(mem, base, descriptors, head)

@@ -1,5 +1,6 @@
 -- SPDX-License-Identifier: Apache-2.0 AND BSD-3-Clause
 -- The laws of `specs/Change.antt` that callers cite: what a range that passed its tests is, and what a decision depends on.
+use Rattle.std.specs.Prelude.{Option, Some, None}
 use Prim.Native.Nat.{ℕ, zero, suc, ◌+◌, ◌-◌, ◌*◌, ◌/◌, ◌%◌, min, ◌≤◌, ◌<◌}
 use mathlib.Core.Path.{◌≡◌, refl, sym, ap, ◌∙◌}
 use mathlib.Core.Bool.{Bool, true, false, cond, not}
@@ -16,8 +17,6 @@ use Rattle.units.proofs.Tests.{by_test}
 use Rattle.bitmap.specs.Blocks.{block_at, range, every, all_are}
 use Rattle.bitmap.proofs.Laws.{range_end, one_set}
 use Rattle.rows.specs.declared.MapRow.{MapRow}
-use Rattle.rows.specs.declared.Mapping.{Mapping}
-use Rattle.rows.specs.declared.Mapping.TheVariants.{At as MappedAt, Unmapped as NotMapped}
 use Rattle.rows.specs.Rows.{row_at, mapping_of}
 use Rattle.rows.proofs.Laws.{mapping_same}
 use Rattle.change.specs.declared.Range.{Range}
@@ -95,13 +94,13 @@ sum_is base offset size host e =
     let p = cut (ltb top (base + offset + size)) (λ q. let z : ◌≡◌ {A = ℕ} 0 1 = cc in omega arith) e in
     (ltb-false top (base + offset + size) p.0, cc p.1)
 
-mapping_fits : (m : Mapping) (offset size : ℕ) (host : HostAddr) → host_in m offset size ≡ At host → host.0 + size ≤ top
+mapping_fits : (m : Option HostAddr) (offset size : ℕ) (host : HostAddr) → host_in m offset size ≡ At host → host.0 + size ≤ top
 unfolding host_in
-mapping_fits (MappedAt base) offset size host e =
+mapping_fits (Some base) offset size host e =
     let p = sum_is base.0 offset size host e in
     let w : host.0 ≡ base.0 + offset = ap (λ (x : HostAddr). x.0) p.1 in
     omega (arith, p.0)
-mapping_fits NotMapped offset size host e = let z : ◌≡◌ {A = ℕ} 0 1 = cc in absurd (omega arith)
+mapping_fits None offset size host e = let z : ◌≡◌ {A = ℕ} 0 1 = cc in absurd (omega arith)
 
 -- with several regions the range is of one map region, and its row has it
 pub in_map_region : (rows : List MapRow) (offset size : ℕ) (host : HostAddr) → host_of true rows offset size ≡ At host

@@ -1,5 +1,6 @@
 -- SPDX-License-Identifier: Apache-2.0 AND BSD-3-Clause
 -- A legal change in two parts, and two legal parts in one (10/12), over any block size.
+use Rattle.std.specs.Prelude.{Option, Some, None}
 use Prim.Native.Nat.{ℕ, ◌+◌, ◌/◌, ◌%◌, ◌≤◌, ◌<◌}
 use mathlib.Core.Path.{◌≡◌, refl, sym, ap, ◌∙◌}
 use mathlib.Core.Bool.{Bool, true, false, not}
@@ -14,8 +15,6 @@ use Rattle.units.proofs.Tests.{and_left, and_right}
 use Rattle.bitmap.specs.Blocks.{all_are, fill}
 use Rattle.bitmap.proofs.Laws.{all_split, fill_after}
 use Rattle.rows.specs.declared.MapRow.{MapRow}
-use Rattle.rows.specs.declared.Mapping.{Mapping}
-use Rattle.rows.specs.declared.Mapping.TheVariants.{At as MappedAt, Unmapped as NotMapped}
 use Rattle.rows.specs.Rows.{mapping_of}
 use Rattle.change.specs.declared.HostRange.TheVariants.{At}
 use Rattle.change.specs.Change.{host_sum, host_in, host_of}
@@ -28,29 +27,29 @@ sum_when base offset size h = rw (le-ltb top (base + offset + size) h)
 
 -- in one mapping
 module _ (offset s t : ℕ) (host : HostAddr) where
-  in_first : (m : Mapping) → host_in m offset (s + t) ≡ At host → host_in m offset s ≡ At host
+  in_first : (m : Option HostAddr) → host_in m offset (s + t) ≡ At host → host_in m offset s ≡ At host
   unfolding host_in
-  in_first (MappedAt base) e =
+  in_first (Some base) e =
       let p = sum_is base.0 offset (s + t) host e in
       sum_when base.0 offset s (omega (arith, p.0)) ∙ ap At (sym p.1)
-  in_first NotMapped e = let z : ◌≡◌ {A = ℕ} 0 1 = cc in absurd (omega arith)
+  in_first None e = let z : ◌≡◌ {A = ℕ} 0 1 = cc in absurd (omega arith)
 
-  in_second : (m : Mapping) → host_in m offset (s + t) ≡ At host → host_in m (offset + s) t ≡ At (record { 0 = host.0 + s })
+  in_second : (m : Option HostAddr) → host_in m offset (s + t) ≡ At host → host_in m (offset + s) t ≡ At (record { 0 = host.0 + s })
   unfolding host_in
-  in_second (MappedAt base) e =
+  in_second (Some base) e =
       let p = sum_is base.0 offset (s + t) host e in
       let h : host.0 ≡ base.0 + offset = ap (λ (x : HostAddr). x.0) p.1 in
       let w : base.0 + (offset + s) ≡ host.0 + s = omega arith in
       sum_when base.0 (offset + s) t (omega (arith, p.0)) ∙ ap (λ n. At (record { 0 = n })) w
-  in_second NotMapped e = let z : ◌≡◌ {A = ℕ} 0 1 = cc in absurd (omega arith)
+  in_second None e = let z : ◌≡◌ {A = ℕ} 0 1 = cc in absurd (omega arith)
 
-  in_joined : (m : Mapping) (behind : HostAddr) → host_in m offset s ≡ At host → host_in m (offset + s) t ≡ At behind → host_in m offset (s + t) ≡ At host
+  in_joined : (m : Option HostAddr) (behind : HostAddr) → host_in m offset s ≡ At host → host_in m (offset + s) t ≡ At behind → host_in m offset (s + t) ≡ At host
   unfolding host_in
-  in_joined (MappedAt base) behind e f =
+  in_joined (Some base) behind e f =
       let p = sum_is base.0 offset s host e in
       let q = sum_is base.0 (offset + s) t behind f in
       sum_when base.0 offset (s + t) (omega (arith, q.0)) ∙ ap At (sym p.1)
-  in_joined NotMapped behind e f = let z : ◌≡◌ {A = ℕ} 0 1 = cc in absurd (omega arith)
+  in_joined None behind e f = let z : ◌≡◌ {A = ℕ} 0 1 = cc in absurd (omega arith)
 
 -- in the map table
 module _ (rows : List MapRow) (offset size : ℕ) (host : HostAddr) where

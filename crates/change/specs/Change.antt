@@ -1,10 +1,9 @@
 -- SPDX-License-Identifier: Apache-2.0 AND BSD-3-Clause
 -- Plug, unplug and state of a range of blocks (R10), over numbers, the list of blocks and the list of rows; b is the block size.
-use Rattle.std.specs.Prelude.{ℕ, ◌+◌, ◌-◌, ◌/◌, ◌%◌, Bool, true, false, cond, not, List, leb, ltb, eqb, take}
+use Rattle.units.specs.declared.HostAddr.{HostAddr}
+use Rattle.std.specs.Prelude.{ℕ, ◌+◌, ◌-◌, ◌/◌, ◌%◌, Bool, true, false, cond, not, List, leb, ltb, eqb, take, Option, Some, None}
 use Rattle.bitmap.specs.Blocks.{every, range, all_are}
 use Rattle.rows.specs.declared.MapRow.{MapRow}
-use Rattle.rows.specs.declared.Mapping.{Mapping}
-use Rattle.rows.specs.declared.Mapping.TheVariants.{At as MappedAt, Unmapped as NotMapped}
 use Rattle.rows.specs.Rows.{mapping_of}
 use Rattle.units.specs.Numbers.{top, bytes_of, blocks_in, map_region}
 use Rattle.change.specs.declared.Range.{Range}
@@ -36,9 +35,9 @@ unfoldable pub host_sum : (host offset size : ℕ) → HostRange
 host_sum host offset size = cond (ltb top (host + offset + size)) SumPasses (At (record { 0 = host + offset }))
 
 -- R10.6: the row is mapped, then the host sum
-unfoldable pub host_in : Mapping → (offset size : ℕ) → HostRange
-host_in (MappedAt host) offset size = host_sum host.0 offset size
-host_in NotMapped offset size = Unmapped
+unfoldable pub host_in : Option HostAddr → (offset size : ℕ) → HostRange
+host_in (Some host) offset size = host_sum host.0 offset size
+host_in None offset size = Unmapped
 
 -- R8.4: the row of an offset
 abbrev pub row_of : (several : Bool) (offset : ℕ) → ℕ

@@ -14,7 +14,7 @@ ghost use Rattle.change.specs.Change.{inside_of, range_of, host_sum, host_in, ho
 ghost use Rattle.change.specs.Why.{part_why, host_why, range_why, change_why};
 
 use bitmap::all_in_state;
-use rows::{Mapping, mapping_of};
+use rows::mapping_of;
 use units::{
     GuestAddr, HostAddr, MemTool, RegionOffset, is_multiple, saturating_sub, smaller, sum_within,
 };
@@ -176,10 +176,10 @@ fn host_sum(host: HostAddr, offset: RegionOffset, size: u64) -> HostRange
 }
 
 // A range at an offset from where a row is mapped.
-fn host_in(mapping: Mapping, offset: RegionOffset, size: u64) -> HostRange
+fn host_in(mapping: Option<HostAddr>, offset: RegionOffset, size: u64) -> HostRange
     ensures { result ≡ host_in mapping offset.0 size }
 {
-    let Mapping::At(host) = mapping else {
+    let Some(host) = mapping else {
         return HostRange::Unmapped;
     };
     host_sum(host, offset, size)

@@ -1,5 +1,6 @@
 -- SPDX-License-Identifier: Apache-2.0 AND BSD-3-Clause
 -- Laws on where bytes lie and on descriptors, for callers.
+use Rattle.std.specs.Prelude.{Option, Some, None}
 use Prim.Native.Nat.{ℕ, ◌+◌, ◌-◌, ◌^◌, ◌≤◌, ◌<◌}
 use mathlib.Core.Path.{◌≡◌, ◌∙◌}
 use mathlib.Core.Bool.{true, false, ◌&&◌}
@@ -10,8 +11,6 @@ use lib.Dec.{leb}
 use Rattle.units.proofs.Tests.{by_test, and_left, and_right}
 use Rattle.little_endian.specs.Bytes.{part}
 use Rattle.little_endian.proofs.Laws.{part-part}
-use Rattle.descriptors.specs.declared.Place.{Place}
-use Rattle.descriptors.specs.declared.Place.TheVariants.{At, Outside}
 use Rattle.descriptors.specs.Standard.{descriptor_at}
 use Rattle.descriptors.specs.Descriptors.{inside, place_of}
 
@@ -46,7 +45,7 @@ pub record Found (len base addr n at : ℕ) : Type 0 where
   pub facts : Inside len base addr n
   pub place : at ≡ addr - base
 
-pub place_found : (p : Place) (len base addr n at : ℕ) → p ≡ place_of len base addr n → p ≡ At at → Found len base addr n at
+pub place_found : (p : Option ℕ) (len base addr n at : ℕ) → p ≡ place_of len base addr n → p ≡ Some at → Found len base addr n at
 unfolding place_of
 place_found p len base addr n at told is =
     by_test (inside len base addr n)
@@ -54,15 +53,15 @@ place_found p len base addr n at told is =
     record {
       lies = t;
       facts = inside_facts len base addr n t;
-      place = let q : p ≡ At (addr - base) = told ∙ simp t in cc;
+      place = let q : p ≡ Some (addr - base) = told ∙ simp t in cc;
     })
-    (λ t. absurd (let q : p ≡ Outside = told ∙ simp t in let z : ◌≡◌ {A = ℕ} 0 1 = cc in omega arith))
+    (λ t. absurd (let q : p ≡ None = told ∙ simp t in let z : ◌≡◌ {A = ℕ} 0 1 = cc in omega arith))
 
-pub place_outside : (p : Place) (len base addr n : ℕ) → p ≡ place_of len base addr n → p ≡ Outside → inside len base addr n ≡ false
+pub place_outside : (p : Option ℕ) (len base addr n : ℕ) → p ≡ place_of len base addr n → p ≡ None → inside len base addr n ≡ false
 unfolding place_of
 place_outside p len base addr n told is =
     by_test (inside len base addr n)
-    (λ t. absurd (let q : p ≡ At (addr - base) = told ∙ simp t in let z : ◌≡◌ {A = ℕ} 0 1 = cc in omega arith))
+    (λ t. absurd (let q : p ≡ Some (addr - base) = told ∙ simp t in let z : ◌≡◌ {A = ℕ} 0 1 = cc in omega arith))
     (λ t. t)
 
 -- a descriptor is its 16 bytes and nothing else

@@ -22,13 +22,6 @@ const WRITE: u16 = 2;
 
 const INDIRECT: u16 = 4;
 
-// Where bytes lie in the lent slice.
-#[derive(Clone, Copy)]
-pub enum Place {
-    At(usize),
-    Outside,
-}
-
 // Whether `size` bytes at an address end before 2^64: no sum is made.
 fn ends_below(addr: u64, size: u64) -> bool
     ensures { result ≡ leb (addr + size) (2 ^ 64) }
@@ -40,18 +33,18 @@ fn ends_below(addr: u64, size: u64) -> bool
 }
 
 // Whether `size` bytes at a guest address lie inside the memory, and where.
-pub fn place_of(mem: &[u8], base: GuestAddr, addr: GuestAddr, size: u64) -> Place
+pub fn place_of(mem: &[u8], base: GuestAddr, addr: GuestAddr, size: u64) -> Option<usize>
     ensures { result ≡ place_of (length mem.now) base.0 addr.0 size }
 {
     let first = base.0;
     let at = addr.0;
     if at < first {
-        return Place::Outside;
+        return None;
     }
     if sum_within(at - first, size, mem.len() as u64) & ends_below(at, size) {
-        Place::At((at - first) as usize)
+        Some((at - first) as usize)
     } else {
-        Place::Outside
+        None
     }
 }
 
@@ -84,13 +77,6 @@ impl Descriptor {
     }
 }
 
-// What a chain finds at an index.
-#[derive(Clone, Copy)]
-pub enum Link {
-    Is(Descriptor),
-    Missing,
-}
-
 // The descriptor of the 16 bytes from `at` on.
 fn descriptor_at(mem: &[u8], at: usize) -> Descriptor
     requires { at + 16 ≤ length mem.now }
@@ -109,30 +95,30 @@ fn descriptor_at(mem: &[u8], at: usize) -> Descriptor
 }
 
 // The descriptor of the table at an index.
-pub fn link_at(mem: &[u8], base: GuestAddr, table: GuestAddr, index: u16) -> Link
+pub fn link_at(mem: &[u8], base: GuestAddr, table: GuestAddr, index: u16) -> Option<Descriptor>
     ensures { result ≡ link_at mem.now base.0 table.0 index }
 {
     let past_table = QUEUE_SIZE <= index;
     if past_table {
-        return Link::Missing;
+        return None;
     }
     let offset = 16 * index as u64;
     if !sum_within(table.0, offset, LAST_BYTE) {
-        return Link::Missing;
+        return None;
     }
-    let Place::At(at) = place_of(mem, base, GuestAddr(table.0 + offset), 16) else {
-        return Link::Missing;
+    let Some(at) = place_of(mem, base, GuestAddr(table.0 + offset), 16) else {
+        return None;
     };
-    Link::Is(descriptor_at(mem, at))
+    Some(descriptor_at(mem, at))
 }
 
 // The descriptor after a descriptor.
-pub fn link_after(mem: &[u8], base: GuestAddr, table: GuestAddr, current: Descriptor) -> Link
+pub fn link_after(mem: &[u8], base: GuestAddr, table: GuestAddr, current: Descriptor) -> Option<Descriptor>
     ensures { result ≡ link_after mem.now base.0 table.0 current }
 {
     if current.has_next() {
         link_at(mem, base, table, current.next)
     } else {
-        Link::Missing
+        None
     }
 }

@@ -21,7 +21,7 @@ pub use record::{Device, HostCall};
 pub use serving::{host_answer, request};
 use step::refuse;
 pub use step::{Answer, Answered, Reply};
-pub use units::{GuestAddr, HostAddr, Node, RegionOffset};
+pub use units::{GuestAddr, HostAddr, RegionOffset};
 pub use wire::VirtioMemResp;
 
 // Reads the config from `offset` on into `data`: no byte past its end, and none past the buffer's.

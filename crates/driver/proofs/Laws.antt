@@ -1,5 +1,6 @@
 -- SPDX-License-Identifier: Apache-2.0 AND BSD-3-Clause
 -- The laws of `specs/Text.antt` and `specs/Plan.antt`.
+use Rattle.std.specs.Prelude.{Option, Some, None}
 use Prim.Native.Nat.{ℕ, zero, suc, ◌+◌, ◌*◌, ◌/◌, ◌%◌, ◌^◌, ◌≤◌, ◌<◌}
 use mathlib.Core.Path.{◌≡◌, refl, ap, ◌∙◌, sym}
 use mathlib.Core.Bool.{Bool, true, false}
@@ -11,8 +12,6 @@ use lib.ListN.{length, take, drop, get_or, length-take}
 use lib.Seq.{take-add, drop-drop}
 use Rattle.units.specs.Numbers.{bytes_of, blocks_in, map_region}
 use Rattle.bitmap.specs.Blocks.{next_set, next_clear}
-use Rattle.bitmap.specs.declared.Found.{Found}
-use Rattle.bitmap.specs.declared.Found.TheVariants.{At, Nothing}
 use Rattle.bitmap.proofs.Laws.{next_at}
 use Rattle.wire.specs.declared.VirtioMemReq.{VirtioMemReq}
 use Rattle.wire.specs.declared.VirtioMemResp.{VirtioMemResp}
@@ -261,17 +260,17 @@ pub stop_from : (bs : List Bool) (first limit : ℕ) → first ≤ limit → fir
 unfolding stop_at
 stop_from bs first limit h = go (next_set bs first limit) refl
   where
-    go : (x : Found) → next_set bs first limit ≡ x → first ≤ stop_at x limit
-    go Nothing e = h
-    go (At i) e = (next_at true bs first limit i e).from_on
+    go : (x : Option ℕ) → next_set bs first limit ≡ x → first ≤ stop_at x limit
+    go None e = h
+    go (Some i) e = (next_at true bs first limit i e).from_on
 
 pub stop_to : (bs : List Bool) (first limit : ℕ) → stop_at (next_set bs first limit) limit ≤ limit
 unfolding stop_at
 stop_to bs first limit = go (next_set bs first limit) refl
   where
-    go : (x : Found) → next_set bs first limit ≡ x → stop_at x limit ≤ limit
-    go Nothing e = omega arith
-    go (At i) e = omega (arith, (next_at true bs first limit i e).before_end)
+    go : (x : Option ℕ) → next_set bs first limit ≡ x → stop_at x limit ≤ limit
+    go None e = omega arith
+    go (Some i) e = omega (arith, (next_at true bs first limit i e).before_end)
 
 pub record Border (first p : ℕ) : Type 0 where
   pub above : first < suc (first / p) * p
@@ -308,7 +307,7 @@ pub record Starts (bs : List Bool) (b usable i : ℕ) : Type 0 where
   pub below : i < usable
   pub bytes : bytes_of b i ≤ usable
 
-pub starts : (bs : List Bool) (b usable i : ℕ) → 0 < b → next_clear bs 0 (blocks_in b usable) ≡ At i → Starts bs b usable i
+pub starts : (bs : List Bool) (b usable i : ℕ) → 0 < b → next_clear bs 0 (blocks_in b usable) ≡ Some i → Starts bs b usable i
 starts bs b usable i p e =
     let f = (next_at false bs 0 (blocks_in b usable) i e).before_end in
     let q = (border usable b p).quotient in

@@ -1,10 +1,8 @@
 -- SPDX-License-Identifier: Apache-2.0 AND BSD-3-Clause
 -- The planner (R14.5 to R14.8), over numbers and the list of blocks. b is the block size.
-use Rattle.std.specs.Prelude.{ℕ, suc, ◌+◌, ◌-◌, ◌*◌, ◌/◌, min, Bool, cond, not, List, eqb, ltb, length}
+use Rattle.std.specs.Prelude.{ℕ, suc, ◌+◌, ◌-◌, ◌*◌, ◌/◌, min, Bool, cond, not, List, eqb, ltb, length, Option, Some, None}
 use Rattle.units.specs.Numbers.{bytes_of, blocks_in, map_region}
 use Rattle.bitmap.specs.Blocks.{next_set, next_clear}
-use Rattle.bitmap.specs.declared.Found.{Found}
-use Rattle.bitmap.specs.declared.Found.TheVariants.{At, Nothing}
 use Rattle.wire.specs.declared.VirtioMemConfig.{VirtioMemConfig}
 use Rattle.record.specs.Shape.{config_shaped_of}
 use Rattle.driver.specs.declared.Proposal.{Proposal}
@@ -18,9 +16,9 @@ border_after b first = suc (first / blocks_in b map_region) * blocks_in b map_re
 abbrev pub limit_of : (b usable first : ℕ) → ℕ
 limit_of b usable first = min (blocks_in b usable) (border_after b first)
 
-unfoldable pub stop_at : Found → ℕ → ℕ
-stop_at (At next) limit = next
-stop_at Nothing limit = limit
+unfoldable pub stop_at : Option ℕ → ℕ → ℕ
+stop_at (Some next) limit = next
+stop_at None limit = limit
 
 -- R14.7: where the next plugged block, the border or the usable end stops the plug
 abbrev pub stop_of : (b usable : ℕ) → List Bool → (first : ℕ) → ℕ
@@ -34,9 +32,9 @@ abbrev pub count_of : (b usable plugged requested : ℕ) → List Bool → (firs
 count_of b usable plugged requested bs first = min (stop_of b usable bs first - first) (room_of b plugged requested)
 
 -- R14.6, R14.8, R1.17: a plug from the lowest free block on, or 17
-unfoldable pub plan_at : Found → (b start usable plugged requested : ℕ) → List Bool → Proposal
-plan_at Nothing b start usable plugged requested bs = Refused 17
-plan_at (At first) b start usable plugged requested bs =
+unfoldable pub plan_at : Option ℕ → (b start usable plugged requested : ℕ) → List Bool → Proposal
+plan_at None b start usable plugged requested bs = Refused 17
+plan_at (Some first) b start usable plugged requested bs =
     cond (eqb (room_of b plugged requested) 0) (Refused 17)
     (Plug (record { 0 = start + bytes_of b first }) (count_of b usable plugged requested bs first))
 

@@ -8,7 +8,7 @@ ghost use Rattle.bitmap.specs.Blocks.{blocks, next_set};
 ghost use Rattle.driver.specs.Text.{Wrote, ReadsResponse, ReadsConfig};
 ghost use Rattle.driver.specs.Plan.{border_after, stop_at, stop_of, room_of, plan_of};
 
-use bitmap::{Found, next_clear, next_set};
+use bitmap::{next_clear, next_set};
 use little_endian::{read_u16, read_u64, write_u64};
 use record::config_shaped;
 use units::{GuestAddr, MemTool, saturating_sub, smaller};
@@ -119,8 +119,8 @@ fn stop_at(bitmap: &[u8], first: u64, limit: u64) -> u64
     ensures { result ≡ stop_at (next_set (blocks bitmap.now) first limit) limit }
 {
     match next_set(bitmap, first as usize, limit as usize) {
-        Found::At(next) => next as u64,
-        Found::Nothing => limit,
+        Some(next) => next as u64,
+        None => limit,
     }
 }
 
@@ -161,7 +161,7 @@ pub fn plan(config: VirtioMemConfig, bitmap: &[u8]) -> Proposal
     if room == 0 {
         return Proposal::Refused(17);
     }
-    let Found::At(lowest) = next_clear(bitmap, 0, (usable / size) as usize) else {
+    let Some(lowest) = next_clear(bitmap, 0, (usable / size) as usize) else {
         return Proposal::Refused(17);
     };
     let first = lowest as u64;

@@ -1,5 +1,6 @@
 -- SPDX-License-Identifier: Apache-2.0 AND BSD-3-Clause
 -- A ready device acknowledges what the planner proposes.
+use Rattle.std.specs.Prelude.{Option, Some, None}
 use Prim.Native.Nat.{ℕ, ◌+◌, ◌*◌, ◌%◌, ◌≤◌, ◌<◌}
 use mathlib.Core.Path.{◌≡◌, refl, sym}
 use mathlib.Core.Bool.{Bool, true, false, not}
@@ -12,8 +13,6 @@ use Rattle.units.specs.Numbers.{top, bytes_of, blocks_in, map_region}
 use Rattle.units.specs.declared.GuestAddr.{GuestAddr}
 use Rattle.units.proofs.Tests.{by_test}
 use Rattle.bitmap.specs.Blocks.{next_clear}
-use Rattle.bitmap.specs.declared.Found.{Found}
-use Rattle.bitmap.specs.declared.Found.TheVariants.{At, Nothing}
 use Rattle.wire.specs.declared.VirtioMemConfig.{VirtioMemConfig}
 use Rattle.chain.specs.declared.Parsed.TheVariants.{Request as Got}
 use Rattle.chain.specs.Chain.{parsed}
@@ -35,7 +34,7 @@ pub record Planned (c : VirtioMemConfig) (bs : List Bool) (addr : GuestAddr) (n 
   pub shaped : config_shaped_of c ≡ true
   pub long : blocks_in c.block_size c.region_size ≤ length bs
   pub first : ℕ
-  pub lowest : next_clear bs 0 (blocks_in c.block_size c.usable_region_size) ≡ At first
+  pub lowest : next_clear bs 0 (blocks_in c.block_size c.usable_region_size) ≡ Some first
   pub room : room_of c.block_size c.plugged_size c.requested_size ≡ 0 → ⊥
   pub addr_is : addr.0 ≡ c.addr.0 + bytes_of c.block_size first
   pub count_is : n ≡ count_of c.block_size c.usable_region_size c.plugged_size c.requested_size bs first
@@ -57,11 +56,11 @@ module _ (c : VirtioMemConfig) (bs : List Bool) (addr : GuestAddr) (n : ℕ) whe
   abbrev short : Bool
   short = ltb (length bs) (blocks_in b c.region_size)
 
-  at_found : (x : Found) → config_shaped_of c ≡ true → short ≡ false → next_clear bs 0 end ≡ x
+  at_found : (x : Option ℕ) → config_shaped_of c ≡ true → short ≡ false → next_clear bs 0 end ≡ x
       → plan_at x b c.addr.0 c.usable_region_size c.plugged_size c.requested_size bs ≡ Plug addr n → Planned c bs addr n
   unfolding plan_at
-  at_found Nothing s l f e = clash e
-  at_found (At i) s l f e =
+  at_found None s l f e = clash e
+  at_found (Some i) s l f e =
       by_test (eqb room 0) (λ t. clash (simp t at e))
       (λ t.
       let q = simp t at e in

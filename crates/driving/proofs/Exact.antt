@@ -1,5 +1,6 @@
 -- SPDX-License-Identifier: Apache-2.0 AND BSD-3-Clause
 -- 17 is given exactly if no plug of one block is acknowledged, and a proposal is as long as can be.
+use Rattle.std.specs.Prelude.{Option, Some, None}
 use Prim.Native.Nat.{ℕ, suc, ◌+◌, ◌-◌, ◌*◌, ◌/◌, ◌%◌, ◌≤◌, ◌<◌}
 use mathlib.Core.Path.{◌≡◌, refl, ap, sym}
 use mathlib.Core.Bool.{Bool, true, false, not, beq}
@@ -13,8 +14,6 @@ use Rattle.units.specs.Numbers.{bytes_of, blocks_in, map_region}
 use Rattle.units.specs.declared.GuestAddr.{GuestAddr}
 use Rattle.units.proofs.Tests.{by_test, and_left}
 use Rattle.bitmap.specs.Blocks.{block_at, every, all_are, next_set, next_clear}
-use Rattle.bitmap.specs.declared.Found.{Found}
-use Rattle.bitmap.specs.declared.Found.TheVariants.{At, Nothing}
 use Rattle.bitmap.proofs.Laws.{range_step, all_at, next_at, next_nothing}
 use Rattle.wire.specs.declared.VirtioMemConfig.{VirtioMemConfig}
 use Rattle.chain.specs.declared.Parsed.TheVariants.{Request as Got}
@@ -39,7 +38,7 @@ use Rattle.driving.proofs.Acks.{plan_is, ready_zero, not-false}
 pub record Spent (c : VirtioMemConfig) (bs : List Bool) : Type 0 where
   pub shaped : config_shaped_of c ≡ true
   pub long : blocks_in c.block_size c.region_size ≤ length bs
-  pub why : (next_clear bs 0 (blocks_in c.block_size c.usable_region_size) ≡ Nothing) ⊎ (room_of c.block_size c.plugged_size c.requested_size ≡ 0)
+  pub why : (next_clear bs 0 (blocks_in c.block_size c.usable_region_size) ≡ None) ⊎ (room_of c.block_size c.plugged_size c.requested_size ≡ 0)
 
 other : {A : Type 0} {n m : ℕ} → Refused n ≡ Refused m → (n ≡ m → ⊥) → A
 other {A} {n} {m} e f = let z : n ≡ m = cc in absurd (f z)
@@ -60,11 +59,11 @@ module _ (c : VirtioMemConfig) (bs : List Bool) where
   abbrev short : Bool
   short = ltb (length bs) (blocks_in b c.region_size)
 
-  at_found : (x : Found) → config_shaped_of c ≡ true → short ≡ false → next_clear bs 0 end ≡ x
+  at_found : (x : Option ℕ) → config_shaped_of c ≡ true → short ≡ false → next_clear bs 0 end ≡ x
       → plan_at x b c.addr.0 c.usable_region_size c.plugged_size c.requested_size bs ≡ Refused 17 → Spent c bs
   unfolding plan_at
-  at_found Nothing s l f e = record { shaped = s; long = ltb-false (length bs) (blocks_in b c.region_size) l; why = inl f }
-  at_found (At i) s l f e =
+  at_found None s l f e = record { shaped = s; long = ltb-false (length bs) (blocks_in b c.region_size) l; why = inl f }
+  at_found (Some i) s l f e =
       by_test (eqb room 0)
       (λ t. record { shaped = s; long = ltb-false (length bs) (blocks_in b c.region_size) l; why = inr (eqb-true room 0 t) })
       (λ t. not_plug (simp t at e))
@@ -78,7 +77,7 @@ module _ (c : VirtioMemConfig) (bs : List Bool) where
       (λ u. at_found (next_clear bs 0 end) (not-false (config_shaped_of c) t) u refl (simp (t, u) at e)))
 
 -- ---- no clear block: each is set
-none_clear : (bs : List Bool) (e i : ℕ) → next_clear bs 0 e ≡ Nothing → i < e → i < length bs → block_at bs i ≡ true
+none_clear : (bs : List Bool) (e i : ℕ) → next_clear bs 0 e ≡ None → i < e → i < length bs → block_at bs i ≡ true
 none_clear bs e i p h l = all_at bs 0 e true i (let z : e - 0 ≡ e = omega arith in rw z at (next_nothing false bs 0 e p)) (omega arith) (omega arith) l
 
 -- a range of one block that is clear
@@ -123,7 +122,7 @@ module _ (w : World) (r : Ready w) (e : plan_of w.device.config w.blocks ≡ Ref
       let fewer : blocks_in (block_size w) (usable w) ≤ blocks_in (block_size w) (region w) = rw bsz (omega arith) in
       let there : first < length w.blocks = omega (arith, p.long, below, fewer) in
       ⊎_elim
-      (λ (n : next_clear w.blocks 0 (blocks_in (block_size w) (usable w)) ≡ Nothing). clash {A = ⊥} (none_clear w.blocks (blocks_in (block_size w) (usable w)) first n below there) (one_clear w.blocks first there l.not-wanted))
+      (λ (n : next_clear w.blocks 0 (blocks_in (block_size w) (usable w)) ≡ None). clash {A = ⊥} (none_clear w.blocks (blocks_in (block_size w) (usable w)) first n below there) (one_clear w.blocks first there l.not-wanted))
       (λ (n : room_of (block_size w) (plugged w) (requested w) ≡ 0). let m : (requested w - plugged w) / 4194304 ≡ 0 = rw bsz at n in let t' : plugged w + 1 * 4194304 ≤ requested w = rw bsz at t in omega arith)
       p.why
 
@@ -145,13 +144,13 @@ module _ (c : VirtioMemConfig) (bs : List Bool) (first n : ℕ) (bsz : c.block_s
       let most : c.block_size ≤ map_region = omega arith in
       omega (arith, f, (border first (blocks_in c.block_size map_region) (per_some c.block_size pos most)).above)
 
-  at_stop : (x : Found) → next_set bs first (limit_of c.block_size c.usable_region_size first) ≡ x → n ≡ stop_at x (limit_of c.block_size c.usable_region_size first) - first → Stops c bs first n
+  at_stop : (x : Option ℕ) → next_set bs first (limit_of c.block_size c.usable_region_size first) ≡ x → n ≡ stop_at x (limit_of c.block_size c.usable_region_size first) - first → Stops c bs first n
   unfolding stop_at
-  at_stop (At i) q k =
+  at_stop (Some i) q k =
       let l = next_at true bs first (limit_of c.block_size c.usable_region_size first) i q in
       let z : first + n ≡ i = omega (arith, l.from_on) in
       inl (rw z l.found)
-  at_stop Nothing q k =
+  at_stop None q k =
       let z : first + n ≡ limit_of c.block_size c.usable_region_size first = omega (arith, below) in
       by_test (leb (blocks_in c.block_size c.usable_region_size) (border_after c.block_size first))
       (λ t. let h = leb-true (blocks_in c.block_size c.usable_region_size) (border_after c.block_size first) t in inr (inr (inl (omega arith))))

@@ -1,5 +1,6 @@
 -- SPDX-License-Identifier: Apache-2.0 AND BSD-3-Clause
 -- Guest memory that holds a request is parsed as that request, so the theorems on plugs need no word of the parse; and guest memory can be made to hold any.
+use Rattle.std.specs.Prelude.{Some}
 use Prim.Native.Nat.{ℕ, ◌+◌, ◌-◌, ◌≤◌, ◌<◌, ◌^◌}
 use mathlib.Core.Path.{◌≡◌, refl, sym, ap, ◌∙◌}
 use mathlib.Core.Bool.{Bool, true}
@@ -20,7 +21,6 @@ use Rattle.wire.specs.Layout.{request_at}
 use Rattle.wire.proofs.Laws.{request_part}
 use Rattle.wire.proofs.Standard.{request as request-laid, request_size}
 use Rattle.descriptors.specs.declared.Descriptor.{Descriptor}
-use Rattle.descriptors.specs.declared.Link.TheVariants.{Is}
 use Rattle.descriptors.specs.Standard.{virtq_desc, descriptor_addr}
 use Rattle.descriptors.specs.Descriptors.{inside, link_at, link_after}
 use Rattle.descriptors.proofs.Laws.{inside_facts}
@@ -47,19 +47,19 @@ module _ (g : Guest) (descriptors head : ℕ) (q : VirtioMemReq) (status : Guest
   abbrev second : Descriptor
   second = record { addr = status; len = h.second_len; flags = 2; next = h.second_next }
 
-  first_link : link_at g.mem g.base descriptors head ≡ Is first
+  first_link : link_at g.mem g.base descriptors head ≡ Some first
   unfolding link_at
   first_link =
       let i = inside_facts (length g.mem) g.base h.request_addr 24 h.request.lies in
       let n = h.second_in_table in
       rw (lt-ltb head 128 h.head_in_table, h.first.lies)
-      (ap Is (descriptor_laid g.mem (descriptor_addr descriptors head - g.base) first (record { addr = omega (arith, i.to_last); len = omega arith; flags = omega arith; next = omega arith }) h.first.are))
+      (ap Some (descriptor_laid g.mem (descriptor_addr descriptors head - g.base) first (record { addr = omega (arith, i.to_last); len = omega arith; flags = omega arith; next = omega arith }) h.first.are))
 
-  second_link_lem : link_at g.mem g.base descriptors h.second_index ≡ Is second
+  second_link_lem : link_at g.mem g.base descriptors h.second_index ≡ Some second
   unfolding link_at
   second_link_lem =
       rw (lt-ltb h.second_index 128 h.second_in_table, h.second.lies)
-      (ap Is (descriptor_laid g.mem (descriptor_addr descriptors h.second_index - g.base) second (record { addr = h.status_fits; len = h.len_fits; flags = omega arith; next = h.next_fits }) h.second.are))
+      (ap Some (descriptor_laid g.mem (descriptor_addr descriptors h.second_index - g.base) second (record { addr = h.status_fits; len = h.len_fits; flags = omega arith; next = h.next_fits }) h.second.are))
 
   -- the chain is parsed as the request, and its status address is the second descriptor's
   pub held_parses : parsed g.mem g.base descriptors head ≡ Got q status

@@ -1,5 +1,6 @@
 -- SPDX-License-Identifier: Apache-2.0 AND BSD-3-Clause
 -- What the planner proposes is legal on a device with sound rows.
+use Rattle.std.specs.Prelude.{Option, Some, None}
 use Prim.Native.Nat.{ℕ, zero, suc, ◌+◌, ◌-◌, ◌*◌, ◌/◌, ◌%◌, ◌≤◌, ◌<◌}
 use mathlib.Core.Path.{◌≡◌, refl, ap, ◌∙◌, sym}
 use mathlib.Core.Bool.{Bool, true, false}
@@ -10,8 +11,6 @@ use lib.Dec.{ltb}
 use borrow.Author.Tests.{le-ltb, ltb-true, ltb-false}
 use Rattle.units.specs.Numbers.{top, bytes_of, blocks_in, map_region}
 use Rattle.bitmap.specs.Blocks.{block_at, all_are, next_set, next_clear}
-use Rattle.bitmap.specs.declared.Found.{Found}
-use Rattle.bitmap.specs.declared.Found.TheVariants.{At, Nothing}
 use Rattle.bitmap.proofs.Laws.{Lowest, all_split, next_at, next_nothing}
 use Rattle.units.proofs.Tests.{by_test, and_left}
 use Rattle.units.specs.declared.HostAddr.{HostAddr}
@@ -47,10 +46,10 @@ module _ (b usable : ℕ) (bs : List Bool) (first : ℕ) (pos : 0 < blocks_in b 
       limit : ℕ
       limit = limit_of b usable first
 
-      go : (x : Found) → next_set bs first limit ≡ x → Run (stop_at x limit)
-      go Nothing e =
+      go : (x : Option ℕ) → next_set bs first limit ≡ x → Run (stop_at x limit)
+      go None e =
           record { some = omega (arith, below_border, f.before_end); in_usable = omega arith; in_border = omega arith; all_free = next_nothing true bs first limit e }
-      go (At i) e =
+      go (Some i) e =
           let l = next_at true bs first limit i e in
           record {
             some = not_first i l.from_on l.found;
@@ -107,7 +106,7 @@ module _ (several : Bool) (usable : ℕ) (rows : List MapRow) (sound : SoundRows
 
 -- ---- what is proposed is legal: (a), and (b) to (d) at its first block
 module _ (b start usable plugged requested : ℕ) (several : Bool) (bs : List Bool) (rows : List MapRow) (pos : 0 < b) (whole : blocks_in b map_region * b ≡ map_region) (aligned : start % b ≡ 0)
-    (ends : start + usable ≤ top) (sound : SoundRows several usable rows) (first : ℕ) (lowest : next_clear bs 0 (blocks_in b usable) ≡ At first) (room : room_of b plugged requested ≡ 0 → ⊥) where
+    (ends : start + usable ≤ top) (sound : SoundRows several usable rows) (first : ℕ) (lowest : next_clear bs 0 (blocks_in b usable) ≡ Some first) (room : room_of b plugged requested ≡ 0 → ⊥) where
   pub record Proposed (count : ℕ) : Type 0 where
     pub some : 0 < count
     pub within : plugged + bytes_of b count ≤ requested

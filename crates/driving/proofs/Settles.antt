@@ -1,5 +1,6 @@
 -- SPDX-License-Identifier: Apache-2.0 AND BSD-3-Clause
 -- Where planning and plugging ends, and in how many plugs: each fills a run of free blocks, or spends the requested size.
+use Rattle.std.specs.Prelude.{Option, Some, None}
 use Prim.Native.Nat.{ℕ, zero, suc, ◌+◌, ◌-◌, ◌*◌, ◌/◌, ◌%◌, ◌≤◌, ◌<◌, min}
 use mathlib.Core.Path.{◌≡◌, refl, ap, ◌∙◌}
 use mathlib.Core.Bool.{Bool, true, false, cond}
@@ -14,8 +15,6 @@ use Rattle.units.specs.Numbers.{top, bytes_of, blocks_in, map_region}
 use Rattle.units.specs.declared.GuestAddr.{GuestAddr}
 use Rattle.units.proofs.Tests.{by_test}
 use Rattle.bitmap.specs.Blocks.{range, block_at, all_are, ones, fill, next_clear}
-use Rattle.bitmap.specs.declared.Found.{Found}
-use Rattle.bitmap.specs.declared.Found.TheVariants.{At, Nothing}
 use Rattle.bitmap.proofs.Laws.{range_step, Lowest, next_at, next_nothing, all_at, all_clear_at, at_inside, at_before, at_after, ones_split, ones-length, ones_all, ones_plugged, take-fill, range-take, fill_length}
 use Rattle.record.specs.Shape.{shaped_of}
 use Rattle.record.specs.declared.Device.{Device}
@@ -58,7 +57,7 @@ settled w r k e =
     let rb = s.requested_blocks in
     let pb = s.plugged_blocks_lem in
     ⊎_elim
-    (λ (q : next_clear w.blocks 0 end ≡ Nothing).
+    (λ (q : next_clear w.blocks 0 end ≡ None).
     let z : end - 0 ≡ end = omega arith in
     let o : plugged_blocks w ≡ length (take end w.blocks) = rw z at (ones_all (range w.blocks 0 (end - 0)) (next_nothing false w.blocks 0 end q)) in
     omega arith)
@@ -241,10 +240,10 @@ closer w r first n g =
     g.stops
 
 -- ---- a ready device is refused with 17 only
-pub found_17 : (x : Found) (b start usable plugged requested : ℕ) (bs : List Bool) (number : ℕ) → plan_at x b start usable plugged requested bs ≡ Refused number → number ≡ 17
+pub found_17 : (x : Option ℕ) (b start usable plugged requested : ℕ) (bs : List Bool) (number : ℕ) → plan_at x b start usable plugged requested bs ≡ Refused number → number ≡ 17
 unfolding plan_at
-found_17 Nothing b start usable plugged requested bs number q = cc
-found_17 (At i) b start usable plugged requested bs number q =
+found_17 None b start usable plugged requested bs number q = cc
+found_17 (Some i) b start usable plugged requested bs number q =
     by_test (eqb (room_of b plugged requested) 0) (λ t. let q' = simp t at q in cc)
     (λ t. let q' = simp t at q in let z : ◌≡◌ {A = ℕ} 0 1 = cc in absurd (omega arith))
 

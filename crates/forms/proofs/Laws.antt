@@ -1,5 +1,6 @@
 -- SPDX-License-Identifier: Apache-2.0 AND BSD-3-Clause
 -- A form that was filled at the start of a text is found there with what it was filled with, and what was found there was a filled form.
+use Rattle.std.specs.Prelude.{Option, Some, None}
 use Prim.Native.Nat.{ℕ, zero, suc, min, ◌+◌, ◌-◌, ◌*◌, ◌≤◌, ◌<◌}
 use mathlib.Core.Path.{◌≡◌, refl, sym, ap, ◌∙◌}
 use mathlib.Core.Bool.{Bool, true, cond, not, ◌&&◌}
@@ -15,8 +16,6 @@ use Rattle.text.specs.Reading.{Got, got, nothing, is_digit, digit_of, word_of}
 use Rattle.text.proofs.Laws.{word_written, word_read, word_length}
 use Rattle.forms.specs.Forms.{is_hole, holes, filled_from}
 use Rattle.forms.specs.Scanning.{Scan, found, lost, numbers, push, hole_then, byte_then, scan_of, is_whole, place_in, Scanned, ScannedAt}
-use Rattle.forms.specs.declared.Place.{Place}
-use Rattle.forms.specs.declared.Place.TheVariants as place
 
 -- each is a word
 abbrev pub Words : List ℕ → Type 0
@@ -227,7 +226,7 @@ rest_at s at xs rest h =
     let e : min (at + length xs) (length s) ≡ length s - length rest = omega arith in
     sym (drop-append_seam xs rest) ∙ rw (h, drop-drop, ← drop_min (at + length xs) s, e)
 
-pub nowhere : {n : ℕ} → place.Nowhere ≡ place.At n → ⊥
+pub nowhere : {n : ℕ} → None ≡ Some n → ⊥
 nowhere e = let z : ◌≡◌ {A = ℕ} 0 1 = cc in omega arith
 
 -- the numbers us were found, the text goes on at n, and each number stands in its place of the values
@@ -237,16 +236,16 @@ pub record FoundAt (form s : List ℕ) (at : ℕ) (before after : List ℕ) (n :
   pub inside : n ≤ length s
   pub stored : (i : ℕ) → get_or before i 0 ≡ 0 → get_or after i 0 ≡ get_or us i 0
 
-module _ (form s : List ℕ) (at : ℕ) {before after : List ℕ} {r : Place} (o : ScannedAt before s (scan_of form (drop at s)) r after) where
-  pub scan_at_found : (n : ℕ) → r ≡ place.At n → FoundAt form s at before after n
+module _ (form s : List ℕ) (at : ℕ) {before after : List ℕ} {r : Option ℕ} (o : ScannedAt before s (scan_of form (drop at s)) r after) where
+  pub scan_at_found : (n : ℕ) → r ≡ Some n → FoundAt form s at before after n
   scan_at_found n e = go (scan_of form (drop at s)) refl (sym e ∙ o.answer) o.values
     where
-      go : (w : Scan) → scan_of form (drop at s) ≡ w → place.At n ≡ place_in (length before) s w → after ≡ sets before 0 (numbers w) → FoundAt form s at before after n
+      go : (w : Scan) → scan_of form (drop at s) ≡ w → Some n ≡ place_in (length before) s w → after ≡ sets before 0 (numbers w) → FoundAt form s at before after n
       go (lost us) q p v = absurd (nowhere (sym p))
       go (found us rest) q p v =
           by_test (leb (length us) (length before))
           (λ l.
-          let a : place.At n ≡ place.At (length s - length rest) = rw l at p in
+          let a : Some n ≡ Some (length s - length rest) = rw l at p in
           let m : n ≡ length s - length rest = cc in
           let f = scan_filled form (drop at s) us rest q in
           let x : rest ≡ drop n s = rest_at s at (filled_from 0 form us) rest (f.text []) ∙ ap (λ (i : ℕ). drop i s) (sym m) in
@@ -258,8 +257,8 @@ module _ (form s : List ℕ) (at : ℕ) {before after : List ℕ} {r : Place} (o
           })
           (λ l. absurd (nowhere (sym (rw l at p))))
 
-  pub scan_at_nowhere : r ≡ place.Nowhere → holes form ≤ length before → (us rest : List ℕ) → scan_of form (drop at s) ≡ found us rest → ⊥
+  pub scan_at_nowhere : r ≡ None → holes form ≤ length before → (us rest : List ℕ) → scan_of form (drop at s) ≡ found us rest → ⊥
   scan_at_nowhere e h us rest q =
       let f = (scan_filled form (drop at s) us rest q).count in
-      let p : place.Nowhere ≡ place_in (length before) s (found us rest) = sym e ∙ o.answer ∙ ap (place_in (length before) s) q in
+      let p : None ≡ place_in (length before) s (found us rest) = sym e ∙ o.answer ∙ ap (place_in (length before) s) q in
       nowhere (rw (le-leb (length us) (length before) (omega arith)) at p)

@@ -1,5 +1,6 @@
 -- SPDX-License-Identifier: Apache-2.0 AND BSD-3-Clause
 -- One turn of `scan_at`, and one of `put_form_at`.
+use Rattle.std.specs.Prelude.{Option, Some, None}
 use Prim.Native.Nat.{ℕ, suc, min, ◌+◌, ◌-◌, ◌≤◌, ◌<◌}
 use mathlib.Core.Path.{◌≡◌, refl, sym, ap, ◌∙◌}
 use mathlib.Core.Bool.{true, false}
@@ -20,8 +21,6 @@ use Rattle.text.proofs.Laws.{read_none, read_rest}
 use Rattle.text.proofs.Puts.{sets_append, sets_out, then}
 use Rattle.forms.specs.Forms.{filled_from}
 use Rattle.forms.specs.Scanning.{Scan, found, lost, numbers, push, hole_then, byte_then, scan_of, is_whole, place_in, Scanned, ScannedAt}
-use Rattle.forms.specs.declared.Place.{Place}
-use Rattle.forms.specs.declared.Place.TheVariants as place
 use Rattle.forms.proofs.Laws.{drop_min, nowhere, scan_filled}
 
 -- ---- `scan_at`
@@ -54,7 +53,7 @@ number_inside s nothing v n e = let z : ◌≡◌ {A = ℕ} 0 1 = cc in absurd (
 
 -- one number more than there is room for is told and stored nowhere
 over : (before s us : List ℕ) (g : Got) (f : List ℕ → Scan) → length us ≡ length before → us ≡ sets before 0 us
-    → ScannedAt before s (prepend us (hole_then g f)) place.Nowhere us
+    → ScannedAt before s (prepend us (hole_then g f)) None us
 unfolding prepend hole_then push
 over before s us nothing f e h = record { answer = refl; values = rw append-nil h }
 over before s us (got v l) f e h = go (f l)
@@ -62,7 +61,7 @@ over before s us (got v l) f e h = go (f l)
     more : (vs : List ℕ) → us ≡ sets before 0 (us ++ vs)
     more vs = sym (sets_append before 0 us vs ∙ rw (← h) (sets_out us (0 + length us) vs (omega arith)))
 
-    go : (w : Scan) → ScannedAt before s (prepend us (push v w)) place.Nowhere us
+    go : (w : Scan) → ScannedAt before s (prepend us (push v w)) None us
     go (found vs rest) =
         let l = length-append us (v ∷ vs) in
         record { answer = rw (lt-leb (length (us ++ v ∷ vs)) (length before) (omega arith)); values = more (v ∷ vs) }
@@ -77,7 +76,7 @@ module _ {w : Scan} {before s form values : List ℕ} {i j k : ℕ} (o : Left w 
   pub long : length values ≡ length before
   long = let e = o.kept in ap length e ∙ length-sets before 0 (take k values)
 
-  fails : w ≡ prepend (take k values) (lost []) → ScannedAt before s w place.Nowhere values
+  fails : w ≡ prepend (take k values) (lost []) → ScannedAt before s w None values
   unfolding prepend
   fails e =
       let n : take k values ≡ numbers w = rw (e, append-nil) in
@@ -89,7 +88,7 @@ module _ {w : Scan} {before s form values : List ℕ} {i j k : ℕ} (o : Left w 
       unfolding scan_of
       at_hole = rw (drop-cons form j 0, eq-eqb _ _ e)
 
-      pub no_room : length values ≤ k → ScannedAt before s w place.Nowhere values
+      pub no_room : length values ≤ k → ScannedAt before s w None values
       no_room f =
           let l = long in
           let m = o.within in
@@ -99,7 +98,7 @@ module _ {w : Scan} {before s form values : List ℕ} {i j k : ℕ} (o : Left w 
           rw a (over before s values (word_of (drop i s)) (scan_of (drop (suc j) form)) l (o.kept ∙ ap (sets before 0) t))
 
       module _ (r : Number) (f : k < length values) (g : r ≡ number_at s i) where
-        pub no_number : r ≡ Bad → ScannedAt before s w place.Nowhere values
+        pub no_number : r ≡ Bad → ScannedAt before s w None values
         unfolding hole_then
         no_number t =
             let q = at_hole in
@@ -136,11 +135,11 @@ module _ {w : Scan} {before s form values : List ℕ} {i j k : ℕ} (o : Left w 
       unfolding scan_of
       at_byte = rw (drop-cons form j 0, ne_eqb _ _ e)
 
-      pub no_byte : length s ≤ i → ScannedAt before s w place.Nowhere values
+      pub no_byte : length s ≤ i → ScannedAt before s w None values
       unfolding byte_then
       no_byte f = let q = at_byte in fails (rw (q, drop_of_length-le s f) at o.left)
 
-      pub other_byte : i < length s → (get_or s i 0 ≡ get_or form j 0 → ⊥) → ScannedAt before s w place.Nowhere values
+      pub other_byte : i < length s → (get_or s i 0 ≡ get_or form j 0 → ⊥) → ScannedAt before s w None values
       unfolding byte_then
       other_byte f n = let q = at_byte in fails (rw (q, drop-cons s i 0 f, ne_eqb _ _ n) at o.left)
 
@@ -155,29 +154,29 @@ module _ {w : Scan} {before s form values : List ℕ} {i j k : ℕ} (o : Left w 
             inside = omega arith;
           }
 
-  pub at_end : length form ≤ j → ScannedAt before s w (place.At i) values
+  pub at_end : length form ≤ j → ScannedAt before s w (Some i) values
   unfolding scan_of prepend
   at_end h =
       let q : w ≡ found (take k values) (drop i s) = rw (drop_of_length-le form h, append-nil) at o.left in
       let n : take k values ≡ numbers w = rw q in
       let l : length (take k values) ≤ length before = let t = length-take k values in let m = o.within in omega arith in
       let p : i ≡ length s - length (drop i s) = let d = length-drop i s in let m = o.inside in omega arith in
-      record { answer = rw (q, le-leb (length (take k values)) (length before) l) (ap place.At p); values = o.kept ∙ ap (sets before 0) n }
+      record { answer = rw (q, le-leb (length (take k values)) (length before) l) (ap Some p); values = o.kept ∙ ap (sets before 0) n }
 
 -- ---- `scan`: a scan at 0 that ends where the text does
 
-not_whole : (room : ℕ) (s : List ℕ) (w : Scan) → place.Nowhere ≡ place_in room s w → false ≡ is_whole room w
+not_whole : (room : ℕ) (s : List ℕ) (w : Scan) → None ≡ place_in room s w → false ≡ is_whole room w
 not_whole room s (found us []) e = by_test (leb (length us) room) (λ l. absurd (nowhere (rw l at e))) (λ l. sym l)
 not_whole room s (found us (x ∷ xs)) e = refl
 not_whole room s (lost us) e = refl
 
 whole : (room n : ℕ) (s : List ℕ) (w : Scan) → ((us rest : List ℕ) → w ≡ found us rest → length rest ≤ length s)
-    → place.At n ≡ place_in room s w → leb (length s) n ≡ is_whole room w
+    → Some n ≡ place_in room s w → leb (length s) n ≡ is_whole room w
 whole room n s (lost us) h e = absurd (nowhere (sym e))
 whole room n s (found us rest) h e =
     by_test (leb (length us) room)
     (λ l.
-    let a : place.At n ≡ place.At (length s - length rest) = rw l at e in
+    let a : Some n ≡ Some (length s - length rest) = rw l at e in
     let m : n ≡ length s - length rest = cc in
     go rest l m (h us rest refl))
     (λ l. absurd (nowhere (sym (rw l at e))))
@@ -186,11 +185,11 @@ whole room n s (found us rest) h e =
     go [] l m k = le-leb (length s) n (omega arith) ∙ sym l
     go (x ∷ xs) l m k = lt-leb (length s) n (omega arith)
 
-module _ (form s : List ℕ) {before after : List ℕ} {r : Place} (o : ScannedAt before s (scan_of form s) r after) where
-  pub scan_nowhere : r ≡ place.Nowhere → Scanned before (scan_of form s) false after
+module _ (form s : List ℕ) {before after : List ℕ} {r : Option ℕ} (o : ScannedAt before s (scan_of form s) r after) where
+  pub scan_nowhere : r ≡ None → Scanned before (scan_of form s) false after
   scan_nowhere e = record { answer = not_whole (length before) s (scan_of form s) (sym e ∙ o.answer); values = o.values }
 
-  pub scan_at_end : (n : ℕ) → r ≡ place.At n → Scanned before (scan_of form s) (leb (length s) n) after
+  pub scan_at_end : (n : ℕ) → r ≡ Some n → Scanned before (scan_of form s) (leb (length s) n) after
   scan_at_end n e =
       record { answer = whole (length before) n s (scan_of form s) short (sym e ∙ o.answer); values = o.values }
     where

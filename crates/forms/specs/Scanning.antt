@@ -1,11 +1,9 @@
 -- SPDX-License-Identifier: Apache-2.0 AND BSD-3-Clause
 -- What scanning does, step by step. That it undoes filling, and nothing else, is proved in proofs/Laws.antt.
-use Rattle.std.specs.Prelude.{ℕ, ◌-◌, ◌≡◌, Bool, false, cond, List, [], ◌∷◌, eqb, leb, length}
+use Rattle.std.specs.Prelude.{ℕ, ◌-◌, ◌≡◌, Bool, false, cond, List, [], ◌∷◌, eqb, leb, length, Option, Some, None}
 use Rattle.std.proofs.lemmas.List.Edits.{sets}
 use Rattle.text.specs.Reading.{Got, got, nothing, word_of}
 use Rattle.forms.specs.Forms.{is_hole}
-use Rattle.forms.specs.declared.Place.{Place}
-use Rattle.forms.specs.declared.Place.TheVariants.{At, Nowhere}
 
 -- a text starts with a filled form, with these numbers in its holes, and goes on with `rest`; or it does not, and these are the
 -- numbers that were read up to where it was lost
@@ -46,15 +44,15 @@ is_whole room (found us (x ∷ xs)) = false
 is_whole room (lost us) = false
 
 -- where the text s, whose end was scanned, goes on: the one position of s from which on just the rest is left
-abbrev pub place_in : (room : ℕ) (s : List ℕ) (scan : Scan) → Place
-place_in room s (found us rest) = cond (leb (length us) room) (At (length s - length rest)) Nowhere
-place_in room s (lost us) = Nowhere
+abbrev pub place_in : (room : ℕ) (s : List ℕ) (scan : Scan) → Option ℕ
+place_in room s (found us rest) = cond (leb (length us) room) (Some (length s - length rest)) None
+place_in room s (lost us) = None
 
 -- the numbers that were read stand first in the values, as many as there is room for, and no other changed
 pub record Scanned (before : List ℕ) (scan : Scan) (r : Bool) (after : List ℕ) : Type 0 where
   pub answer : r ≡ is_whole (length before) scan
   pub values : after ≡ sets before 0 (numbers scan)
 
-pub record ScannedAt (before s : List ℕ) (scan : Scan) (r : Place) (after : List ℕ) : Type 0 where
+pub record ScannedAt (before s : List ℕ) (scan : Scan) (r : Option ℕ) (after : List ℕ) : Type 0 where
   pub answer : r ≡ place_in (length before) s scan
   pub values : after ≡ sets before 0 (numbers scan)

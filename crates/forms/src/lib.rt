@@ -12,16 +12,9 @@ use units::smaller;
 
 const HOLE: u8 = b'#';
 
-// Where a text goes on.
-#[derive(Clone, Copy)]
-pub enum Place {
-    At(usize),
-    Nowhere,
-}
-
 // Whether a filled form stands at a position of a text, and where the text goes on; the numbers that stand in its
 // holes go into `values`.
-pub fn scan_at(s: &[u8], at: usize, form: &[u8], values: &mut [u64]) -> Place
+pub fn scan_at(s: &[u8], at: usize, form: &[u8], values: &mut [u64]) -> Option<usize>
     ensures { ScannedAt values.old s.now (scan_of form.now (drop at s.now)) result
         values.new }
 {
@@ -31,10 +24,10 @@ pub fn scan_at(s: &[u8], at: usize, form: &[u8], values: &mut [u64]) -> Place
     while j < form.len() {
         if form[j] == HOLE {
             if values.len() <= k {
-                return Place::Nowhere;
+                return None;
             }
             let Number::At { value, next } = text::read_number(s, i) else {
-                return Place::Nowhere;
+                return None;
             };
             values[k] = value;
             k += 1;
@@ -42,23 +35,23 @@ pub fn scan_at(s: &[u8], at: usize, form: &[u8], values: &mut [u64]) -> Place
             j += 1;
         } else {
             if s.len() <= i {
-                return Place::Nowhere;
+                return None;
             }
             if s[i] != form[j] {
-                return Place::Nowhere;
+                return None;
             }
             i += 1;
             j += 1;
         }
     }
-    Place::At(i)
+    Some(i)
 }
 
 // Whether a text is a filled form; the numbers that stand in its holes go into `values`.
 pub fn scan(s: &[u8], form: &[u8], values: &mut [u64]) -> bool
     ensures { Scanned values.old (scan_of form.now s.now) result values.new }
 {
-    let Place::At(i) = scan_at(s, 0, form, values) else {
+    let Some(i) = scan_at(s, 0, form, values) else {
         return false;
     };
     s.len() <= i

@@ -1,5 +1,6 @@
 -- SPDX-License-Identifier: Apache-2.0 AND BSD-3-Clause
 -- Every call at once: what holds of each ending of the step, with the events that it tells, holds of every call with its events.
+use Rattle.std.specs.Prelude.{Some, None}
 use Prim.Native.Nat.{ℕ, ◌+◌, ◌*◌, ◌%◌, ◌≤◌, ◌<◌}
 use mathlib.Core.Path.{◌≡◌, refl, ap, ◌∙◌}
 use mathlib.Core.Bool.{Bool, true, false, cond}
@@ -12,7 +13,6 @@ use borrow.Author.Tests.{eqb-true}
 use Rattle.units.specs.Numbers.{top, bytes_of}
 use Rattle.units.specs.declared.GuestAddr.{GuestAddr}
 use Rattle.bitmap.specs.Blocks.{next_set}
-use Rattle.bitmap.specs.declared.Found.TheVariants.{At, Nothing as NoneSet}
 use Rattle.wire.specs.declared.VirtioMemReq.{VirtioMemReq}
 use Rattle.change.specs.Why.{failed_discard}
 use Rattle.step.specs.declared.Verdict.{Verdict}
@@ -115,8 +115,8 @@ pub record Endings (w : World) (K : Call → Outcome → List Event → Type 0) 
       → Located w first count offset host → K (request_of a) (asks_discard w first count offset host a.status a.guest) []
   pub spoils : (a : Requesting w (some 1)) (addr count first offset : ℕ) → plugged w < bytes_of (block_size w) count → Lies w addr count false first offset
       → K (request_of a) (refused 12 w a.guest.mem) []
-  pub ends_at_once : (a : Requesting w (some 2)) → next_set w.blocks 0 (region_blocks w) ≡ NoneSet → K (request_of a) (ends_all w a.status a.guest) (UnplugAllAck ∷ [])
-  pub asks_first : (a : Requesting w (some 2)) (block offset host : ℕ) → next_set w.blocks 0 (region_blocks w) ≡ At block → Located w block 1 offset host
+  pub ends_at_once : (a : Requesting w (some 2)) → next_set w.blocks 0 (region_blocks w) ≡ None → K (request_of a) (ends_all w a.status a.guest) (UnplugAllAck ∷ [])
+  pub asks_first : (a : Requesting w (some 2)) (block offset host : ℕ) → next_set w.blocks 0 (region_blocks w) ≡ Some block → Located w block 1 offset host
       → K (request_of a) (asks_one w block offset host a.status a.guest) []
   pub stops_at_once : {why : ℕ} (a : Requesting w (some 2)) → K (request_of a) (stops why w a.status a.guest) []
   pub maps : (i last : ℕ) (a : Answering w (Create i last) true) → K (answer_of a) (creates w i last a.host a.guest.mem) []
@@ -124,10 +124,10 @@ pub record Endings (w : World) (K : Call → Outcome → List Event → Type 0) 
   pub unplugs_range : (first count : ℕ) (status : GuestAddr) (a : Answering w (Discard first count status) true)
       → K (answer_of a) (unplugs w first count status.0 a.guest) (UnplugAck first count ∷ [])
   pub discard_fails : (first count : ℕ) (status : GuestAddr) (a : Answering w (Discard first count status) false) → K (answer_of a) (stops failed_discard w status.0 a.guest) []
-  pub ends_all_lem : (j : ℕ) (status : GuestAddr) (a : Answering w (DiscardOne j status) true) → next_set (cleared w j).blocks (j + 1) (region_blocks w) ≡ NoneSet
+  pub ends_all_lem : (j : ℕ) (status : GuestAddr) (a : Answering w (DiscardOne j status) true) → next_set (cleared w j).blocks (j + 1) (region_blocks w) ≡ None
       → K (answer_of a) (ends_all (cleared w j) status.0 a.guest) (UnplugAllAck ∷ Discarded j ∷ [])
   pub asks_next : (j : ℕ) (status : GuestAddr) (a : Answering w (DiscardOne j status) true) (block offset host : ℕ)
-      → next_set (cleared w j).blocks (j + 1) (region_blocks w) ≡ At block → Located (cleared w j) block 1 offset host
+      → next_set (cleared w j).blocks (j + 1) (region_blocks w) ≡ Some block → Located (cleared w j) block 1 offset host
       → K (answer_of a) (asks_one (cleared w j) block offset host status.0 a.guest) (Discarded j ∷ [])
   pub stops_after : {why : ℕ} (j : ℕ) (status : GuestAddr) (a : Answering w (DiscardOne j status) true) → K (answer_of a) (stops why (cleared w j) status.0 a.guest) (Discarded j ∷ [])
   pub one_fails : (j : ℕ) (status : GuestAddr) (a : Answering w (DiscardOne j status) false) → K (answer_of a) (stops failed_discard w status.0 a.guest) []

@@ -1,5 +1,6 @@
 -- SPDX-License-Identifier: Apache-2.0 AND BSD-3-Clause
 -- For each tree of `Step`: what holds of every leaf that it can end in holds of its outcome, and each leaf gets what its tests tell.
+use Rattle.std.specs.Prelude.{Option, Some, None}
 use Prim.Native.Nat.{ℕ, ◌+◌, ◌-◌, ◌*◌, ◌%◌, ◌≤◌, ◌<◌}
 use mathlib.Core.Path.{◌≡◌, refl, ap, ◌∙◌}
 use mathlib.Core.Bool.{Bool, true, false, cond, not, ◌&&◌}
@@ -14,8 +15,6 @@ use Rattle.units.specs.declared.RegionOffset.{RegionOffset}
 use Rattle.units.specs.declared.HostAddr.{HostAddr}
 use Rattle.units.proofs.Tests.{and_left, and_right}
 use Rattle.bitmap.specs.Blocks.{all_are, next_set}
-use Rattle.bitmap.specs.declared.Found.{Found}
-use Rattle.bitmap.specs.declared.Found.TheVariants.{At, Nothing as NoneSet}
 use Rattle.little_endian.specs.Bytes.{put}
 use Rattle.wire.specs.Layout.{config_bytes}
 use Rattle.wire.specs.declared.VirtioMemReq.{VirtioMemReq}
@@ -203,15 +202,15 @@ module _ (P : Outcome → Type 0) (w : World) (s : Parts w.device) (status : ℕ
       go (NoHost part) e = stop _
 
   pub unplug_all_cases : (from : ℕ)
-      → (next_set w.blocks from (region_blocks w) ≡ NoneSet → P (ends_all w status g))
-      → ((block offset host : ℕ) → next_set w.blocks from (region_blocks w) ≡ At block → Located w block 1 offset host → P (asks_one w block offset host status g))
+      → (next_set w.blocks from (region_blocks w) ≡ None → P (ends_all w status g))
+      → ((block offset host : ℕ) → next_set w.blocks from (region_blocks w) ≡ Some block → Located w block 1 offset host → P (asks_one w block offset host status g))
       → ((why : ℕ) → P (stops why w status g)) → P (unplug_all w from status g)
   unfolding next_as
   unplug_all_cases from ends asks stop = go (next_set w.blocks from (region_blocks w)) refl
     where
-      go : (f : Found) → next_set w.blocks from (region_blocks w) ≡ f → P (next_as f w status g)
-      go NoneSet e = ends e
-      go (At block) e = one_cases block (λ offset host q. asks block offset host e q) stop
+      go : (f : Option ℕ) → next_set w.blocks from (region_blocks w) ≡ f → P (next_as f w status g)
+      go None e = ends e
+      go (Some block) e = one_cases block (λ offset host q. asks block offset host e q) stop
 
 module _ (P : Outcome → Type 0) (w : World) (req : VirtioMemReq) (status : ℕ) (g : Guest) where
   pub serve_cases :

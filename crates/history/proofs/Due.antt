@@ -1,5 +1,6 @@
 -- SPDX-License-Identifier: Apache-2.0 AND BSD-3-Clause
 -- What is asked for is due: the row of a creation has no mapping, and what an unplug and an unplug-all ask for is plugged.
+use Rattle.std.specs.Prelude.{Option, Some, None}
 use Prim.Native.Nat.{ℕ, ◌+◌, ◌-◌, ◌≤◌, ◌<◌}
 use mathlib.Core.Path.{◌≡◌, refl, ap, ◌∙◌}
 use mathlib.Core.Bool.{Bool, true, false}
@@ -11,8 +12,6 @@ use borrow.Author.Tests.{ltb-true, ltb-false, le-leb, lt-ltb, eq-eqb}
 use Rattle.units.specs.Numbers.{map_regions}
 use Rattle.units.proofs.Tests.{by_test, and_left, and_right}
 use Rattle.bitmap.specs.Blocks.{block_at, all_are, next_set}
-use Rattle.bitmap.specs.declared.Found.{Found}
-use Rattle.bitmap.specs.declared.Found.TheVariants.{At, Nothing as NoneSet}
 use Rattle.bitmap.proofs.Laws.{next_at, next_nothing, all_clear_at}
 use Rattle.rows.specs.declared.MapRow.{MapRow}
 use Rattle.rows.specs.Rows.{row_at, rows_laid}
@@ -93,7 +92,7 @@ row_due_lem w h =
     }
 
 -- ---- what an unplug and an unplug-all ask for
-pub could_discard : (n : ℕ) (bs : List Bool) (j : ℕ) → next_set bs 0 n ≡ At j → could (Discarded j) bs n ≡ true
+pub could_discard : (n : ℕ) (bs : List Bool) (j : ℕ) → next_set bs 0 n ≡ Some j → could (Discarded j) bs n ≡ true
 unfolding could
 could_discard n bs j e =
     let lowest = next_at true bs 0 n j e in
@@ -105,7 +104,7 @@ unfolding could
 could_unplug n bs f c p q = rw (le-leb (f + c) n p) q
 
 -- and the other way: such a block is the lowest that is plugged
-lowest : (n : ℕ) (bs : List Bool) (j : ℕ) → could (Discarded j) bs n ≡ true → next_set bs 0 n ≡ At j
+lowest : (n : ℕ) (bs : List Bool) (j : ℕ) → could (Discarded j) bs n ≡ true → next_set bs 0 n ≡ Some j
 unfolding could
 lowest n bs j e = go (next_set bs 0 n) refl
   where
@@ -118,18 +117,18 @@ lowest n bs j e = go (next_set bs 0 n) refl
     none_below : all_are bs 0 j false ≡ true
     none_below = and_right (block_at bs j) _ (and_right (ltb j n) _ e)
 
-    go : (f : Found) → next_set bs 0 n ≡ f → next_set bs 0 n ≡ At j
-    go NoneSet q =
+    go : (f : Option ℕ) → next_set bs 0 n ≡ f → next_set bs 0 n ≡ Some j
+    go None q =
         let l = before in
         let z : n - 0 ≡ n = omega arith in
         clash there (all_clear_at bs 0 n j (rw z at (next_nothing true bs 0 n q)) (omega arith) (omega arith))
-    go (At k) q =
+    go (Some k) q =
         let x = next_at true bs 0 n k q in
         let z : k - 0 ≡ k = omega arith in
         let clear : all_are bs 0 k false ≡ true = rw z at x.none_below in
         by_test (ltb k j) (λ t. clash x.found (all_clear_at bs 0 j k none_below (omega arith) (omega (arith, ltb-true k j t))))
         (λ t. by_test (ltb j k) (λ u. clash there (all_clear_at bs 0 k j clear (omega arith) (omega (arith, ltb-true j k u))))
-        (λ u. let same : k ≡ j = omega (arith, ltb-false k j t, ltb-false j k u) in q ∙ ap At same))
+        (λ u. let same : k ≡ j = omega (arith, ltb-false k j t, ltb-false j k u) in q ∙ ap Some same))
 
 -- ---- what is asked for is due
 pub by_pending : (w : World) (es : List Event) (p : Pending) → w.device.pending ≡ p → Inv w es → Parts w.device → row_due p w.rows ≡ true

@@ -1,6 +1,7 @@
 -- SPDX-License-Identifier: Apache-2.0 AND BSD-3-Clause
 -- The invariant of every run, pending states included, and that each leaf of the step keeps it.
 -- It says: what demand 3 says (`Demand3`); before placing there is no event, no discard is asked for and nothing is plugged; what an unplug asks for is all plugged, and what an unplug-all asks for is the lowest plugged block.
+use Rattle.std.specs.Prelude.{Some, None}
 use Prim.Native.Nat.{ℕ, suc, ◌+◌, ◌-◌, ◌*◌, ◌≤◌, ◌<◌}
 use mathlib.Core.Path.{◌≡◌, refl, ◌∙◌, sym}
 use mathlib.Core.Bool.{Bool, true, false, cond, ◌&&◌}
@@ -12,7 +13,6 @@ use lib.ListN.{length, take, length-take}
 use lib.Seq.{get_or-take}
 use borrow.Author.Tests.{leb-true, leb-false, ltb-true, ltb-false}
 use Rattle.bitmap.specs.Blocks.{block_at, fill, next_set, ones, all_are}
-use Rattle.bitmap.specs.declared.Found.TheVariants.{At, Nothing as NoneSet}
 use Rattle.bitmap.proofs.Laws.{at_inside, at_before, at_after, take-fill, range-take, fill_after, ones_plugged, ones_unplugged, ones_one, take_cleared, next_at, next_cleared, next_nothing_ones}
 use Rattle.rows.specs.declared.MapRow.{MapRow}
 use Rattle.record.specs.declared.Pending.{Pending}
@@ -56,18 +56,18 @@ module _ (n : ℕ) (bs : List Bool) (long : n ≤ length bs) where
       rw (take-fill n bs f c false) (ones_unplugged (take n bs) f c (omega (arith, length-take n bs)) (rw (range-take n bs f c l) a))
 
 -- after the lowest of them is cleared
-pub used_one : (n : ℕ) (bs : List Bool) (j : ℕ) → next_set bs 0 n ≡ At j → ones (take n (fill bs j 1 false)) + 1 ≡ ones (take n bs)
+pub used_one : (n : ℕ) (bs : List Bool) (j : ℕ) → next_set bs 0 n ≡ Some j → ones (take n (fill bs j 1 false)) + 1 ≡ ones (take n bs)
 used_one n bs j e =
     let lowest = next_at true bs 0 n j e in
     let fewer = ones_one (take n bs) j (get_or-take n bs j false lowest.before_end ∙ lowest.found) in
     rw (take-fill n bs j 1 false) (omega arith)
 
 -- no block of the region is set
-used_none : (n : ℕ) (bs : List Bool) → next_set bs 0 n ≡ NoneSet → ones (take n bs) ≡ 0
+used_none : (n : ℕ) (bs : List Bool) → next_set bs 0 n ≡ None → ones (take n bs) ≡ 0
 used_none n bs e = let z : n - 0 ≡ n = omega arith in rw z at (next_nothing_ones bs 0 n e)
 
 -- an unplug-all that goes on after the block that it cleared misses none
-pub goes_on : (n : ℕ) (bs : List Bool) (j : ℕ) → next_set bs 0 n ≡ At j → next_set (fill bs j 1 false) (j + 1) n ≡ next_set (fill bs j 1 false) 0 n
+pub goes_on : (n : ℕ) (bs : List Bool) (j : ℕ) → next_set bs 0 n ≡ Some j → next_set (fill bs j 1 false) (j + 1) n ≡ next_set (fill bs j 1 false) 0 n
 goes_on n bs j e =
     let z : j + 1 ≡ suc j = omega arith in
     rw (z, fill_after bs j 1 false (suc j) (n - suc j) (omega arith)) (sym (next_cleared bs 0 n j e))
@@ -85,7 +85,7 @@ unfoldable pub Asked : Pending → List Bool → ℕ → Type 0
 Asked Nothing bs n = true ≡ true
 Asked (Create first last) bs n = true ≡ true
 Asked (Discard first count status) bs n = all_are bs first count true ≡ true
-Asked (DiscardOne block status) bs n = next_set bs 0 n ≡ At block
+Asked (DiscardOne block status) bs n = next_set bs 0 n ≡ Some block
 
 pub record Unplaced (w : World) (es : List Event) : Type 0 where
   pub none_yet : es ≡ []
@@ -149,7 +149,7 @@ module _ (w : World) (es : List Event) (h : Inv w es) (there : w.device.placed �
           asked = refl;
         }
 
-    pub inv_cleared : (j : ℕ) → next_set w.blocks 0 (region_blocks w) ≡ At j → Inv (cleared w j) (Discarded j ∷ es)
+    pub inv_cleared : (j : ℕ) → next_set w.blocks 0 (region_blocks w) ≡ Some j → Inv (cleared w j) (Discarded j ∷ es)
     unfolding touches was_plug Asked
     inv_cleared j e =
         record {
@@ -161,7 +161,7 @@ module _ (w : World) (es : List Event) (h : Inv w es) (there : w.device.placed �
           asked = refl;
         }
 
-  pub inv_ends : next_set w.blocks 0 (region_blocks w) ≡ NoneSet → Inv (ends_all w status g).world (UnplugAllAck ∷ es)
+  pub inv_ends : next_set w.blocks 0 (region_blocks w) ≡ None → Inv (ends_all w status g).world (UnplugAllAck ∷ es)
   unfolding touches last_on Asked
   inv_ends e =
       record {

@@ -1,5 +1,6 @@
 -- SPDX-License-Identifier: Apache-2.0 AND BSD-3-Clause
 -- Every plug and unplug happens whole or not at all: the blocks and the plugged size change by the events of the call alone, and each event finds its whole range in the other state.
+use Rattle.std.specs.Prelude.{None}
 use Prim.Native.Nat.{ℕ, ◌+◌, ◌-◌, ◌≤◌}
 use mathlib.Core.Path.{◌≡◌, refl, ◌∙◌, sym}
 use mathlib.Core.Bool.{Bool, true, false}
@@ -7,7 +8,6 @@ use mathlib.Core.List.{List, []}
 use native.Mathlib.Omega.{arith}
 use borrow.Author.Tests.{le-leb}
 use Rattle.bitmap.specs.Blocks.{all_are, fill, next_set}
-use Rattle.bitmap.specs.declared.Found.TheVariants.{Nothing as NoneSet}
 use Rattle.bitmap.proofs.Laws.{next_nothing}
 use Rattle.step.specs.World.{World, Call, Outcome}
 use Rattle.step.specs.Step.{plugged, region_blocks}
@@ -26,7 +26,7 @@ could_plug : (n : ℕ) (bs : List Bool) (f c : ℕ) → f + c ≤ n → all_are 
 unfolding could
 could_plug n bs f c p q = rw (le-leb (f + c) n p) q
 
-could_end : (n : ℕ) (bs : List Bool) → next_set bs 0 n ≡ NoneSet → could UnplugAllAck bs n ≡ true
+could_end : (n : ℕ) (bs : List Bool) → next_set bs 0 n ≡ None → could UnplugAllAck bs n ≡ true
 unfolding could
 could_end n bs e = let z : n - 0 ≡ n = omega arith in rw z at (next_nothing true bs 0 n e)
 

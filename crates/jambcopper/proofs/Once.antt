@@ -1,5 +1,7 @@
 -- SPDX-License-Identifier: Apache-2.0 AND BSD-3-Clause
 -- The promise of every export leaves one outcome, bytes included: the number, and what stands in each lent slice.
+use Rattle.record.specs.declared.Device.{Device}
+use Rattle.std.specs.Prelude.{Option, Some, None}
 use Prim.Native.Nat.{ℕ, ◌<◌}
 use mathlib.Core.Path.{◌≡◌, sym, ap, ◌∙◌}
 use mathlib.Core.List.{List}
@@ -11,11 +13,7 @@ use Rattle.step.proofs.Once.{leaves_once}
 use Rattle.rings.specs.declared.Queue.{Queue}
 use Rattle.queue.specs.Queue.{QueueOutcome, left_by_queue}
 use Rattle.making.specs.declared.Made.{Made}
-use Rattle.words.specs.declared.Decoded.{Decoded}
-use Rattle.words.specs.declared.Decoded.TheVariants.{Is, NoRecord}
 use Rattle.words.specs.Record.{decoded_of}
-use Rattle.queue_words.specs.declared.DecodedQueue.{DecodedQueue}
-use Rattle.queue_words.specs.declared.DecodedQueue.TheVariants.{Is as IsQueue, NoQueue}
 use Rattle.queue_words.specs.Words.{decoded_queue_of}
 use Rattle.jambcopper.specs.Exports.{MadeIn, Handed, handed, Told, Foreign, Called, Exported}
 use Rattle.jambcopper.specs.Queue.{QueueMadeIn, QueueHanded, queue_handed, QueueStep, QueueTold, QueueForeign, QueueCalled, QueueExported}
@@ -46,10 +44,10 @@ module _ (entry exit exit' : Handed) (n n' : ℕ)
     p.numbered ∙ sym q.numbered,
   )
 
-  called_once : (r : Decoded) (call : Lent → Call) → Called r call entry exit n → Called r call entry exit' n' → (exit ≡ exit') × (n ≡ n')
+  called_once : (r : Option Device) (call : Lent → Call) → Called r call entry exit n → Called r call entry exit' n' → (exit ≡ exit') × (n ≡ n')
   unfolding Called
-  called_once (Is d) call p q = told_once (step (on d entry.slices) (call entry.slices)) p q
-  called_once NoRecord call p q = foreign_once p q
+  called_once (Some d) call p q = told_once (step (on d entry.slices) (call entry.slices)) p q
+  called_once None call p q = foreign_once p q
 
   pub exported_once : (call : Lent → Call) → Exported call entry exit n → Exported call entry exit' n' → (exit ≡ exit') × (n ≡ n')
   exported_once call p q = called_once (decoded_of entry.words) call p q
@@ -77,13 +75,13 @@ module _ (entry exit exit' : QueueHanded) (n n' : ℕ)
       let others = foreign_once entry.others exit.others exit'.others n n' b b' p.others q.others in
       (same_queue_handed exit exit' (p.queued ∙ sym q.queued) others.0, others.1)
 
-  queue_called_once : (r : Decoded) (x : DecodedQueue) (call : QueueStep)
+  queue_called_once : (r : Option Device) (x : Option Queue) (call : QueueStep)
       → QueueCalled r x call entry exit n → QueueCalled r x call entry exit' n' → (exit ≡ exit') × (n ≡ n')
   unfolding QueueCalled
-  queue_called_once (Is d) (IsQueue q) call p p' =
+  queue_called_once (Some d) (Some q) call p p' =
       queue_told_once (call entry.others.slices (on d entry.others.slices) q) p p'
-  queue_called_once (Is d) NoQueue call p p' = queue_foreign_once p p'
-  queue_called_once NoRecord x call p p' = queue_foreign_once p p'
+  queue_called_once (Some d) None call p p' = queue_foreign_once p p'
+  queue_called_once None x call p p' = queue_foreign_once p p'
 
   pub queue_exported_once : (call : QueueStep) → QueueExported call entry exit n → QueueExported call entry exit' n' → (exit ≡ exit') × (n ≡ n')
   queue_exported_once call p q =

@@ -1,5 +1,6 @@
 -- SPDX-License-Identifier: Apache-2.0 AND BSD-3-Clause
 -- The ways through the exports on a queue: what the queue's call promises, as words, and 12 where there is no record, or no queue.
+use Rattle.std.specs.Prelude.{Option, Some, None}
 use Prim.Native.Nat.{ℕ, ◌+◌, ◌≤◌, ◌<◌}
 use mathlib.Core.Path.{◌≡◌, refl, sym, ap, ◌∙◌}
 use mathlib.Core.List.{List, [], append-nil}
@@ -20,15 +21,10 @@ use Rattle.step.specs.Step.{step}
 use Rattle.step.specs.Promise.{Lent, lent, on}
 use Rattle.step.specs.Answers.{answer_words}
 use Rattle.step.proofs.Served.{Short}
-use Rattle.queue.specs.declared.QueueAnswer.{QueueAnswer}
 use Rattle.queue.specs.declared.Ending.{Ending}
 use Rattle.queue.specs.Queue.{ending_of, queue_by, unmoved, aside, about, Settles, queue_answer_words, queue_number_of}
-use Rattle.words.specs.declared.Decoded.{Decoded}
-use Rattle.words.specs.declared.Decoded.TheVariants.{Is, NoRecord}
 use Rattle.words.specs.Record.{decoded_of}
 use Rattle.words.proofs.Laws.{decoded_encodes}
-use Rattle.queue_words.specs.declared.DecodedQueue.{DecodedQueue}
-use Rattle.queue_words.specs.declared.DecodedQueue.TheVariants.{Is as IsQueue, NoQueue}
 use Rattle.queue_words.specs.Words.{queue_words, decoded_queue_of, ending_words}
 use Rattle.queue_words.proofs.Laws.{decoded_long as queue_long, decoded_encodes as queue-encodes, ending_told_lem}
 use Rattle.jambcopper.specs.Exports.{handed, Told, Called, Exported}
@@ -51,16 +47,16 @@ put_whole xs ys e =
     let sum : 0 + length ys ≡ length ys = omega arith in
     put_fits xs 0 ys (omega arith) ∙ rw (sum, none) (append-nil ys)
 
-module _ (call : QueueStep) (words queue : List ℕ) (r : Decoded) (e : r ≡ decoded_of words) (d : Device) (f : r ≡ Is d)
-    (x : DecodedQueue) (h : x ≡ decoded_queue_of queue) (q : Queue) (i : x ≡ IsQueue q) where
-  is : decoded_of words ≡ Is d
+module _ (call : QueueStep) (words queue : List ℕ) (r : Option Device) (e : r ≡ decoded_of words) (d : Device) (f : r ≡ Some d)
+    (x : Option Queue) (h : x ≡ decoded_queue_of queue) (q : Queue) (i : x ≡ Some q) where
+  is : decoded_of words ≡ Some d
   is = sym e ∙ f
 
-  is_queue_lem : decoded_queue_of queue ≡ IsQueue q
+  is_queue_lem : decoded_queue_of queue ≡ Some q
   is_queue_lem = sym h ∙ i
 
   -- a call that takes no head and changes nothing: only the answer is written
-  pub unmoved_told : (t : QueueAnswer) (answer answer' : List ℕ) (l : Lent) (number : ℕ)
+  pub unmoved_told : (t : Option Answer) (answer answer' : List ℕ) (l : Lent) (number : ℕ)
       → call l (on d l) q ≡ unmoved t (on d l) q l.bytes
       → (number ≡ queue_number_of t) × (answer' ≡ put answer 0 (queue_answer_words t))
       → QueueExported call (queue_handed queue (handed words answer l)) (queue_handed queue (handed words answer' l)) number
@@ -107,7 +103,7 @@ module _ (call : QueueStep) (words queue : List ℕ) (r : Decoded) (e : r ≡ de
     pub about-told : length told ≡ 9 → Short outcome.answer → (head base : ℕ) (was out : Queue)
         → call before (on d before) q ≡ about head base was out outcome
         → (ending : Ending) → ending ≡ ending_words told' → (now : Queue) (queue' answer answer' bytes' : List ℕ) → Settles ending head base was out after.bytes now bytes'
-        → (queue' ≡ put queue 0 (queue_words now)) × (6 ≤ length queue → decoded_queue_of queue' ≡ IsQueue now) → answer' ≡ put answer 0 told'
+        → (queue' ≡ put queue 0 (queue_words now)) × (6 ≤ length queue → decoded_queue_of queue' ≡ Some now) → answer' ≡ put answer 0 told'
         → QueueExported call (queue_handed queue (handed words answer before)) (queue_handed queue' (handed words' answer' (lent after.bitmap after.table bytes'))) number
     unfolding QueueCalled
     about-told room short head base was out same ending ending-is now queue' answer answer' bytes' settled written passed =
@@ -121,31 +117,31 @@ module _ (call : QueueStep) (words queue : List ℕ) (r : Decoded) (e : r ≡ de
           recorded = tells.recorded;
           decodes = tells.decodes;
           queued = written.0 ∙ ap (λ (k : Queue). put queue 0 (queue_words k)) now-is;
-          queue_decodes = written.1 (queue_long queue q is_queue_lem) ∙ ap IsQueue now-is;
+          queue_decodes = written.1 (queue_long queue q is_queue_lem) ∙ ap Some now-is;
           told = passed ∙ ap (put answer 0) said;
           leaves = record { marked = tells.leaves.marked; mapped = tells.leaves.mapped; left = rw (ends, tells.leaves.left) at settled.left };
         })
 
 -- no record: only the answer is written
-pub no_record : (call : QueueStep) (words queue : List ℕ) (r : Decoded) → r ≡ decoded_of words → r ≡ NoRecord
+pub no_record : (call : QueueStep) (words queue : List ℕ) (r : Option Device) → r ≡ decoded_of words → r ≡ None
     → (answer answer' : List ℕ) (l : Lent) (number : ℕ)
     → (number ≡ 12) × (answer' ≡ put answer 0 (answer_words (Refused 12)))
     → QueueExported call (queue_handed queue (handed words answer l)) (queue_handed queue (handed words answer' l)) number
 unfolding QueueCalled
 no_record call words queue r e f answer answer' l number t =
-    let is : decoded_of words ≡ NoRecord = sym e ∙ f in
+    let is : decoded_of words ≡ None = sym e ∙ f in
     rw is (record { others = record { numbered = t.0; told = t.1; recorded = refl; untouched = refl }; queued = refl })
 
 -- a record and no queue: so too
-pub no_queue : (call : QueueStep) (words queue : List ℕ) (r : Decoded) → r ≡ decoded_of words → (d : Device) → r ≡ Is d
-    → (x : DecodedQueue) → x ≡ decoded_queue_of queue → x ≡ NoQueue
+pub no_queue : (call : QueueStep) (words queue : List ℕ) (r : Option Device) → r ≡ decoded_of words → (d : Device) → r ≡ Some d
+    → (x : Option Queue) → x ≡ decoded_queue_of queue → x ≡ None
     → (answer answer' : List ℕ) (l : Lent) (number : ℕ)
     → (number ≡ 12) × (answer' ≡ put answer 0 (answer_words (Refused 12)))
     → QueueExported call (queue_handed queue (handed words answer l)) (queue_handed queue (handed words answer' l)) number
 unfolding QueueCalled
 no_queue call words queue r e d f x h i answer answer' l number t =
-    let is : decoded_of words ≡ Is d = sym e ∙ f in
-    let is_none : decoded_queue_of queue ≡ NoQueue = sym h ∙ i in
+    let is : decoded_of words ≡ Some d = sym e ∙ f in
+    let is_none : decoded_queue_of queue ≡ None = sym h ∙ i in
     rw (is, is_none) (record { others = record { numbered = t.0; told = t.1; recorded = refl; untouched = refl }; queued = refl })
 
 -- ---- making

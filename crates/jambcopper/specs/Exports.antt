@@ -1,9 +1,7 @@
 -- SPDX-License-Identifier: Apache-2.0 AND BSD-3-Clause
 -- What an exported call leaves in the slices that it was lent: what the device's call ends in, as words.
-use Rattle.std.specs.Prelude.{ℕ, ◌≡◌, Bool, cond, List, leb, length}
+use Rattle.std.specs.Prelude.{ℕ, ◌≡◌, Bool, cond, List, leb, length, Option, Some, None}
 use Rattle.little_endian.specs.Bytes.{put}
-use Rattle.units.specs.declared.Node.{Node}
-use Rattle.units.specs.declared.Node.TheVariants.{None, Number}
 use Rattle.making.specs.declared.Made.{Made}
 use Rattle.making.specs.declared.Made.TheVariants.{Device as MadeDevice, Refused}
 use Rattle.making.specs.Made.{made_number}
@@ -11,14 +9,12 @@ use Rattle.step.specs.declared.Answer.TheVariants.{Refused as RefusedWith}
 use Rattle.step.specs.World.{Outcome, Call}
 use Rattle.step.specs.Step.{step}
 use Rattle.step.specs.Promise.{Lent, on, left_by, Leaves}
-use Rattle.words.specs.declared.Decoded.{Decoded}
-use Rattle.words.specs.declared.Decoded.TheVariants.{Is, NoRecord}
 use Rattle.words.specs.Record.{record_length, words_of, decoded_of}
 use Rattle.step.specs.Answers.{answer_words, number_of}
 
 -- ---- making
-abbrev pub node_of : (given : Bool) (node : ℕ) → Node
-node_of given node = cond given (Number node) None
+abbrev pub node_of : (given : Bool) (node : ℕ) → Option ℕ
+node_of given node = cond given (Some node) None
 
 -- a record is written where one was made
 unfoldable pub made_words : List ℕ → Made → List ℕ
@@ -44,7 +40,7 @@ handed words answer slices = record { words = words; answer = answer; slices = s
 pub record Told (o : Outcome) (entry exit : Handed) (number : ℕ) : Type 0 where
   pub numbered : number ≡ number_of o.answer
   pub recorded : exit.words ≡ put entry.words 0 (words_of o.world.device)
-  pub decodes : decoded_of exit.words ≡ Is o.world.device
+  pub decodes : decoded_of exit.words ≡ Some o.world.device
   pub told : exit.answer ≡ put entry.answer 0 (answer_words o.answer)
   pub leaves : Leaves (left_by o) entry.slices exit.slices
 
@@ -56,9 +52,9 @@ pub record Foreign (entry exit : Handed) (number : ℕ) : Type 0 where
   pub untouched : exit.slices ≡ entry.slices
 
 -- a call on what the words mean
-unfoldable pub Called : Decoded → (Lent → Call) → (entry exit : Handed) → ℕ → Type 0
-Called (Is d) call entry exit number = Told (step (on d entry.slices) (call entry.slices)) entry exit number
-Called NoRecord call entry exit number = Foreign entry exit number
+unfoldable pub Called : Option Device → (Lent → Call) → (entry exit : Handed) → ℕ → Type 0
+Called (Some d) call entry exit number = Told (step (on d entry.slices) (call entry.slices)) entry exit number
+Called None call entry exit number = Foreign entry exit number
 
 -- the call, on what was handed in, tells what `step` says
 abbrev pub Exported : (Lent → Call) → (entry exit : Handed) → ℕ → Type 0

@@ -1,15 +1,11 @@
 -- SPDX-License-Identifier: Apache-2.0 AND BSD-3-Clause
 -- What an exported call on a queue leaves in the slices that it was lent: what the queue's call ends in, as words.
-use Rattle.std.specs.Prelude.{ℕ, ◌≡◌, Bool, cond, List, leb, length}
+use Rattle.record.specs.declared.Device.{Device}
+use Rattle.std.specs.Prelude.{ℕ, ◌≡◌, Bool, cond, List, leb, length, Option, Some, None}
 use Rattle.little_endian.specs.Bytes.{put}
 use Rattle.rings.specs.declared.Queue.{Queue}
-use Rattle.rings.specs.declared.Taken.TheVariants.{Nothing}
 use Rattle.queue.specs.Queue.{QueueOutcome, serve_next, host_answers, queue_answer_words, queue_number_of, left_by_queue}
-use Rattle.words.specs.declared.Decoded.{Decoded}
-use Rattle.words.specs.declared.Decoded.TheVariants.{Is, NoRecord}
 use Rattle.words.specs.Record.{words_of, decoded_of}
-use Rattle.queue_words.specs.declared.DecodedQueue.{DecodedQueue}
-use Rattle.queue_words.specs.declared.DecodedQueue.TheVariants.{Is as IsQueue, NoQueue}
 use Rattle.queue_words.specs.Words.{queue_length, queue_words, decoded_queue_of}
 use Rattle.step.specs.World.{World}
 use Rattle.step.specs.Promise.{Lent, on, guest_in, Leaves}
@@ -25,7 +21,7 @@ new_queue descriptors available used =
       used = record { 0 = used };
       next_available = 0;
       next_used = 0;
-      taken = Nothing;
+      taken = None;
     }
 
 -- R19.5: 12 where there is no room for a queue, and nothing is written
@@ -56,9 +52,9 @@ serve_answer_on base ok host l w q = host_answers w q (guest_in l base) ok host
 pub record QueueTold (o : QueueOutcome) (entry exit : QueueHanded) (number : ℕ) : Type 0 where
   pub numbered : number ≡ queue_number_of o.answer
   pub recorded : exit.others.words ≡ put entry.others.words 0 (words_of o.world.device)
-  pub decodes : decoded_of exit.others.words ≡ Is o.world.device
+  pub decodes : decoded_of exit.others.words ≡ Some o.world.device
   pub queued : exit.queue ≡ put entry.queue 0 (queue_words o.queue)
-  pub queue_decodes : decoded_queue_of exit.queue ≡ IsQueue o.queue
+  pub queue_decodes : decoded_queue_of exit.queue ≡ Some o.queue
   pub told : exit.others.answer ≡ put entry.others.answer 0 (queue_answer_words o.answer)
   pub leaves : Leaves (left_by_queue o) entry.others.slices exit.others.slices
 
@@ -68,11 +64,11 @@ pub record QueueForeign (entry exit : QueueHanded) (number : ℕ) : Type 0 where
   pub queued : exit.queue ≡ entry.queue
 
 -- a call on what the words mean
-unfoldable pub QueueCalled : Decoded → DecodedQueue → QueueStep → (entry exit : QueueHanded) → ℕ → Type 0
-QueueCalled (Is d) (IsQueue q) call entry exit number =
+unfoldable pub QueueCalled : Option Device → Option Queue → QueueStep → (entry exit : QueueHanded) → ℕ → Type 0
+QueueCalled (Some d) (Some q) call entry exit number =
     QueueTold (call entry.others.slices (on d entry.others.slices) q) entry exit number
-QueueCalled (Is d) NoQueue call entry exit number = QueueForeign entry exit number
-QueueCalled NoRecord r call entry exit number = QueueForeign entry exit number
+QueueCalled (Some d) None call entry exit number = QueueForeign entry exit number
+QueueCalled None r call entry exit number = QueueForeign entry exit number
 
 -- the call, on what was handed in, tells what the queue's definition says
 abbrev pub QueueExported : QueueStep → (entry exit : QueueHanded) → ℕ → Type 0

@@ -21,23 +21,23 @@ use driver_words::{tell_config, tell_plan, tell_response};
 use making::{Made, Mem};
 use placing::{place, set_requested_size};
 use queue::{Taking, next_taking, queue_refusal, settle, took_head};
-use queue_words::{DecodedQueue, QUEUE_WORDS, decode_queue, encode_queue, ending_told, tell_queue};
-use rings::{Queue, Taken};
+use queue_words::{QUEUE_WORDS, decode_queue, encode_queue, ending_told, tell_queue};
+use rings::Queue;
 use save_words::{tell_new, tell_old, tell_restore, tell_save, tell_save_length};
 use serving::{host_answer, request};
 use step::Answer;
-use units::{GuestAddr, HostAddr, Node};
+use units::{GuestAddr, HostAddr};
 use wire::VirtioMemReq;
-use words::{Decoded, RECORD_WORDS, decode, encode, encode_answer, encode_request};
+use words::{RECORD_WORDS, decode, encode, encode_answer, encode_request};
 
 // The node of a device, as the enum of its constructor has it.
-fn node_of(node_given: bool, node: u16) -> Node
+fn node_of(node_given: bool, node: u16) -> Option<u16>
     ensures { result ≡ node_of node_given node }
 {
     if node_given {
-        Node::Number(node)
+        Some(node)
     } else {
-        Node::None
+        None
     }
 }
 
@@ -82,7 +82,7 @@ pub fn jambcopper_place(
         (handed words.old answer.old (lent bitmap.old table.old []))
         (handed words.new answer.new (lent bitmap.new table.new [])) result }
 {
-    let Decoded::Is(d) = decode(&words[..]) else {
+    let Some(d) = decode(&words[..]) else {
         return tell(Answer::Refused(12), answer);
     };
     let s = place(d, bitmap, table, GuestAddr(start), size, slots);
@@ -104,7 +104,7 @@ pub fn jambcopper_set_requested_size(
         (handed words.old answer.old (lent bitmap.now table.now []))
         (handed words.new answer.new (lent bitmap.now table.now [])) result }
 {
-    let Decoded::Is(d) = decode(&words[..]) else {
+    let Some(d) = decode(&words[..]) else {
         return tell(Answer::Refused(12), answer);
     };
     let s = set_requested_size(d, bitmap, table, requested_mib);
@@ -131,7 +131,7 @@ pub fn jambcopper_request(
         (handed words.new answer.new
         (lent bitmap.new table.now mem.new)) result }
 {
-    let Decoded::Is(d) = decode(&words[..]) else {
+    let Some(d) = decode(&words[..]) else {
         return tell(Answer::Refused(12), answer);
     };
     let s = request(
@@ -166,7 +166,7 @@ pub fn jambcopper_host_answer(
         (handed words.new answer.new
         (lent bitmap.new table.new mem.new)) result }
 {
-    let Decoded::Is(d) = decode(&words[..]) else {
+    let Some(d) = decode(&words[..]) else {
         return tell(Answer::Refused(12), answer);
     };
     let s = host_answer(d, bitmap, table, mem, GuestAddr(base), ok, HostAddr(host));
@@ -183,7 +183,7 @@ pub fn jambcopper_queue_make(queue: &mut [u64], descriptors: u64, available: u64
     if queue.len() < QUEUE_WORDS {
         return 12;
     }
-    let none = Taken::Nothing;
+    let none = None;
     let q = Queue {
         descriptors: GuestAddr(descriptors),
         available: GuestAddr(available),
@@ -212,10 +212,10 @@ pub fn jambcopper_serve(
         (queue_handed queue.new (handed words.new answer.new
         (lent bitmap.new table.now mem.new))) result }
 {
-    let Decoded::Is(d) = decode(&words[..]) else {
+    let Some(d) = decode(&words[..]) else {
         return tell(Answer::Refused(12), answer);
     };
-    let DecodedQueue::Is(q) = decode_queue(&queue[..]) else {
+    let Some(q) = decode_queue(&queue[..]) else {
         return tell(Answer::Refused(12), answer);
     };
     match next_taking(d, q, bitmap.len(), table.len(), &mem[..], GuestAddr(base)) {
@@ -260,10 +260,10 @@ pub fn jambcopper_serve_answer(
         (queue_handed queue.new (handed words.new answer.new
         (lent bitmap.new table.new mem.new))) result }
 {
-    let Decoded::Is(d) = decode(&words[..]) else {
+    let Some(d) = decode(&words[..]) else {
         return tell(Answer::Refused(12), answer);
     };
-    let DecodedQueue::Is(q) = decode_queue(&queue[..]) else {
+    let Some(q) = decode_queue(&queue[..]) else {
         return tell(Answer::Refused(12), answer);
     };
     let refused = queue_refusal(d, q, bitmap.len(), table.len(), &mem[..], GuestAddr(base));
@@ -271,7 +271,7 @@ pub fn jambcopper_serve_answer(
         return tell(Answer::Refused(refused), answer);
     }
     let taken = q.taken;
-    let Taken::Head(head) = taken else {
+    let Some(head) = taken else {
         return jambcopper_host_answer(words, bitmap, table, mem, base, ok, host, answer);
     };
     let mut told: [u64; ANSWER_WORDS] = [0; ANSWER_WORDS];
@@ -289,7 +289,7 @@ pub fn jambcopper_read_config(words: &[u64], offset: u64, data: &mut [u8]) -> u6
         (handed words.now [] (lent [] [] «data».old))
         (handed words.now [] (lent [] [] «data».new)) result }
 {
-    let Decoded::Is(d) = decode(words) else {
+    let Some(d) = decode(words) else {
         return 12;
     };
     let s = read_config(d, offset, data);
@@ -303,7 +303,7 @@ pub fn jambcopper_write_config(words: &[u64], offset: u64, data: &[u8]) -> u64
         (handed words.now [] (lent [] [] «data».now))
         (handed words.now [] (lent [] [] «data».now)) result }
 {
-    let Decoded::Is(d) = decode(words) else {
+    let Some(d) = decode(words) else {
         return 12;
     };
     let s = write_config(d, offset, data);

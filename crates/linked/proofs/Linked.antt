@@ -1,5 +1,6 @@
 -- SPDX-License-Identifier: Apache-2.0 AND BSD-3-Clause
 -- A run of the exported functions is a run of the definition: from making on, whatever is lent besides what is held. So what holds of every run of the definition holds of what a program that links the library has in hand; demand 3 first.
+use Rattle.std.specs.Prelude.{Option, Some}
 use Prim.Native.Nat.{ℕ, ◌*◌, ◌≤◌}
 use mathlib.Core.Path.{◌≡◌, refl, ap, sym, ◌∙◌}
 use mathlib.Core.Bool.{Bool, true, false, not, ◌||◌}
@@ -17,11 +18,9 @@ use Rattle.record.specs.declared.Device.{Device}
 use Rattle.record.specs.Shape.{size_ok}
 use Rattle.step.specs.World.{World}
 use Rattle.step.specs.Step.{step}
-use Rattle.units.specs.declared.Node.{Node}
 use Rattle.making.specs.declared.Made.{Made}
 use Rattle.making.specs.declared.Made.TheVariants.{Device as MadeDevice}
 use Rattle.making.specs.Made.{node_number, made, made_number}
-use Rattle.words.specs.declared.Decoded.TheVariants.{Is}
 use Rattle.words.specs.Record.{words_of, decoded_of}
 use Rattle.words.proofs.Laws.{encoded_decodes}
 use Rattle.jambcopper.specs.Exports.{node_of, made_words}
@@ -69,7 +68,7 @@ pub record IsMade (m : Made) (node : ℕ) : Type 0 where
   pub node_is : device.config.node_id ≡ node
 
 -- a device is refused with 1 or 2
-pub made_at_0 : (capacity requested : ℕ) (several : Bool) (node : Node) (boot : ℕ) → made_number (made capacity requested several node boot) ≡ 0 → IsMade (made capacity requested several node boot) (node_number node)
+pub made_at_0 : (capacity requested : ℕ) (several : Bool) (node : Option ℕ) (boot : ℕ) → made_number (made capacity requested several node boot) ≡ 0 → IsMade (made capacity requested several node boot) (node_number node)
 unfolding made made_number
 made_at_0 capacity requested several node boot =
     let region = capacity_of capacity (alignment_of boot) in
@@ -82,7 +81,7 @@ node_within true node h = h
 node_within false node h = omega arith
 
 -- ---- a device whose record the words are
-pub at_first : (words : List ℕ) (d : Device) → decoded_of words ≡ Is d → Means (first words) (begun d).world
+pub at_first : (words : List ℕ) (d : Device) → decoded_of words ≡ Some d → Means (first words) (begun d).world
 unfolding blocks rows_of
 at_first words d is = record { decodes = is; marked = refl; mapped = refl }
 
@@ -113,7 +112,7 @@ module _ (m : Making) (words' : List ℕ) (makes : Makes m words') where
         let same : i.device ≡ d = cc in
         rw (← same, i.node_is) (node_within m.given m.node makes.node_fits)
 
-    pub made_decodes : decoded_of words' ≡ Is d
+    pub made_decodes : decoded_of words' ≡ Some d
     made_decodes = ap decoded_of made_words_lem ∙ encoded_decodes d m.words node_small (leb-true 15 (length m.words) room)
 
     pub follows_making : Follows (first words') (begun d)

@@ -1,5 +1,7 @@
 -- SPDX-License-Identifier: Apache-2.0 AND BSD-3-Clause
 -- A refused export changes nothing: the definition's refused call does not, and an export leaves what the definition's call leaves.
+use Rattle.record.specs.declared.Device.{Device}
+use Rattle.std.specs.Prelude.{Option, Some, None}
 use mathlib.Core.Path.{◌≡◌, refl, ap, ◌∙◌}
 use mathlib.Core.Bool.{true}
 use Rattle.bitmap.proofs.Bytes.{blocks_tell}
@@ -11,8 +13,6 @@ use Rattle.record.specs.declared.HostCall.TheVariants.{Create, Discard}
 use Rattle.step.specs.Answers.{number_of}
 use Rattle.step.specs.World.{World, world_of}
 use Rattle.step.specs.Step.{step}
-use Rattle.words.specs.declared.Decoded.{Decoded}
-use Rattle.words.specs.declared.Decoded.TheVariants.{Is, NoRecord}
 use Rattle.words.specs.Record.{words_of, decoded_of}
 use Rattle.words.proofs.Laws.{decoded_encodes}
 use Rattle.little_endian.specs.Bytes.{put}
@@ -47,8 +47,8 @@ pub refused_export_changes_nothing : RefusedExportChangesNothing
 unfolding Called
 refused_export_changes_nothing u low low' p refused not-10 = go (decoded_of u.before.words) refl p
   where
-    go : (r : Decoded) → decoded_of u.before.words ≡ r → Called r (call_by u.function) u.before u.after u.number → UseUntouched u
-    go (Is d) is t =
+    go : (r : Option Device) → decoded_of u.before.words ≡ r → Called r (call_by u.function) u.before u.after u.number → UseUntouched u
+    go (Some d) is t =
         let w = world_of d u.before.slices.bitmap u.before.slices.table in
         let a = (step w (call_of u)).answer in
         let same = refused_changes_nothing w (call_of u) (number_of a) (refused_with a (λ e. refused (t.numbered ∙ e))) (λ e. not-10 (t.numbered ∙ e)) in
@@ -58,7 +58,7 @@ refused_export_changes_nothing u low low' p refused not-10 = go (decoded_of u.be
           same_table = t.leaves.mapped ∙ ap (λ (v : World). written u.before.slices.table v.rows) same.0 ∙ whole u.before.slices.table;
           same_bytes = λ lends. t.leaves.left ∙ same.1 ∙ lent_bytes_lem u.function u.before lends;
         }
-    go NoRecord is t =
+    go None is t =
         record {
           same_words = t.recorded;
           same_bitmap = ap (λ (l : Lent). l.bitmap) t.untouched;

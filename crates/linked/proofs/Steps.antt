@@ -1,5 +1,6 @@
 -- SPDX-License-Identifier: Apache-2.0 AND BSD-3-Clause
 -- One exported call against one step of the definition: what is held goes on meaning the world of the run, and what the call tells is what the step answers.
+use Rattle.std.specs.Prelude.{Some}
 use Prim.Native.Nat.{ℕ}
 use mathlib.Core.Path.{◌≡◌, refl, ap, ◌∙◌}
 use mathlib.Core.Bool.{Bool, true, false, not, ◌||◌}
@@ -14,7 +15,6 @@ use Rattle.record.specs.Shape.{is_idle}
 use Rattle.step.specs.declared.Answer.{Answer}
 use Rattle.step.specs.World.{World, Outcome, world_of}
 use Rattle.step.specs.Step.{step}
-use Rattle.words.specs.declared.Decoded.TheVariants.{Is}
 use Rattle.words.specs.Record.{decoded_of}
 use Rattle.words.proofs.Laws.{decoded_fits}
 use Rattle.step.specs.Answers.{answer_words, number_of}
@@ -55,7 +55,7 @@ now_held h o b a n k l =
     record { decodes = k.decodes; marked = k.leaves.marked; mapped = ap rows_of k.leaves.mapped ∙ read_back b.slices.table o.world.rows l }
 
 -- the tables that were held are held still, where the world stays
-pub still_held : (h : Held) (w v : World) (a : Handed) → Means h w → v ≡ w → decoded_of a.words ≡ Is w.device → Means (holding false h a) v
+pub still_held : (h : Held) (w v : World) (a : Handed) → Means h w → v ≡ w → decoded_of a.words ≡ Some w.device → Means (holding false h a) v
 unfolding holding
 still_held h w v a m e d = rw e (record { decodes = d; marked = m.marked; mapped = m.mapped })
 
@@ -99,7 +99,7 @@ module _ (h : Held) (w : World) (m : Means h w) where
   on_any u one y =
       let k = kept u one in (
         told_alike w u _ k y.same_answer y.same_bytes,
-        still_held h w _ u.after m y.stays (k.decodes ∙ ap (λ (x : World). Is x.device) y.stays'),
+        still_held h w _ u.after m y.stays (k.decodes ∙ ap (λ (x : World). Some x.device) y.stays'),
       )
 
   -- the tables that are held, while they are in use; any otherwise
@@ -124,7 +124,7 @@ module _ (h : Held) (w : World) (m : Means h w) where
       (tells, rw t (rw r.0 at (now_held h _ b a n k (rw r.0 r.1)))))
       (λ t.
       let r = y.refuses (rw tells.numbered at t) in
-      (tells, rw t (still_held h w _ a m r.0 (k.decodes ∙ ap (λ (x : World). Is x.device) r.1))))
+      (tells, rw t (still_held h w _ a m r.0 (k.decodes ∙ ap (λ (x : World). Some x.device) r.1))))
   goes (jambcopper_set_requested_size mib) b a n one =
       by_use _ one refl refl refl (λ p i. size_early w.device w.blocks (blocks b.slices.bitmap) w.rows (rows_of b.slices.table) p i mib)
   goes (jambcopper_request base descriptors head) b a n one =

@@ -1,7 +1,7 @@
 -- SPDX-License-Identifier: Apache-2.0 AND BSD-3-Clause
 -- A run of the exported functions, as a program that links the library makes it: the arguments of each call, what it was lent, what it left there, and the number that it returned.
 use Prim.{Unit}
-use Rattle.std.specs.Prelude.{ℕ, ◌≤◌, ◌≡◌, Bool, true, false, not, ◌||◌, List, [], ◌∷◌, eqb}
+use Rattle.std.specs.Prelude.{ℕ, ◌≤◌, ◌≡◌, Bool, true, false, not, ◌||◌, List, [], ◌∷◌, eqb, Some}
 use Rattle.bitmap.specs.Blocks.{blocks}
 use Rattle.rows.specs.Rows.{rows_of}
 use Rattle.little_endian.specs.Bytes.{put}
@@ -13,7 +13,6 @@ use Rattle.step.specs.Promise.{Lent, place_on, resize_on, request_on, answer_on,
 use Rattle.making.specs.declared.Made.{Made}
 use Rattle.making.specs.declared.Made.TheVariants.{Device as MadeDevice}
 use Rattle.making.specs.Made.{made}
-use Rattle.words.specs.declared.Decoded.TheVariants.{Is}
 use Rattle.words.specs.Record.{record_of, decoded_of}
 use Rattle.step.specs.Answers.{answer_words, number_of}
 use Rattle.jambcopper.specs.Exports.{node_of, MadeIn, Handed, Exported}
@@ -137,7 +136,7 @@ first words = record { words = words; bitmap = []; table = [] }
 -- ---- what is said of a run
 -- what is held means this world: the words its record, the bitmap its blocks, the table its rows
 pub record Means (h : Held) (w : World) : Type 0 where
-  pub decodes : decoded_of h.words ≡ Is w.device
+  pub decodes : decoded_of h.words ≡ Some w.device
   pub marked : blocks h.bitmap ≡ w.blocks
   pub mapped : rows_of h.table ≡ w.rows
 

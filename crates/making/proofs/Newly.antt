@@ -1,5 +1,6 @@
 -- SPDX-License-Identifier: Apache-2.0 AND BSD-3-Clause
 -- What holds of a device that was just made: here every history begins.
+use Rattle.std.specs.Prelude.{Option}
 use Prim.Native.Nat.{ℕ, ◌+◌, ◌-◌, ◌*◌, ◌%◌, ◌^◌, ◌≤◌, ◌<◌}
 use mathlib.Core.Path.{◌≡◌, refl}
 use mathlib.Core.Bool.{Bool, true, false, not, ◌&&◌}
@@ -13,7 +14,6 @@ use Rattle.record.specs.declared.Device.{Device}
 use Rattle.record.specs.declared.Pending.TheVariants.{Nothing}
 use Rattle.record.specs.Shape.{alignment_ok, region_ok, size_ok, span_of, start_ok, several_ok, pending_ok, shaped_of}
 use Rattle.record.proofs.Laws.{by_alignment, spans, size_ok_lem, whole}
-use Rattle.units.specs.declared.Node.{Node}
 use Rattle.making.specs.declared.Made.TheVariants.{Device as MadeDevice, Refused}
 use Rattle.making.specs.Made.{new_device, made}
 use Rattle.making.proofs.Asked.{Asked, asked_is}
@@ -85,7 +85,7 @@ pub record New (d : Device) : Type 0 where
   pub unusable : d.config.usable_region_size ≡ 0
   pub unplugged : d.config.plugged_size ≡ 0
 
-new_is : (capacity : ℕ) → 0 < capacity → capacity ≤ 1048576 → (requested a : ℕ) → alignment_ok a ≡ true → Asked 4194304 requested (capacity_of capacity a) → (several : Bool) (node : Node) → New (new_device (capacity_of capacity a) requested a several node)
+new_is : (capacity : ℕ) → 0 < capacity → capacity ≤ 1048576 → (requested a : ℕ) → alignment_ok a ≡ true → Asked 4194304 requested (capacity_of capacity a) → (several : Bool) (node : Option ℕ) → New (new_device (capacity_of capacity a) requested a several node)
 unfolding pending_ok
 new_is capacity l h requested a e q several node =
     let region = capacity_of capacity a in
@@ -108,7 +108,7 @@ new_is capacity l h requested a e q several node =
       unplugged = refl;
     }
 
-pub made_new : (capacity requested : ℕ) (several : Bool) (node : Node) (boot : ℕ) (d : Device) → made capacity requested several node boot ≡ MadeDevice d → New d
+pub made_new : (capacity requested : ℕ) (several : Bool) (node : Option ℕ) (boot : ℕ) (d : Device) → made capacity requested several node boot ≡ MadeDevice d → New d
 unfolding made
 made_new capacity requested several node boot d e =
     let a = alignment_of boot in

@@ -1,27 +1,25 @@
 -- SPDX-License-Identifier: Apache-2.0 AND BSD-3-Clause
 -- What making a device ends in (R4): a record, or the number 2 or 1.
-use Rattle.std.specs.Prelude.{ℕ, ◌*◌, Bool, true, false, cond, not, ◌&&◌, ◌||◌, ◌≡◌, ltb, eqb}
+use Rattle.std.specs.Prelude.{ℕ, ◌*◌, Bool, true, false, cond, not, ◌&&◌, ◌||◌, ◌≡◌, ltb, eqb, Option, Some}
 use Rattle.units.specs.Numbers.{map_region, alignment_of, capacity_of, MiB}
 use Rattle.wire.specs.Layout.{new_config}
 use Rattle.record.specs.declared.Device.{Device}
 use Rattle.record.specs.declared.Pending.TheVariants.{Nothing}
 use Rattle.record.specs.Shape.{size_ok, features_of}
-use Rattle.units.specs.declared.Node.{Node}
-use Rattle.units.specs.declared.Node.TheVariants.{None, Number}
 use Rattle.making.specs.declared.Made.{Made}
 use Rattle.making.specs.declared.Made.TheVariants.{Device as MadeDevice, Refused}
 
-abbrev pub is_given : Node → Bool
+abbrev pub is_given : Option ℕ → Bool
 is_given None = false
-is_given (Number n) = true
+is_given (Some n) = true
 
 -- R4.6
-abbrev pub node_number : Node → ℕ
+abbrev pub node_number : Option ℕ → ℕ
 node_number None = 0
-node_number (Number n) = n
+node_number (Some n) = n
 
 -- R4.4, R4.7: nothing is usable, plugged, placed or pending yet
-abbrev pub new_device : (region requested alignment : ℕ) (several : Bool) → Node → Device
+abbrev pub new_device : (region requested alignment : ℕ) (several : Bool) → Option ℕ → Device
 new_device region requested alignment several node =
     record {
       config = new_config (4 * MiB) (node_number node) region requested;
@@ -33,7 +31,7 @@ new_device region requested alignment several node =
     }
 
 -- R4.1; R2.1: R1.2, then R1.1
-unfoldable pub made : (capacity requested : ℕ) (several : Bool) → Node → (boot : ℕ) → Made
+unfoldable pub made : (capacity requested : ℕ) (several : Bool) → Option ℕ → (boot : ℕ) → Made
 made capacity requested several node boot =
     let alignment = alignment_of boot in
     let region = capacity_of capacity alignment in

@@ -8,7 +8,7 @@ ghost use Rattle.record.specs.Shape.{size_ok};
 ghost use Rattle.making.specs.Made.{node_number, is_given, new_device, made, MadeAs};
 
 use record::{Device, Pending, features};
-use units::{MemTool, Node, alignment_of, is_multiple, next_multiple_of, product_within};
+use units::{MemTool, alignment_of, is_multiple, next_multiple_of, product_within};
 use wire::VirtioMemConfig;
 
 // The largest capacity: 1 TiB.
@@ -22,21 +22,21 @@ pub enum Made {
 }
 
 // The node's number, 0 if none is given.
-fn node_number(node: Node) -> u16
+fn node_number(node: Option<u16>) -> u16
     ensures { result ≡ node_number node }
 {
     match node {
-        Node::None => 0,
-        Node::Number(n) => n,
+        None => 0,
+        Some(n) => n,
     }
 }
 
-fn is_given(node: Node) -> bool
+fn is_given(node: Option<u16>) -> bool
     ensures { result ≡ is_given node }
 {
     match node {
-        Node::None => false,
-        Node::Number(_) => true,
+        None => false,
+        Some(_) => true,
     }
 }
 
@@ -59,7 +59,7 @@ pub fn requested_refused(mib: u64, region: u64, block_size: u64) -> bool
 }
 
 // The record of a new device.
-fn new_device(region: u64, requested: u64, alignment: u64, several: bool, node: Node) -> Device
+fn new_device(region: u64, requested: u64, alignment: u64, several: bool, node: Option<u16>) -> Device
     ensures { result ≡ new_device region requested alignment several node }
 {
     let config = VirtioMemConfig::new(MemTool::BLOCK_SIZE, node_number(node), region, requested);
@@ -80,7 +80,7 @@ pub struct Mem {}
 
 impl Mem {
     // Makes a device from sizes in MiB, whose bytes may pass 2^64 - 1.
-    pub fn new(capacity_mib: u64, requested_mib: u64, several: bool, node: Node, boot: u64) -> Made
+    pub fn new(capacity_mib: u64, requested_mib: u64, several: bool, node: Option<u16>, boot: u64) -> Made
         ensures { MadeAs (made capacity_mib requested_mib several node boot) result }
     {
         let too_large = MAX_CAPACITY_MIB < capacity_mib;

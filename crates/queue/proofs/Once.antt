@@ -1,5 +1,7 @@
 -- SPDX-License-Identifier: Apache-2.0 AND BSD-3-Clause
 -- A promise of `GivesTurn` leaves one outcome, bytes included.
+use Rattle.step.specs.declared.Answer.{Answer}
+use Rattle.std.specs.Prelude.{Option}
 use Prim.Native.Nat.{ℕ, ◌<◌}
 use mathlib.Core.Path.{◌≡◌, sym, ap, ◌∙◌}
 use lib.ListN.{get_or}
@@ -7,7 +9,6 @@ use Rattle.record.specs.declared.Device.{Device}
 use Rattle.rings.specs.declared.Queue.{Queue}
 use Rattle.step.specs.Promise.{Lent}
 use Rattle.step.proofs.Once.{leaves_once}
-use Rattle.queue.specs.declared.QueueAnswer.{QueueAnswer}
 use Rattle.queue.specs.declared.Turn.{Turn}
 use Rattle.queue.specs.Queue.{QueueOutcome, turned, left_by_queue, GivesTurn}
 
@@ -15,7 +16,7 @@ same_turn : (s s' : Turn) → s.device ≡ s'.device → s.queue ≡ s'.queue �
 same_turn s s' p q r =
     ap (λ (d : Device). turned d s.queue s.answer) p
     ∙ ap (λ (x : Queue). turned s'.device x s.answer) q
-    ∙ ap (λ (a : QueueAnswer). turned s'.device s'.queue a) r
+    ∙ ap (λ (a : Option Answer). turned s'.device s'.queue a) r
 
 -- a bitmap's bytes are below 256, as its type says
 pub turn_once : (o : QueueOutcome) (before after after' : Lent) (s s' : Turn)

@@ -1,5 +1,6 @@
 -- SPDX-License-Identifier: Apache-2.0 AND BSD-3-Clause
 -- What the ways through a call of the queue come to: each lemma takes what the code knows on a way and shows the ending of `Queue.antt` there.
+use Rattle.std.specs.Prelude.{Option, Some, None}
 use Prim.Native.Nat.{ℕ, ◌*◌}
 use mathlib.Core.Path.{◌≡◌, refl, sym, ap, ◌∙◌}
 use mathlib.Core.Bool.{Bool, true, false, cond}
@@ -16,8 +17,6 @@ use Rattle.record.specs.declared.Pending.{Pending}
 use Rattle.record.specs.declared.Pending.TheVariants.{Nothing as Idle, Create, Discard, DiscardOne}
 use Rattle.record.specs.Shape.{shaped_of, is_idle}
 use Rattle.rings.specs.declared.Queue.{Queue}
-use Rattle.rings.specs.declared.Taken.{Taken}
-use Rattle.rings.specs.declared.Taken.TheVariants.{Nothing, Head}
 use Rattle.rings.specs.declared.Next.{Next}
 use Rattle.rings.specs.declared.Next.TheVariants.{Head as HasHead, Empty as HasNone, Refused as HasRefused}
 use Rattle.rings.specs.Rings.{next_head}
@@ -26,8 +25,6 @@ use Rattle.step.specs.declared.Answer.TheVariants.{Refused}
 use Rattle.step.specs.World.{World, Guest, Request, HostAnswer, Outcome, world_of}
 use Rattle.step.specs.Promise.{Lent, lent, Gives}
 use Rattle.step.specs.Step.{step, unless, ready_refusal, pending_refusal, tables_fit}
-use Rattle.queue.specs.declared.QueueAnswer.{QueueAnswer}
-use Rattle.queue.specs.declared.QueueAnswer.TheVariants.{Of}
 use Rattle.queue.specs.declared.Ending.{Ending}
 use Rattle.queue.specs.declared.Taking.{Taking}
 use Rattle.queue.specs.declared.Taking.TheVariants.{Walk, NoHead}
@@ -40,21 +37,21 @@ clash p q = let z : ◌≡◌ {A = ℕ} 0 1 = cc in absurd (omega arith)
 -- ---- how an outcome is met
 -- a call of the device, and what its answer means for the head that it is about
 module _ {o : Outcome} {s : Answered} {t : Turn} {before after : Lent} (m : Gives o before after s) where
-  pub about_met : {bytes : List ℕ} (head base : ℕ) (was out q : Queue) (e : Ending) → e ≡ ending_of s.answer → Settles e head base was out after.bytes q bytes → t ≡ turned s.device q (Of s.answer) → GivesTurn (about head base was out o) before (lent after.bitmap after.table bytes) t
+  pub about_met : {bytes : List ℕ} (head base : ℕ) (was out q : Queue) (e : Ending) → e ≡ ending_of s.answer → Settles e head base was out after.bytes q bytes → t ≡ turned s.device q (Some s.answer) → GivesTurn (about head base was out o) before (lent after.bitmap after.table bytes) t
   about_met head base was out q e ending k is =
       let same = ending ∙ ap ending_of m.answered in
       record {
-        answered = rw is (ap Of m.answered);
+        answered = rw is (ap Some m.answered);
         told = rw is m.told;
         recorded = rw is m.recorded;
         queued = rw is (rw same at k.queued);
         leaves = record { marked = m.leaves.marked; mapped = m.leaves.mapped; left = rw (same, m.leaves.left) at k.left };
       }
 
-  pub aside_met : (q : Queue) → t ≡ turned s.device q (Of s.answer) → GivesTurn (aside q o) before after t
+  pub aside_met : (q : Queue) → t ≡ turned s.device q (Some s.answer) → GivesTurn (aside q o) before after t
   aside_met q is =
       record {
-        answered = rw is (ap Of m.answered);
+        answered = rw is (ap Some m.answered);
         told = rw is m.told;
         recorded = rw is m.recorded;
         queued = rw is;
@@ -79,12 +76,12 @@ module _ (w : World) (q : Queue) (g : Guest) where
       (λ t. rw t)
 
   -- a host's answer, where a head that is out can be reported
-  heard : (taken : Taken) (ok : Bool) (host : ℕ) → can_report taken (length g.mem) g.base q ≡ true
+  heard : (taken : Option ℕ) (ok : Bool) (host : ℕ) → can_report taken (length g.mem) g.base q ≡ true
       → unless_refused (out_refusal taken w.device q (length w.blocks) (length w.rows) g) w q g.mem (answers taken q g.base (step w (HostAnswer g ok host)))
       ≡ answers taken q g.base (step w (HostAnswer g ok host))
   unfolding can_report out_refusal unless_refused answers step unless queue_by bytes_by
-  heard Nothing ok host e = refl
-  heard (Head head) ok host e =
+  heard None ok host e = refl
+  heard (Some head) ok host e =
       by_test (eqb (pending_refusal w.device (length w.blocks) (length w.rows)) 0) (λ t. rw (e, t)) (λ t. rw (t, t))
 
   -- and where it cannot: a discard is pending, and 14 comes last
@@ -94,17 +91,17 @@ module _ (w : World) (q : Queue) (g : Guest) where
   busy (Discard first count status) e = refl
   busy (DiscardOne block status) e = refl
 
-  outside : (taken : Taken) (n m : ℕ) → queue_ok taken w.device.pending ≡ true → can_report taken (length g.mem) g.base q ≡ false
+  outside : (taken : Option ℕ) (n m : ℕ) → queue_ok taken w.device.pending ≡ true → can_report taken (length g.mem) g.base q ≡ false
       → out_refusal taken w.device q n m g ≡ outside_refusal w.device n m
   unfolding can_report out_refusal pending_refusal outside_refusal tables_fit
-  outside Nothing n m k e = clash refl e
-  outside (Head head) n m k e =
+  outside None n m k e = clash refl e
+  outside (Some head) n m k e =
       let d = w.device in
       by_test (shaped_of d)
       (λ s. by_test (tables_fit d n m) (λ t. rw (e, s, busy d.pending k, t)) (λ t. rw (e, s, busy d.pending k, t)))
       (λ s. rw (e, s))
 
-  alike : (taken : Taken) (ok : Bool) (host : ℕ) → queue_ok taken w.device.pending ≡ true → let n = outside_refusal w.device (length w.blocks) (length w.rows) in let o = answers taken q g.base (step w (HostAnswer g ok host)) in
+  alike : (taken : Option ℕ) (ok : Bool) (host : ℕ) → queue_ok taken w.device.pending ≡ true → let n = outside_refusal w.device (length w.blocks) (length w.rows) in let o = answers taken q g.base (step w (HostAnswer g ok host)) in
       unless_refused (out_refusal taken w.device q (length w.blocks) (length w.rows) g) w q g.mem o ≡ unless_refused (cond (can_report taken (length g.mem) g.base q) 0 n) w q g.mem o
   unfolding unless_refused
   alike taken ok host k =
@@ -120,7 +117,7 @@ module _ (w : World) (q : Queue) (g : Guest) where
 
 module _ (d : Device) (bitmap table : List ℕ) (q : Queue) (g : Guest) where
   -- a call that changes nothing
-  unchanged : {t : Turn} (told : QueueAnswer) → t ≡ turned d q told → GivesTurn (unmoved told (world_of d bitmap table) q g.mem) (lent bitmap table g.mem) (lent bitmap table g.mem) t
+  unchanged : {t : Turn} (told : Option Answer) → t ≡ turned d q told → GivesTurn (unmoved told (world_of d bitmap table) q g.mem) (lent bitmap table g.mem) (lent bitmap table g.mem) t
   unchanged told is =
       record {
         answered = rw is;
@@ -135,7 +132,7 @@ module _ (d : Device) (bitmap table : List ℕ) (q : Queue) (g : Guest) where
     taken_as : serve_next (world_of d bitmap table) q g ≡ walks x (world_of d bitmap table) q g
     taken_as = by_taking (world_of d bitmap table) q g ∙ rw (blocks-length bitmap, count table, ← x-is)
 
-    pub told_as : (told : QueueAnswer) → x ≡ NoHead told → serve_next (world_of d bitmap table) q g ≡ unmoved told (world_of d bitmap table) q g.mem
+    pub told_as : (told : Option Answer) → x ≡ NoHead told → serve_next (world_of d bitmap table) q g ≡ unmoved told (world_of d bitmap table) q g.mem
     unfolding walks
     told_as told e = taken_as ∙ rw e
 
@@ -144,7 +141,7 @@ module _ (d : Device) (bitmap table : List ℕ) (q : Queue) (g : Guest) where
     unfolding walks
     walk_as head e out out-is = taken_as ∙ rw (e, out-is)
 
-    pub next_none : {t : Turn} (told : QueueAnswer) → x ≡ NoHead told → t ≡ turned d q told → GivesTurn (serve_next (world_of d bitmap table) q g) (lent bitmap table g.mem) (lent bitmap table g.mem) t
+    pub next_none : {t : Turn} (told : Option Answer) → x ≡ NoHead told → t ≡ turned d q told → GivesTurn (serve_next (world_of d bitmap table) q g) (lent bitmap table g.mem) (lent bitmap table g.mem) t
     next_none told e is = rw (told_as told e) (unchanged told is)
 
   -- ---- the host's answer
@@ -152,15 +149,15 @@ module _ (d : Device) (bitmap table : List ℕ) (q : Queue) (g : Guest) where
     answered_as_lem : host_answers (world_of d bitmap table) q g ok host ≡ unless_refused n (world_of d bitmap table) q g.mem (answers q.taken q g.base (step (world_of d bitmap table) (HostAnswer g ok host)))
     answered_as_lem = by_refusal (world_of d bitmap table) q g ok host ∙ rw (blocks-length bitmap, count table, ← n-is)
 
-    pub refused_as : eqb n 0 ≡ false → host_answers (world_of d bitmap table) q g ok host ≡ unmoved (Of (Refused n)) (world_of d bitmap table) q g.mem
+    pub refused_as : eqb n 0 ≡ false → host_answers (world_of d bitmap table) q g ok host ≡ unmoved (Some (Refused n)) (world_of d bitmap table) q g.mem
     unfolding unless_refused
     refused_as some = answered_as_lem ∙ rw some
 
-    pub heard_as : eqb n 0 ≡ true → (taken : Taken) → q.taken ≡ taken → host_answers (world_of d bitmap table) q g ok host ≡ answers taken q g.base (step (world_of d bitmap table) (HostAnswer g ok host))
+    pub heard_as : eqb n 0 ≡ true → (taken : Option ℕ) → q.taken ≡ taken → host_answers (world_of d bitmap table) q g ok host ≡ answers taken q g.base (step (world_of d bitmap table) (HostAnswer g ok host))
     unfolding unless_refused
     heard_as none taken e =
         let o = step (world_of d bitmap table) (HostAnswer g ok host) in
-        answered_as_lem ∙ rw (none, ap (λ (x : Taken). answers x q g.base o) e)
+        answered_as_lem ∙ rw (none, ap (λ (x : Option ℕ). answers x q g.base o) e)
 
-    pub answer_refused : {t : Turn} → eqb n 0 ≡ false → t ≡ turned d q (Of (Refused n)) → GivesTurn (host_answers (world_of d bitmap table) q g ok host) (lent bitmap table g.mem) (lent bitmap table g.mem) t
-    answer_refused some is = rw (refused_as some) (unchanged (Of (Refused n)) is)
+    pub answer_refused : {t : Turn} → eqb n 0 ≡ false → t ≡ turned d q (Some (Refused n)) → GivesTurn (host_answers (world_of d bitmap table) q g ok host) (lent bitmap table g.mem) (lent bitmap table g.mem) t
+    answer_refused some is = rw (refused_as some) (unchanged (Some (Refused n)) is)

@@ -1,14 +1,12 @@
 -- SPDX-License-Identifier: Apache-2.0 AND BSD-3-Clause
 -- The device on its queue (R13): which head a call takes, what becomes of it by the device's answer, and the host's answer while a head is out.
-use Rattle.std.specs.Prelude.{ℕ, ◌≡◌, Bool, true, false, cond, not, List, [], ◌∷◌, eqb, length, get_or}
+use Rattle.std.specs.Prelude.{ℕ, ◌≡◌, Bool, true, false, cond, not, List, [], ◌∷◌, eqb, length, get_or, Option, Some, None}
 use Rattle.units.specs.declared.GuestAddr.{GuestAddr}
 use Rattle.record.specs.declared.Device.{Device}
 use Rattle.record.specs.Shape.{shaped_of}
 use Rattle.record.specs.declared.Pending.{Pending}
 use Rattle.record.specs.declared.Pending.TheVariants.{Nothing as Idle, Create, Discard, DiscardOne}
 use Rattle.rings.specs.declared.Queue.{Queue}
-use Rattle.rings.specs.declared.Taken.{Taken}
-use Rattle.rings.specs.declared.Taken.TheVariants.{Nothing, Head}
 use Rattle.rings.specs.declared.Next.{Next}
 use Rattle.rings.specs.declared.Next.TheVariants.{Head as HasHead, Empty as HasNone, Refused as HasRefused}
 use Rattle.rings.specs.Rings.{index_after, rings_inside, next_head, reported}
@@ -18,8 +16,6 @@ use Rattle.step.specs.World.{World, Guest, Request, HostAnswer, Outcome}
 use Rattle.step.specs.Answers.{answer_words}
 use Rattle.step.specs.Step.{step, ready_refusal, pending_refusal, tables_fit}
 use Rattle.step.specs.Promise.{Lent, Meant, on, guest_in, Leaves}
-use Rattle.queue.specs.declared.QueueAnswer.{QueueAnswer}
-use Rattle.queue.specs.declared.QueueAnswer.TheVariants.{Empty, Of}
 use Rattle.queue.specs.declared.Ending.{Ending}
 use Rattle.queue.specs.declared.Ending.TheVariants.{Stays, Out, Used}
 use Rattle.queue.specs.declared.Taking.{Taking}
@@ -30,22 +26,22 @@ use Rattle.queue.specs.declared.Turn.{Turn}
 pub record QueueOutcome : Type 0 where
   pub world : World
   pub queue : Queue
-  pub answer : QueueAnswer
+  pub answer : Option Answer
   pub bytes : List ℕ
 
 -- ---- the queue's record
 -- the queue with these indices and this head out
-abbrev pub queue_with : Queue → (available used : ℕ) → Taken → Queue
+abbrev pub queue_with : Queue → (available used : ℕ) → Option ℕ → Queue
 queue_with q available used taken =
     record { descriptors = q.descriptors; available = q.available; used = q.used; next_available = available; next_used = used; taken = taken }
 
 -- the head is out until its request has ended (R13.8)
 abbrev pub took_head : Queue → (head : ℕ) → Queue
-took_head q head = queue_with q (index_after q.next_available) q.next_used (Head head)
+took_head q head = queue_with q (index_after q.next_available) q.next_used (Some head)
 
 -- the head that was out is reported used
 abbrev pub gave_back : Queue → Queue
-gave_back q = queue_with q q.next_available (index_after q.next_used) Nothing
+gave_back q = queue_with q q.next_available (index_after q.next_used) None
 
 -- a discard is pending
 abbrev pub discarding : Pending → Bool
@@ -55,9 +51,9 @@ discarding (Discard first count status) = true
 discarding (DiscardOne block status) = true
 
 -- R13.11, the queue's own part of 12: a head is out only while a discard is pending
-abbrev pub queue_ok : Taken → Pending → Bool
-queue_ok Nothing p = true
-queue_ok (Head head) p = discarding p
+abbrev pub queue_ok : Option ℕ → Pending → Bool
+queue_ok None p = true
+queue_ok (Some head) p = discarding p
 
 -- ---- what becomes of a head by the device's answer
 -- R13.8, R13.9: it is reported when its request has ended, and a refused call takes none
@@ -83,12 +79,12 @@ bytes_by (Used len) out head base mem = reported mem base out.used.0 out.next_us
 
 -- ---- the endings
 -- a refused call, and one that finds no head there, change nothing
-abbrev pub unmoved : QueueAnswer → World → Queue → List ℕ → QueueOutcome
+abbrev pub unmoved : Option Answer → World → Queue → List ℕ → QueueOutcome
 unmoved t w q bytes = record { world = w; queue = q; answer = t; bytes = bytes }
 
 -- a call of the device that is about no head
 abbrev pub aside : Queue → Outcome → QueueOutcome
-aside q o = record { world = o.world; queue = q; answer = Of o.answer; bytes = o.bytes }
+aside q o = record { world = o.world; queue = q; answer = Some o.answer; bytes = o.bytes }
 
 -- a call of the device that is about a head
 abbrev pub about : (head base : ℕ) (before out : Queue) → Outcome → QueueOutcome
@@ -96,13 +92,13 @@ about head base before out o =
     record {
       world = o.world;
       queue = queue_by (ending_of o.answer) before out;
-      answer = Of o.answer;
+      answer = Some o.answer;
       bytes = bytes_by (ending_of o.answer) out head base o.bytes;
     }
 
 -- ---- taking the next head
 -- R13.4: 12, the queue's part of it first, 7, 5 and 11
-unfoldable pub taking_refusal : Device → Taken → (blocks rows : ℕ) → ℕ
+unfoldable pub taking_refusal : Device → Option ℕ → (blocks rows : ℕ) → ℕ
 taking_refusal d taken blocks rows = cond (not (queue_ok taken d.pending)) 12 (ready_refusal d blocks rows)
 
 -- then 14, 15, none or a head
@@ -114,16 +110,16 @@ next_of w q g =
     next_unless (taking_refusal w.device q.taken (length w.blocks) (length w.rows)) (next_head g.mem g.base q)
 
 -- what is told where no head is taken
-unfoldable pub none_told : Next → QueueAnswer
-none_told (HasHead head) = Empty
-none_told HasNone = Empty
-none_told (HasRefused n) = Of (Refused n)
+unfoldable pub none_told : Next → Option Answer
+none_told (HasHead head) = None
+none_told HasNone = None
+none_told (HasRefused n) = Some (Refused n)
 
 -- R13.4, R13.7
 unfoldable pub takes : Next → World → Queue → Guest → QueueOutcome
 takes (HasHead head) w q g = about head g.base q (took_head q head) (step w (Request g q.descriptors.0 head))
-takes HasNone w q g = unmoved Empty w q g.mem
-takes (HasRefused n) w q g = unmoved (Of (Refused n)) w q g.mem
+takes HasNone w q g = unmoved None w q g.mem
+takes (HasRefused n) w q g = unmoved (Some (Refused n)) w q g.mem
 
 abbrev pub serve_next : World → Queue → Guest → QueueOutcome
 serve_next w q g = takes (next_of w q g) w q g
@@ -136,7 +132,7 @@ standing (HasRefused m) n = NoHead (none_told (next_unless n (HasRefused m)))
 
 unfoldable pub taking_of : Device → Queue → (blocks rows : ℕ) → (mem : List ℕ) (base : ℕ) → Taking
 taking_of d q blocks rows mem base =
-    cond (not (queue_ok q.taken d.pending)) (NoHead (Of (Refused 12)))
+    cond (not (queue_ok q.taken d.pending)) (NoHead (Some (Refused 12)))
     (standing (next_head mem base q) (ready_refusal d blocks rows))
 
 unfoldable pub walks : Taking → World → Queue → Guest → QueueOutcome
@@ -149,14 +145,14 @@ abbrev pub first_given : (n m : ℕ) → ℕ
 first_given n m = cond (eqb n 0) m n
 
 -- a head that is out can be reported where both rings lie inside (R13.5); with none out no ring is tested
-unfoldable pub can_report : Taken → (len base : ℕ) → Queue → Bool
-can_report Nothing len base q = true
-can_report (Head head) len base q = rings_inside len base q
+unfoldable pub can_report : Option ℕ → (len base : ℕ) → Queue → Bool
+can_report None len base q = true
+can_report (Some head) len base q = rings_inside len base q
 
 -- R13.10: while a head is out 12, 8, 11 and then 14; where none is out they are the device's own
-unfoldable pub out_refusal : Taken → Device → Queue → (blocks rows : ℕ) → Guest → ℕ
-out_refusal Nothing d q blocks rows g = 0
-out_refusal (Head head) d q blocks rows g =
+unfoldable pub out_refusal : Option ℕ → Device → Queue → (blocks rows : ℕ) → Guest → ℕ
+out_refusal None d q blocks rows g = 0
+out_refusal (Some head) d q blocks rows g =
     first_given (pending_refusal d blocks rows) (cond (not (rings_inside (length g.mem) g.base q)) 14 0)
 
 -- before them the queue's part of 12
@@ -164,13 +160,13 @@ unfoldable pub answer_refusal : Device → Queue → (blocks rows : ℕ) → Gue
 answer_refusal d q blocks rows g = cond (not (queue_ok q.taken d.pending)) 12 (out_refusal q.taken d q blocks rows g)
 
 -- the device's answer is about the head that is out, if one is
-unfoldable pub answers : Taken → Queue → (base : ℕ) → Outcome → QueueOutcome
-answers Nothing q base o = aside q o
-answers (Head head) q base o = about head base q q o
+unfoldable pub answers : Option ℕ → Queue → (base : ℕ) → Outcome → QueueOutcome
+answers None q base o = aside q o
+answers (Some head) q base o = about head base q q o
 
 -- the outcome, unless the call is refused
 unfoldable pub unless_refused : (n : ℕ) → World → Queue → List ℕ → QueueOutcome → QueueOutcome
-unless_refused n w q bytes o = cond (eqb n 0) o (unmoved (Of (Refused n)) w q bytes)
+unless_refused n w q bytes o = cond (eqb n 0) o (unmoved (Some (Refused n)) w q bytes)
 
 abbrev pub host_answers : World → Queue → Guest → (ok : Bool) (host : ℕ) → QueueOutcome
 host_answers w q g ok host =
@@ -192,16 +188,16 @@ pub record Settles (e : Ending) (head base : ℕ) (before out : Queue) (mem : Li
   pub queued : q ≡ queue_by e before out
   pub left : mem' ≡ bytes_by e out head base mem
 
-abbrev pub turned : Device → Queue → QueueAnswer → Turn
+abbrev pub turned : Device → Queue → Option Answer → Turn
 turned d q t = record { device = d; queue = q; answer = t }
 
 -- the words of what is told: kind 7 where no head is there, and else the answer's (see crates/step/specs/Answers.antt)
-abbrev pub queue_answer_words : QueueAnswer → List ℕ
-queue_answer_words Empty = 7 ∷ 0 ∷ 0 ∷ 0 ∷ 0 ∷ 0 ∷ 0 ∷ 0 ∷ 0 ∷ []
-queue_answer_words (Of a) = answer_words a
+abbrev pub queue_answer_words : Option Answer → List ℕ
+queue_answer_words None = 7 ∷ 0 ∷ 0 ∷ 0 ∷ 0 ∷ 0 ∷ 0 ∷ 0 ∷ 0 ∷ []
+queue_answer_words (Some a) = answer_words a
 
 -- the number of what is told: 0 unless the call is refused
-abbrev pub queue_number_of : QueueAnswer → ℕ
+abbrev pub queue_number_of : Option Answer → ℕ
 queue_number_of t = get_or (queue_answer_words t) 1 0
 
 -- what an outcome leaves

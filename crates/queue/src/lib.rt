@@ -9,24 +9,17 @@ ghost use Rattle.queue.specs.Queue.{next_unless, none_told, taking_of, can_repor
 ghost use Rattle.queue.specs.Queue.{serve_next, host_answers, TakesTurn};
 
 use record::{Device, Pending, shaped};
-use rings::{Next, Queue, Taken, index_after, next_head, report, rings_inside};
+use rings::{Next, Queue, index_after, next_head, report, rings_inside};
 use serving::request;
 use step::{Answer, ready_refusal, tables_fit};
 use units::{GuestAddr, HostAddr};
-
-// What a call on the queue tells: that no head is there, or the device's answer.
-#[derive(Clone, Copy)]
-pub enum QueueAnswer {
-    Empty,
-    Of(Answer),
-}
 
 // A call's answer, with the record and the queue as they are then.
 #[derive(Clone, Copy)]
 pub struct Turn {
     pub device: Device,
     pub queue: Queue,
-    pub answer: QueueAnswer,
+    pub answer: Option<Answer>,
 }
 
 // What becomes of a head: it stays where it was, it is out, or it is reported used with a length.
@@ -41,7 +34,7 @@ pub enum Ending {
 #[derive(Clone, Copy)]
 pub enum Taking {
     Walk(u16),
-    NoHead(QueueAnswer),
+    NoHead(Option<Answer>),
 }
 
 // Whether a discard is pending.
@@ -64,13 +57,13 @@ fn discards(pending: Pending) -> bool
 }
 
 // The queue's part of 12: a head is out only while a discard is pending.
-fn queue_ok(taken: Taken, pending: Pending) -> bool
+fn queue_ok(taken: Option<u16>, pending: Pending) -> bool
     ensures { result ≡ queue_ok taken pending }
 {
     let discarding = discards(pending);
     match taken {
-        Taken::Nothing => true,
-        Taken::Head(_) => discarding,
+        None => true,
+        Some(_) => discarding,
     }
 }
 
@@ -79,7 +72,7 @@ pub fn took_head(q: Queue, head: u16) -> Queue
     ensures { result ≡ took_head q head }
 {
     let next = index_after(q.next_available);
-    let taken = Taken::Head(head);
+    let taken = Some(head);
     Queue {
         next_available: next,
         taken: taken,
@@ -92,7 +85,7 @@ fn gave_back(q: Queue) -> Queue
     ensures { result ≡ gave_back q }
 {
     let next = index_after(q.next_used);
-    let none = Taken::Nothing;
+    let none = None;
     Queue {
         next_used: next,
         taken: none,
@@ -135,7 +128,7 @@ pub fn settle(
     }
 }
 
-fn tells(d: Device, q: Queue, answer: QueueAnswer) -> Turn
+fn tells(d: Device, q: Queue, answer: Option<Answer>) -> Turn
     ensures { result ≡ turned d q answer }
 {
     Turn {
@@ -146,16 +139,16 @@ fn tells(d: Device, q: Queue, answer: QueueAnswer) -> Turn
 }
 
 // What is told where no head is taken: the device's refusal first.
-fn none_told(number: u64, next: Next) -> QueueAnswer
+fn none_told(number: u64, next: Next) -> Option<Answer>
     ensures { result ≡ none_told (next_unless number next) }
 {
     if number != 0 {
-        return QueueAnswer::Of(Answer::Refused(number));
+        return Some(Answer::Refused(number));
     }
     match next {
-        Next::Head(_) => QueueAnswer::Empty,
-        Next::Empty => QueueAnswer::Empty,
-        Next::Refused(n) => QueueAnswer::Of(Answer::Refused(n)),
+        Next::Head(_) => None,
+        Next::Empty => None,
+        Next::Refused(n) => Some(Answer::Refused(n)),
     }
 }
 
@@ -173,7 +166,7 @@ pub fn next_taking(
     let taken = q.taken;
     let pending = d.pending;
     if !queue_ok(taken, pending) {
-        return Taking::NoHead(QueueAnswer::Of(Answer::Refused(12)));
+        return Taking::NoHead(Some(Answer::Refused(12)));
     }
     let next = next_head(mem, base, q);
     let Next::Head(head) = next else {
@@ -202,18 +195,18 @@ pub fn serve_next(
             let s = request(d, bitmap, table, mem, base, q.descriptors, head);
             let answer = s.answer;
             let queue = settle(ending_of(answer), head, q, took_head(q, head), mem, base);
-            tells(s.device, queue, QueueAnswer::Of(answer))
+            tells(s.device, queue, Some(answer))
         }
     }
 }
 
 // Whether the head that is out, if one is, can be reported.
-fn can_report(taken: Taken, mem: &[u8], base: GuestAddr, q: Queue) -> bool
+fn can_report(taken: Option<u16>, mem: &[u8], base: GuestAddr, q: Queue) -> bool
     ensures { result ≡ can_report taken (length mem.now) base.0 q }
 {
     match taken {
-        Taken::Nothing => true,
-        Taken::Head(_) => rings_inside(mem, base, q),
+        None => true,
+        Some(_) => rings_inside(mem, base, q),
     }
 }
 
@@ -270,14 +263,14 @@ pub fn host_answer(
 {
     let number = queue_refusal(d, q, bitmap.len(), table.len(), &mem[..], base);
     if number != 0 {
-        return tells(d, q, QueueAnswer::Of(Answer::Refused(number)));
+        return tells(d, q, Some(Answer::Refused(number)));
     }
     let s = serving::host_answer(d, bitmap, table, mem, base, ok, host);
     let answer = s.answer;
     let taken = q.taken;
-    let Taken::Head(head) = taken else {
-        return tells(s.device, q, QueueAnswer::Of(answer));
+    let Some(head) = taken else {
+        return tells(s.device, q, Some(answer));
     };
     let queue = settle(ending_of(answer), head, q, q, mem, base);
-    tells(s.device, queue, QueueAnswer::Of(answer))
+    tells(s.device, queue, Some(answer))
 }

@@ -1,5 +1,6 @@
 -- SPDX-License-Identifier: Apache-2.0 AND BSD-3-Clause
 -- A run of the exported functions on a device and its queue is a run on the queue: from making on, whatever is lent besides what is held.
+use Rattle.std.specs.Prelude.{Some}
 use Prim.Native.Nat.{ℕ}
 use mathlib.Core.Path.{◌≡◌, refl, ap, ◌∙◌}
 use mathlib.Core.Bool.{true}
@@ -15,7 +16,6 @@ use Rattle.rings.specs.declared.Queue.{Queue}
 use Rattle.step.specs.World.{World, Call}
 use Rattle.step.specs.Step.{step}
 use Rattle.step.specs.Answers.{answer_words, number_of}
-use Rattle.queue_words.specs.declared.DecodedQueue.TheVariants.{Is as IsQueue}
 use Rattle.queue_words.specs.Words.{queue_words, is_queue, decoded_queue_of}
 use Rattle.queue_words.proofs.Laws.{encoded_decodes}
 use Rattle.step.specs.Promise.{Lent}
@@ -82,7 +82,7 @@ module _ (m : Making) (words : List ℕ) (makes : Makes m words) (k : QueueMakin
       by_test (leb 6 (length k.words)) (λ t. t)
       (λ t. let z : 0 ≡ 12 = rw t at queue-makes.numbered in absurd (omega arith))
 
-  queue_decodes : decoded_queue_of queue ≡ IsQueue (made_queue k)
+  queue_decodes : decoded_queue_of queue ≡ Some (made_queue k)
   unfolding is_queue queue_words
   queue_decodes =
       let is : queue ≡ put k.words 0 (queue_words (made_queue k)) = rw room at queue-makes.queued in

@@ -1,5 +1,7 @@
 -- SPDX-License-Identifier: Apache-2.0 AND BSD-3-Clause
 -- A refused export on a queue changes nothing: the definition's refused call does not, and an export leaves what the definition's call leaves.
+use Rattle.record.specs.declared.Device.{Device}
+use Rattle.std.specs.Prelude.{Option, Some, None}
 use Prim.Native.Nat.{ℕ}
 use mathlib.Core.Path.{◌≡◌, refl, ap, ◌∙◌}
 use mathlib.Core.Bool.{true}
@@ -10,16 +12,10 @@ use Rattle.rings.specs.declared.Queue.{Queue}
 use Rattle.step.specs.declared.Answer.TheVariants.{Refused}
 use Rattle.step.specs.World.{World, world_of}
 use Rattle.step.specs.Promise.{Lent}
-use Rattle.words.specs.declared.Decoded.{Decoded}
-use Rattle.words.specs.declared.Decoded.TheVariants.{Is, NoRecord}
 use Rattle.words.specs.Record.{words_of, decoded_of}
 use Rattle.words.proofs.Laws.{decoded_encodes}
 use Rattle.little_endian.specs.Bytes.{put}
-use Rattle.queue.specs.declared.QueueAnswer.{QueueAnswer}
-use Rattle.queue.specs.declared.QueueAnswer.TheVariants.{Empty, Of}
 use Rattle.queue.specs.Queue.{queue_number_of}
-use Rattle.queue_words.specs.declared.DecodedQueue.{DecodedQueue}
-use Rattle.queue_words.specs.declared.DecodedQueue.TheVariants.{Is as IsQueue, NoQueue}
 use Rattle.queue_words.specs.Words.{queue_words, decoded_queue_of}
 use Rattle.queue_words.proofs.Laws.{decoded_encodes as queue-encodes}
 use Rattle.jambcopper.specs.Queue.{QueueHanded, QueueForeign, QueueCalled}
@@ -31,9 +27,9 @@ use Rattle.queue_runs.specs.Standard.{on_guest}
 use Rattle.queue_runs.proofs.Refused.{refused_takes_none, refused_moves_nothing}
 use Rattle.queue_linked.specs.Refused.{QueueUntouched, RefusedQueueExportChangesNothing}
 
-refused_of : (t : QueueAnswer) → (queue_number_of t ≡ 0 → ⊥) → t ≡ Of (Refused (queue_number_of t))
-refused_of Empty h = absurd (h refl)
-refused_of (Of a) h = ap Of (refused_with a h)
+refused_of : (t : Option Answer) → (queue_number_of t ≡ 0 → ⊥) → t ≡ Some (Refused (queue_number_of t))
+refused_of None h = absurd (h refl)
+refused_of (Some a) h = ap Some (refused_with a h)
 
 guest_bytes : (c : QueueCall) → on_guest c ≡ true → bytes_to c ≡ (lent_to c).mem
 unfolding on_guest bytes_to lent_to
@@ -55,9 +51,9 @@ pub refused_queue_export_changes_nothing : RefusedQueueExportChangesNothing
 unfolding QueueCalled
 refused_queue_export_changes_nothing c b a n guest lends low low' p refused not-10 = go (decoded_of b.others.words) (decoded_queue_of b.queue) refl refl p
   where
-    go : (r : Decoded) (s : DecodedQueue) → decoded_of b.others.words ≡ r → decoded_queue_of b.queue ≡ s
+    go : (r : Option Device) (s : Option Queue) → decoded_of b.others.words ≡ r → decoded_queue_of b.queue ≡ s
         → QueueCalled r s (λ l w q. queue_step w q (c l)) b a n → QueueUntouched b a
-    go (Is d) (IsQueue q) is queue-is t =
+    go (Some d) (Some q) is queue-is t =
         let w = world_of d b.others.slices.bitmap b.others.slices.table in
         let call = c b.others.slices in
         let o = queue_step w q call in
@@ -71,5 +67,5 @@ refused_queue_export_changes_nothing c b a n guest lends low low' p refused not-
           same_table = t.leaves.mapped ∙ ap (λ (v : World). written b.others.slices.table v.rows) same ∙ whole b.others.slices.table;
           same_bytes = t.leaves.left ∙ none.1 ∙ guest_bytes call guest ∙ lends;
         }
-    go (Is d) NoQueue is queue-is t = foreign b a n t
-    go NoRecord s is queue-is t = foreign b a n t
+    go (Some d) None is queue-is t = foreign b a n t
+    go None s is queue-is t = foreign b a n t

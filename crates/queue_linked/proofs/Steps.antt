@@ -1,5 +1,7 @@
 -- SPDX-License-Identifier: Apache-2.0 AND BSD-3-Clause
 -- One exported call against one step on the queue: what is held goes on meaning where the run stands, and what the call tells is what the step tells.
+use Rattle.step.specs.declared.Answer.{Answer}
+use Rattle.std.specs.Prelude.{Option, Some, None}
 use Prim.Native.Nat.{ℕ}
 use mathlib.Core.Path.{◌≡◌, refl, ap, sym, ◌∙◌}
 use mathlib.Core.Bool.{Bool, true, false, cond, not}
@@ -17,16 +19,10 @@ use Rattle.record.specs.declared.Pending.{Pending}
 use Rattle.record.specs.declared.Pending.TheVariants.{Nothing as Idle, Create, Discard, DiscardOne}
 use Rattle.record.specs.Shape.{shaped_of, is_idle}
 use Rattle.rings.specs.declared.Queue.{Queue}
-use Rattle.rings.specs.declared.Taken.{Taken}
-use Rattle.rings.specs.declared.Taken.TheVariants.{Nothing, Head}
 use Rattle.rings.specs.declared.Next.TheVariants.{Refused as HasRefused}
 use Rattle.step.specs.World.{World, Guest, Call, world_of}
-use Rattle.words.specs.declared.Decoded.TheVariants.{Is}
 use Rattle.words.specs.Record.{decoded_of}
-use Rattle.queue.specs.declared.QueueAnswer.{QueueAnswer}
-use Rattle.queue.specs.declared.QueueAnswer.TheVariants.{Of}
 use Rattle.queue.specs.Queue.{QueueOutcome, queue_ok, taking_refusal, next_unless, next_of, takes, out_refusal, answer_refusal, answers, unless_refused, queue_answer_words, queue_number_of}
-use Rattle.queue_words.specs.declared.DecodedQueue.TheVariants.{Is as IsQueue}
 use Rattle.queue_words.specs.Words.{decoded_queue_of}
 use Rattle.step.specs.Promise.{Lent, guest_in}
 use Rattle.jambcopper.specs.Queue.{QueueHanded, QueueTold, QueueCalled}
@@ -85,18 +81,18 @@ module _ (d : Device) (bs bs' : List Bool) (rows rows' : List MapRow) (q : Queue
       (record { same_answer = refl; same_queue = refl; same_bytes = refl; stays = refl; stays' = refl })
 
   -- 12, or the device's own
-  not_out : (h : ℕ) (p : Pending) → is_idle p ≡ true → queue_ok (Head h) p ≡ false
+  not_out : (h : ℕ) (p : Pending) → is_idle p ≡ true → queue_ok (Some h) p ≡ false
   not_out h Idle e = refl
   not_out h (Create first last) e = refl
   not_out h (Discard first count status) e = clash e refl
   not_out h (DiscardOne block status) e = clash e refl
 
-  answering_early : (g : Guest) (ok : Bool) (host : ℕ) (t : Taken) → q.taken ≡ t → Stay here there (queue_step here q (Host g ok host)) (queue_step there q (Host g ok host))
+  answering_early : (g : Guest) (ok : Bool) (host : ℕ) (t : Option ℕ) → q.taken ≡ t → Stay here there (queue_step here q (Host g ok host)) (queue_step there q (Host g ok host))
   unfolding queue_step unless_refused answer_refusal out_refusal answers
-  answering_early g ok host Nothing e =
+  answering_early g ok host None e =
       let y = answer_early d bs bs' rows rows' unplaced idle g ok host in
-      rw e (record { same_answer = ap Of y.same_answer; same_queue = refl; same_bytes = y.same_bytes; stays = y.stays; stays' = y.stays' })
-  answering_early g ok host (Head h) e =
+      rw e (record { same_answer = ap Some y.same_answer; same_queue = refl; same_bytes = y.same_bytes; stays = y.stays; stays' = y.stays' })
+  answering_early g ok host (Some h) e =
       rw (e, not_out h d.pending idle) (record { same_answer = refl; same_queue = refl; same_bytes = refl; stays = refl; stays' = refl })
 
 -- ---- each function on the queue
@@ -148,16 +144,16 @@ module _ (h : QueueHeld) (w : World) (q : Queue) (m : QueueMeans h w q) (b a : Q
   on_any c k unused y =
       record {
         numbered = k.numbered ∙ ap queue_number_of y.same_answer;
-        told = k.told ∙ ap (λ (t : QueueAnswer). put b.others.answer 0 (queue_answer_words t)) y.same_answer;
+        told = k.told ∙ ap (λ (t : Option Answer). put b.others.answer 0 (queue_answer_words t)) y.same_answer;
         left = k.leaves.left ∙ y.same_bytes;
         means = record {
           device = rw (unused, y.stays)
               (record {
-                decodes = k.decodes ∙ ap (λ (v : World). Is v.device) y.stays';
+                decodes = k.decodes ∙ ap (λ (v : World). Some v.device) y.stays';
                 marked = m.device.marked;
                 mapped = m.device.mapped;
               });
-          queue = k.queue_decodes ∙ ap IsQueue y.same_queue;
+          queue = k.queue_decodes ∙ ap Some y.same_queue;
         };
       }
 

@@ -1,7 +1,7 @@
 -- SPDX-License-Identifier: Apache-2.0 AND BSD-3-Clause
 -- A run of the exported functions on a device and its queue, as a program that links the library makes it.
 use Prim.{Unit}
-use Rattle.std.specs.Prelude.{ℕ, ◌≡◌, Bool, true, List, [], ◌∷◌}
+use Rattle.std.specs.Prelude.{ℕ, ◌≡◌, Bool, true, List, [], ◌∷◌, Some}
 use Rattle.bitmap.specs.Blocks.{blocks}
 use Rattle.rows.specs.Rows.{rows_of}
 use Rattle.little_endian.specs.Bytes.{put}
@@ -10,7 +10,6 @@ use Rattle.rings.specs.declared.Queue.{Queue}
 use Rattle.step.specs.World.{World}
 use Rattle.making.specs.declared.Made.TheVariants.{Device as MadeDevice}
 use Rattle.queue.specs.Queue.{queue_answer_words, queue_number_of}
-use Rattle.queue_words.specs.declared.DecodedQueue.TheVariants.{Is as IsQueue}
 use Rattle.queue_words.specs.Words.{decoded_queue_of}
 use Rattle.step.specs.Promise.{Lent, guest_in}
 use Rattle.jambcopper.specs.Queue.{new_queue, QueueMadeIn, QueueHanded, QueueExported}
@@ -130,7 +129,7 @@ begins words queue = record { device = first words; queue = queue }
 -- what is held means where the run on the queue stands
 pub record QueueMeans (h : QueueHeld) (w : World) (q : Queue) : Type 0 where
   pub device : Means h.device w
-  pub queue : decoded_queue_of h.queue ≡ IsQueue q
+  pub queue : decoded_queue_of h.queue ≡ Some q
 
 -- a call tells what the definition's step on the queue tells, by its number and the answer's words, and leaves its bytes; the config's calls tell a number alone
 pub record Tells (w : World) (q : Queue) (u : QueueUse) : Type 0 where

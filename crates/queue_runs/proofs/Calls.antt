@@ -1,5 +1,6 @@
 -- SPDX-License-Identifier: Apache-2.0 AND BSD-3-Clause
 -- A run on the queue is a run of the device: each call makes none or one of the device, and has its world and its answer.
+use Rattle.std.specs.Prelude.{Option, Some, None}
 use Prim.Native.Nat.{ℕ}
 use mathlib.Core.Path.{◌≡◌, refl, ◌∙◌, sym}
 use mathlib.Core.List.{List, [], ◌∷◌, ◌++◌}
@@ -7,8 +8,6 @@ use lib.Dec.{eqb}
 use lib.ListN.{length}
 use Rattle.units.proofs.Tests.{by_test}
 use Rattle.rings.specs.declared.Queue.{Queue}
-use Rattle.rings.specs.declared.Taken.{Taken}
-use Rattle.rings.specs.declared.Taken.TheVariants.{Nothing, Head}
 use Rattle.rings.specs.declared.Next.{Next}
 use Rattle.rings.specs.declared.Next.TheVariants.{Head as HasHead, Empty as HasNone, Refused as HasRefused}
 use Rattle.step.specs.World.{World, Guest, Call, HostAnswer}
@@ -28,10 +27,10 @@ module _ (w : World) where
   taken HasNone q g = refl
   taken (HasRefused n) q g = refl
 
-  heard : (c : Call) (t : Taken) (q : Queue) (base : ℕ) → AsCalls w (c ∷ []) (answers t q base (step w c))
+  heard : (c : Call) (t : Option ℕ) (q : Queue) (base : ℕ) → AsCalls w (c ∷ []) (answers t q base (step w c))
   unfolding answers AsCalls
-  heard c Nothing q base = record { same_world = refl; same_answer = refl }
-  heard c (Head h) q base = record { same_world = refl; same_answer = refl }
+  heard c None q base = record { same_world = refl; same_answer = refl }
+  heard c (Some h) q base = record { same_world = refl; same_answer = refl }
 
 pub none_or_one : FromEveryQueue NoneOrOne
 unfolding queue_step device_calls unless_refused AsCalls

@@ -1,5 +1,6 @@
 -- SPDX-License-Identifier: Apache-2.0 AND BSD-3-Clause
 -- The ways of a queue's call, case by case, for every law over its runs.
+use Rattle.std.specs.Prelude.{Option, Some, None}
 use Prim.Native.Nat.{ℕ}
 use mathlib.Core.Path.{◌≡◌, refl}
 use mathlib.Core.Bool.{true}
@@ -13,8 +14,6 @@ use Rattle.record.specs.declared.Pending.{Pending}
 use Rattle.record.specs.declared.Pending.TheVariants.{Nothing as Idle, Create, Discard, DiscardOne}
 use Rattle.record.specs.Shape.{is_idle}
 use Rattle.rings.specs.declared.Queue.{Queue}
-use Rattle.rings.specs.declared.Taken.{Taken}
-use Rattle.rings.specs.declared.Taken.TheVariants.{Nothing, Head}
 use Rattle.rings.specs.declared.Next.{Next}
 use Rattle.rings.specs.declared.Next.TheVariants.{Refused as HasRefused}
 use Rattle.rings.specs.Rings.{next_head}
@@ -26,22 +25,22 @@ use Rattle.history.proofs.Shaped.{clash}
 use Rattle.history.proofs.Cases.{by_cond}
 
 -- a device that is ready waits for nothing, so no head is out
-idle_none : (t : Taken) (p : Pending) → queue_ok t p ≡ true → is_idle p ≡ true → t ≡ Nothing
-idle_none Nothing p k e = refl
-idle_none (Head h) Idle k e = clash k refl
-idle_none (Head h) (Create first last) k e = clash k refl
-idle_none (Head h) (Discard first count status) k e = clash e refl
-idle_none (Head h) (DiscardOne block status) k e = clash e refl
+idle_none : (t : Option ℕ) (p : Pending) → queue_ok t p ≡ true → is_idle p ≡ true → t ≡ None
+idle_none None p k e = refl
+idle_none (Some h) Idle k e = clash k refl
+idle_none (Some h) (Create first last) k e = clash k refl
+idle_none (Some h) (Discard first count status) k e = clash e refl
+idle_none (Some h) (DiscardOne block status) k e = clash e refl
 
 -- ---- what stands before the ring
-pub record Ready (d : Device) (t : Taken) : Type 0 where
-  pub none_out : t ≡ Nothing
+pub record Ready (d : Device) (t : Option ℕ) : Type 0 where
+  pub none_out : t ≡ None
   pub pending_is_idle : is_idle d.pending ≡ true
 
 ready_idle : (d : Device) (n m : ℕ) → ready_refusal d n m ≡ 0 → is_idle d.pending ≡ true
 ready_idle d n m e = (ready_is d n m e).idle
 
-ready : (d : Device) (t : Taken) (n m : ℕ) → taking_refusal d t n m ≡ 0 → Ready d t
+ready : (d : Device) (t : Option ℕ) (n m : ℕ) → taking_refusal d t n m ≡ 0 → Ready d t
 unfolding taking_refusal
 ready d t n m e =
     by_test (queue_ok t d.pending)

@@ -1,5 +1,6 @@
 -- SPDX-License-Identifier: Apache-2.0 AND BSD-3-Clause
 -- In a run 12 never appears, and 7 does while a host call is pending.
+use Rattle.std.specs.Prelude.{Option, Some, None}
 use Prim.Native.Nat.{ℕ, ◌-◌}
 use mathlib.Core.Path.{◌≡◌, refl, ap, sym}
 use mathlib.Core.Bool.{Bool, true, false}
@@ -12,8 +13,6 @@ use Rattle.record.specs.declared.Device.{Device}
 use Rattle.record.specs.declared.Pending.{Pending}
 use Rattle.record.specs.Shape.{shaped_of, is_idle}
 use Rattle.rings.specs.declared.Queue.{Queue}
-use Rattle.rings.specs.declared.Taken.{Taken}
-use Rattle.rings.specs.declared.Taken.TheVariants.{Nothing, Head}
 use Rattle.rings.specs.declared.Next.{Next}
 use Rattle.rings.specs.declared.Next.TheVariants.{Head as HasHead, Empty as HasNone, Refused as HasRefused}
 use Rattle.rings.specs.Standard.{available_index}
@@ -21,7 +20,6 @@ use Rattle.rings.specs.Rings.{ahead_of, rings_inside, next_head}
 use Rattle.step.specs.declared.Answer.TheVariants.{Refused}
 use Rattle.step.specs.World.{World, Guest, Call, Request, HostAnswer}
 use Rattle.step.specs.Step.{step, ready_refusal, pending_refusal, tables_fit}
-use Rattle.queue.specs.declared.QueueAnswer.TheVariants.{Of}
 use Rattle.queue.specs.Queue.{QueueOutcome, discarding, queue_ok, taking_refusal, next_unless, next_of, takes, out_refusal, answer_refusal, answers, unless_refused}
 use Rattle.history.specs.Rules.{Never12 as DeviceNever12}
 use Rattle.history.proofs.Good.{reached_good}
@@ -37,10 +35,10 @@ shaped_in_run : (s : QueueStory) → QueueReached s → shaped_of s.world.device
 shaped_in_run s r = let h = runs_the_device s r in rw h.same_world at (reached_good s.story h.reached).shaped
 
 -- and a head is out only while a discard is pending
-ok_when : (t : Taken) (p : Pending) → is_out t ≡ discarding p → queue_ok t p ≡ true
+ok_when : (t : Option ℕ) (p : Pending) → is_out t ≡ discarding p → queue_ok t p ≡ true
 unfolding is_out
-ok_when Nothing p e = refl
-ok_when (Head h) p e = sym e
+ok_when None p e = refl
+ok_when (Some h) p e = sym e
 
 ready_not_12 : (d : Device) (n m : ℕ) → shaped_of d ≡ true → ready_refusal d n m ≡ 12 → ⊥
 unfolding ready_refusal tables_fit
@@ -72,7 +70,7 @@ ring_not_12 mem base q e =
     (λ t. let f : HasRefused 14 ≡ HasRefused 12 = rw t at e in let z : ◌≡◌ {A = ℕ} 14 12 = cc in absurd (omega arith))
 
 module _ (w : World) (q : Queue) (shaped : shaped_of w.device ≡ true) (fine : queue_ok q.taken w.device.pending ≡ true) (device : (call : Call) → (step w call).answer ≡ Refused 12 → ⊥) where
-  taken_not_12 : (g : Guest) (x : Next) → (x ≡ HasRefused 12 → ⊥) → (takes x w q g).answer ≡ Of (Refused 12) → ⊥
+  taken_not_12 : (g : Guest) (x : Next) → (x ≡ HasRefused 12 → ⊥) → (takes x w q g).answer ≡ Some (Refused 12) → ⊥
   unfolding takes
   taken_not_12 g (HasHead h) n e = device (Request g q.descriptors.0 h) cc
   taken_not_12 g HasNone n e = let z : ◌≡◌ {A = ℕ} 0 1 = cc in absurd (omega arith)
@@ -86,31 +84,31 @@ module _ (w : World) (q : Queue) (shaped : shaped_of w.device ≡ true) (fine : 
       (λ t. ring_not_12 g.mem g.base q (rw (fine, t) at e))
       (λ t. let f : HasRefused n ≡ HasRefused 12 = rw (fine, t) at e in ready_not_12 w.device (length w.blocks) (length w.rows) shaped cc)
 
-  heard_not_12 : (g : Guest) (ok : Bool) (host : ℕ) (t : Taken) → (answers t q g.base (step w (HostAnswer g ok host))).answer ≡ Of (Refused 12) → ⊥
+  heard_not_12 : (g : Guest) (ok : Bool) (host : ℕ) (t : Option ℕ) → (answers t q g.base (step w (HostAnswer g ok host))).answer ≡ Some (Refused 12) → ⊥
   unfolding answers
-  heard_not_12 g ok host Nothing e = device (HostAnswer g ok host) cc
-  heard_not_12 g ok host (Head h) e = device (HostAnswer g ok host) cc
+  heard_not_12 g ok host None e = device (HostAnswer g ok host) cc
+  heard_not_12 g ok host (Some h) e = device (HostAnswer g ok host) cc
 
-  out_not_12 : (t : Taken) (g : Guest) → out_refusal t w.device q (length w.blocks) (length w.rows) g ≡ 12 → ⊥
+  out_not_12 : (t : Option ℕ) (g : Guest) → out_refusal t w.device q (length w.blocks) (length w.rows) g ≡ 12 → ⊥
   unfolding out_refusal
-  out_not_12 Nothing g e = absurd (omega arith)
-  out_not_12 (Head h) g e =
+  out_not_12 None g e = absurd (omega arith)
+  out_not_12 (Some h) g e =
       let n = pending_refusal w.device (length w.blocks) (length w.rows) in
       by_test (eqb n 0)
       (λ t. by_test (rings_inside (length g.mem) g.base q) (λ s. let z = rw (t, s) at e in absurd (omega arith)) (λ s. let z = rw (t, s) at e in absurd (omega arith)))
       (λ t. pending_not_12 w.device (length w.blocks) (length w.rows) shaped (rw t at e))
 
-  not_12 : (c : QueueCall) → (queue_step w q c).answer ≡ Of (Refused 12) → ⊥
+  not_12 : (c : QueueCall) → (queue_step w q c).answer ≡ Some (Refused 12) → ⊥
   unfolding queue_step unless_refused answer_refusal
   not_12 (TakeNext g) = taken_not_12 g (next_of w q g) (next_not_12 g)
   not_12 (Host g ok host) =
-      by_cond (λ (o : QueueOutcome). o.answer ≡ Of (Refused 12) → ⊥) (eqb (answer_refusal w.device q (length w.blocks) (length w.rows) g) 0) _ _
+      by_cond (λ (o : QueueOutcome). o.answer ≡ Some (Refused 12) → ⊥) (eqb (answer_refusal w.device q (length w.blocks) (length w.rows) g) 0) _ _
       (λ _. heard_not_12 g ok host q.taken)
       (λ _ e. let same : answer_refusal w.device q (length w.blocks) (length w.rows) g ≡ 12 = cc in out_not_12 q.taken g (rw fine at same))
   not_12 (PastIt b) = λ e. device (beside_call b) cc
 
   -- 7, where the host is asked
-  seven : (g : Guest) → is_idle w.device.pending ≡ false → (queue_step w q (TakeNext g)).answer ≡ Of (Refused 7)
+  seven : (g : Guest) → is_idle w.device.pending ≡ false → (queue_step w q (TakeNext g)).answer ≡ Some (Refused 7)
   unfolding queue_step takes next_unless taking_refusal ready_refusal
   seven g busy = let is : next_of w q g ≡ HasRefused 7 = rw (fine, shaped, busy) in rw (ap (λ (x : Next). (takes x w q g).answer) is)
 

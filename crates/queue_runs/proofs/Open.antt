@@ -1,5 +1,6 @@
 -- SPDX-License-Identifier: Apache-2.0 AND BSD-3-Clause
 -- A head is out exactly while its request has not ended: each call keeps it so.
+use Rattle.std.specs.Prelude.{Option, Some, None}
 use Prim.Native.Nat.{ℕ}
 use mathlib.Core.Path.{◌≡◌, refl, sym, ◌∙◌}
 use mathlib.Core.Bool.{Bool, true, false, cond}
@@ -10,8 +11,6 @@ use Rattle.record.specs.declared.Pending.{Pending}
 use Rattle.record.specs.declared.Pending.TheVariants.{Nothing as Idle, Create, Discard, DiscardOne}
 use Rattle.record.specs.Shape.{is_idle}
 use Rattle.rings.specs.declared.Queue.{Queue}
-use Rattle.rings.specs.declared.Taken.{Taken}
-use Rattle.rings.specs.declared.Taken.TheVariants.{Nothing, Head}
 use Rattle.rings.specs.declared.Next.{Next}
 use Rattle.rings.specs.declared.Next.TheVariants.{Head as HasHead, Empty as HasNone, Refused as HasRefused}
 use Rattle.rings.specs.Rings.{next_head}
@@ -111,7 +110,7 @@ module _ (w : World) where
     taken_out head Out = refl
     taken_out head (Used len) = refl
 
-    still_out : (head : ℕ) → q.taken ≡ Head head → (e : Ending) → is_out (queue_by e q q).taken ≡ out_by e true
+    still_out : (head : ℕ) → q.taken ≡ Some head → (e : Ending) → is_out (queue_by e q q).taken ≡ out_by e true
     unfolding queue_by out_by is_out
     still_out head out Stays = rw out
     still_out head out Out = rw out
@@ -126,12 +125,12 @@ module _ (w : World) where
           let c = Request g q.descriptors.0 head in
           rw (taken_out head (ending_of (step w c).answer), h) (sym (device_opens c))
 
-      heard_kept : (g : Guest) (ok : Bool) (host : ℕ) (t : Taken) → q.taken ≡ t → let o = answers t q g.base (step w (HostAnswer g ok host)) in OutThen o.world o.queue
+      heard_kept : (g : Guest) (ok : Bool) (host : ℕ) (t : Option ℕ) → q.taken ≡ t → let o = answers t q g.base (step w (HostAnswer g ok host)) in OutThen o.world o.queue
       unfolding answers opens_by is_out
-      heard_kept g ok host Nothing e =
+      heard_kept g ok host None e =
           let z : discarding w.device.pending ≡ false = rw e at (sym h) in
           rw e (sym (rw z at (device_opens (HostAnswer g ok host))))
-      heard_kept g ok host (Head head) e =
+      heard_kept g ok host (Some head) e =
           let c = HostAnswer g ok host in
           let z : discarding w.device.pending ≡ true = rw e at (sym h) in
           rw (still_out head e (ending_of (step w c).answer)) (sym (rw z at (device_opens c)))

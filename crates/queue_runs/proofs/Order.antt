@@ -1,5 +1,6 @@
 -- SPDX-License-Identifier: Apache-2.0 AND BSD-3-Clause
 -- Every taken head is reported once, in the order taken: each call keeps `InOrder`.
+use Rattle.std.specs.Prelude.{Option, Some, None}
 use Prim.Native.Nat.{ℕ, ◌+◌, ◌%◌}
 use mathlib.Core.Path.{◌≡◌, refl, ap, ◌∙◌, sym}
 use mathlib.Core.List.{List, [], ◌∷◌, ◌++◌, append_assoc, append-nil}
@@ -7,8 +8,6 @@ use native.Mathlib.Omega.{arith}
 use lib.Dec.{eqb}
 use lib.ListN.{length, length-append}
 use Rattle.rings.specs.declared.Queue.{Queue}
-use Rattle.rings.specs.declared.Taken.{Taken}
-use Rattle.rings.specs.declared.Taken.TheVariants.{Nothing, Head}
 use Rattle.rings.specs.declared.Next.{Next}
 use Rattle.rings.specs.declared.Next.TheVariants.{Head as HasHead, Empty as HasNone, Refused as HasRefused}
 use Rattle.rings.specs.Rings.{index_after, next_head}
@@ -23,7 +22,7 @@ use Rattle.queue_runs.specs.Heads.{InOrder}
 use Rattle.queue_runs.proofs.Cases.{next_cases}
 
 -- a call took and reported these: which head is out before and after it, and the two indices
-pub record Moves (t : Taken) (a u : ℕ) (took gave : List ℕ) (t' : Taken) (a' u' : ℕ) : Type 0 where
+pub record Moves (t : Option ℕ) (a u : ℕ) (took gave : List ℕ) (t' : Option ℕ) (a' u' : ℕ) : Type 0 where
   pub order : out_of t ++ took ≡ gave ++ out_of t'
   pub available : (n : ℕ) → a ≡ n % 65536 → a' ≡ (n + length took) % 65536
   pub used : (n : ℕ) → u ≡ n % 65536 → u' ≡ (n + length gave) % 65536
@@ -39,20 +38,20 @@ one_more : (a n : ℕ) → a ≡ n % 65536 → index_after a ≡ (n + 1) % 65536
 one_more a n e = rw e (omega arith)
 
 -- nothing taken, nothing reported
-still : (t : Taken) (a u : ℕ) → Moves t a u [] [] t a u
+still : (t : Option ℕ) (a u : ℕ) → Moves t a u [] [] t a u
 still t a u = record { order = append-nil (out_of t); available = same_index a; used = same_index u }
 
 -- ---- what a head's ending moves
 module _ (q : Queue) (head : ℕ) where
   -- one that is taken, where none is out
-  taken_moves : q.taken ≡ Nothing → (e : Ending) → MovesTo q (taken_by e (head ∷ [])) (used_by e (head ∷ [])) (queue_by e q (took_head q head))
+  taken_moves : q.taken ≡ None → (e : Ending) → MovesTo q (taken_by e (head ∷ [])) (used_by e (head ∷ [])) (queue_by e q (took_head q head))
   unfolding taken_by used_by queue_by out_of
   taken_moves none Stays = still _ _ _
   taken_moves none Out = record { order = rw none; available = one_more q.next_available; used = same_index q.next_used }
   taken_moves none (Used len) = record { order = rw none; available = one_more q.next_available; used = one_more q.next_used }
 
   -- one that was out
-  out_moves : q.taken ≡ Head head → (e : Ending) → MovesTo q [] (used_by e (head ∷ [])) (queue_by e q q)
+  out_moves : q.taken ≡ Some head → (e : Ending) → MovesTo q [] (used_by e (head ∷ [])) (queue_by e q q)
   unfolding used_by queue_by out_of
   out_moves out Stays = still _ _ _
   out_moves out Out = still _ _ _
@@ -78,7 +77,7 @@ module _ (w : World) (q : Queue) where
   Takes g there x =
       let e = ending_told (takes x w q g).answer in MovesTo q (taken_by e (head_of there)) (used_by e (head_of there)) (takes x w q g).queue
 
-  head_moves : (g : Guest) → q.taken ≡ Nothing → (x : Next) → Takes g x x
+  head_moves : (g : Guest) → q.taken ≡ None → (x : Next) → Takes g x x
   unfolding takes ending_told taken_by used_by head_of
   head_moves g none HasNone = still _ _ _
   head_moves g none (HasRefused n) = still _ _ _
@@ -89,10 +88,10 @@ module _ (w : World) (q : Queue) where
   refused_moves g there n = still _ _ _
 
   -- a host's answer that the device hears
-  heard_moves : (t : Taken) → q.taken ≡ t → (base : ℕ) (o : Outcome) → MovesTo q [] (used_by (ending_told (answers t q base o).answer) (out_of t)) (answers t q base o).queue
+  heard_moves : (t : Option ℕ) → q.taken ≡ t → (base : ℕ) (o : Outcome) → MovesTo q [] (used_by (ending_told (answers t q base o).answer) (out_of t)) (answers t q base o).queue
   unfolding answers ending_told out_of
-  heard_moves Nothing e base o = rw (used_none (ending_of o.answer)) (still _ _ _)
-  heard_moves (Head h) e base o = out_moves q h e (ending_of o.answer)
+  heard_moves None e base o = rw (used_none (ending_of o.answer)) (still _ _ _)
+  heard_moves (Some h) e base o = out_moves q h e (ending_of o.answer)
 
   abbrev Moved : QueueCall → QueueOutcome → Type 0
   Moved c o = MovesTo q (newly_taken q c o.answer) (newly_reported q c o.answer) o.queue

@@ -1,5 +1,6 @@
 -- SPDX-License-Identifier: Apache-2.0 AND BSD-3-Clause
 -- A refused call takes no head and changes nothing, nor does one that finds the ring empty; 12 never appears, and 7 does while a host call is pending.
+use Rattle.std.specs.Prelude.{Option, Some, None}
 use Prim.Native.Nat.{ℕ}
 use mathlib.Core.Path.{◌≡◌, refl, ◌∙◌}
 use mathlib.Core.Bool.{Bool}
@@ -10,14 +11,11 @@ use lib.ListN.{length}
 use borrow.Author.Tests.{eqb-true, eqb-false}
 use Rattle.units.proofs.Tests.{by_test}
 use Rattle.rings.specs.declared.Queue.{Queue}
-use Rattle.rings.specs.declared.Taken.{Taken}
-use Rattle.rings.specs.declared.Taken.TheVariants.{Nothing, Head}
 use Rattle.rings.specs.declared.Next.{Next}
 use Rattle.rings.specs.declared.Next.TheVariants.{Head as HasHead, Empty as HasNone, Refused as HasRefused}
 use Rattle.step.specs.declared.Answer.TheVariants.{Refused}
 use Rattle.step.specs.World.{World, Guest, Call, Request, HostAnswer, Outcome}
 use Rattle.step.specs.Step.{step}
-use Rattle.queue.specs.declared.QueueAnswer.TheVariants.{Empty, Of}
 use Rattle.queue.specs.Queue.{QueueOutcome, took_head, queue_by, bytes_by, about, next_of, takes, answer_refusal, answers, unless_refused}
 use Rattle.history.specs.Refusals.{lent_bytes}
 use Rattle.history.proofs.Refusals.{refused_changes_nothing, ten_is_creation_failed}
@@ -39,7 +37,7 @@ record Unmoved (w : World) (q : Queue) (bytes : List ℕ) (n : ℕ) (o : QueueOu
   pub same_world : (n ≡ 10 → ⊥) → o.world ≡ w
 
 abbrev IfRefused : World → Queue → (bytes : List ℕ) → QueueOutcome → Type 0
-IfRefused w q bytes o = (n : ℕ) → o.answer ≡ Of (Refused n) → Unmoved w q bytes n o
+IfRefused w q bytes o = (n : ℕ) → o.answer ≡ Some (Refused n) → Unmoved w q bytes n o
 
 module _ (w : World) (q : Queue) where
   about_refused : (head base : ℕ) (out : Queue) (call : Call) → IfRefused w q (lent_bytes call) (about head base q out (step w call))
@@ -54,13 +52,13 @@ module _ (w : World) (q : Queue) where
   taken_refused g HasNone = λ n e. record { same_queue = refl; same_bytes = refl; same_world = λ _. refl }
   taken_refused g (HasRefused m) = λ n e. record { same_queue = refl; same_bytes = refl; same_world = λ _. refl }
 
-  heard_refused : (g : Guest) (ok : Bool) (host : ℕ) (t : Taken) → IfRefused w q g.mem (answers t q g.base (step w (HostAnswer g ok host)))
+  heard_refused : (g : Guest) (ok : Bool) (host : ℕ) (t : Option ℕ) → IfRefused w q g.mem (answers t q g.base (step w (HostAnswer g ok host)))
   unfolding answers lent_bytes
-  heard_refused g ok host Nothing = λ n e.
+  heard_refused g ok host None = λ n e.
       let call = HostAnswer g ok host in
       let f : (step w call).answer ≡ Refused n = cc in
       record { same_queue = refl; same_bytes = refused_bytes w call n f; same_world = λ k. (refused_changes_nothing w call n f k).0 }
-  heard_refused g ok host (Head h) = about_refused h g.base q (HostAnswer g ok host)
+  heard_refused g ok host (Some h) = about_refused h g.base q (HostAnswer g ok host)
 
   same_lent : (b : Beside) → lent_bytes (beside_call b) ≡ beside_bytes b
   unfolding lent_bytes beside_call beside_bytes
@@ -81,13 +79,13 @@ module _ (w : World) (q : Queue) where
       record { same_queue = refl; same_bytes = refused_bytes w (beside_call b) n f ∙ same_lent b; same_world = λ k. (refused_changes_nothing w (beside_call b) n f k).0 }
 
 -- ---- no head is taken, none is reported
-none_of_refused : (q : Queue) (c : QueueCall) (n : ℕ) → (newly_taken q c (Of (Refused n)) ≡ []) × (newly_reported q c (Of (Refused n)) ≡ [])
+none_of_refused : (q : Queue) (c : QueueCall) (n : ℕ) → (newly_taken q c (Some (Refused n)) ≡ []) × (newly_reported q c (Some (Refused n)) ≡ [])
 unfolding newly_taken newly_reported ending_told taken_by used_by
 none_of_refused q (TakeNext g) n = (refl, refl)
 none_of_refused q (Host g ok host) n = (refl, refl)
 none_of_refused q (PastIt b) n = (refl, refl)
 
-none_of_empty : (q : Queue) (c : QueueCall) → (newly_taken q c Empty ≡ []) × (newly_reported q c Empty ≡ [])
+none_of_empty : (q : Queue) (c : QueueCall) → (newly_taken q c None ≡ []) × (newly_reported q c None ≡ [])
 unfolding newly_taken newly_reported ending_told taken_by used_by
 none_of_empty q (TakeNext g) = (refl, refl)
 none_of_empty q (Host g ok host) = (refl, refl)
@@ -108,7 +106,7 @@ record Still (w : World) (q : Queue) (bytes : List ℕ) (o : QueueOutcome) : Typ
   pub same_world : o.world ≡ w
 
 abbrev IfEmpty : World → Queue → (bytes : List ℕ) → QueueOutcome → Type 0
-IfEmpty w q bytes o = o.answer ≡ Empty → Still w q bytes o
+IfEmpty w q bytes o = o.answer ≡ None → Still w q bytes o
 
 module _ (w : World) (q : Queue) where
   empty_taken : (g : Guest) (x : Next) → IfEmpty w q g.mem (takes x w q g)
@@ -117,10 +115,10 @@ module _ (w : World) (q : Queue) where
   empty_taken g HasNone = λ e. record { same_queue = refl; same_bytes = refl; same_world = refl }
   empty_taken g (HasRefused m) = λ e. record { same_queue = refl; same_bytes = refl; same_world = refl }
 
-  empty_heard : (g : Guest) (o : Outcome) (t : Taken) → IfEmpty w q g.mem (answers t q g.base o)
+  empty_heard : (g : Guest) (o : Outcome) (t : Option ℕ) → IfEmpty w q g.mem (answers t q g.base o)
   unfolding answers
-  empty_heard g o Nothing = λ e. let z : ◌≡◌ {A = ℕ} 0 1 = cc in absurd (omega arith)
-  empty_heard g o (Head h) = λ e. let z : ◌≡◌ {A = ℕ} 0 1 = cc in absurd (omega arith)
+  empty_heard g o None = λ e. let z : ◌≡◌ {A = ℕ} 0 1 = cc in absurd (omega arith)
+  empty_heard g o (Some h) = λ e. let z : ◌≡◌ {A = ℕ} 0 1 = cc in absurd (omega arith)
 
   still : (c : QueueCall) → IfEmpty w q (bytes_to c) (queue_step w q c)
   unfolding queue_step unless_refused bytes_to

@@ -1,5 +1,6 @@
 -- SPDX-License-Identifier: Apache-2.0 AND BSD-3-Clause
 -- A refused call takes no head and moves nothing, and the n-th report stands in the used ring at entry n modulo 128, whose index then is n + 1.
+use Rattle.std.specs.Prelude.{Option, Some, None}
 use Prim.Native.Nat.{ℕ, ◌-◌, ◌<◌}
 use mathlib.Core.Path.{◌≡◌, refl, ap, ◌∙◌}
 use mathlib.Core.Bool.{Bool, true}
@@ -11,8 +12,6 @@ use borrow.Author.Tests.{eqb-true}
 use Rattle.units.proofs.Tests.{by_test}
 use Rattle.little_endian.proofs.Laws.{value_below}
 use Rattle.rings.specs.declared.Queue.{Queue}
-use Rattle.rings.specs.declared.Taken.{Taken}
-use Rattle.rings.specs.declared.Taken.TheVariants.{Nothing, Head}
 use Rattle.rings.specs.declared.Next.{Next}
 use Rattle.rings.specs.declared.Next.TheVariants.{Head as HasHead, Empty as HasNone, Refused as HasRefused}
 use Rattle.rings.specs.Rings.{rings_inside, next_head}
@@ -59,31 +58,31 @@ module _ (w : World) (q : Queue) (g : Guest) where
           (about_reported x q (took_head q x) refl refl (head_inside g.mem g.base q x is) (rw same h) (Request g q.descriptors.0 x) (step w (Request g q.descriptors.0 x)) (request_keeps w g q.descriptors.0 x))
 
   -- a host's answer that is heard while a head is out finds the rings inside
-  out_inside : (t : Taken) (head : ℕ) → t ≡ Head head → (n m : ℕ) → out_refusal t w.device q n m g ≡ 0 → rings_inside (length g.mem) g.base q ≡ true
+  out_inside : (t : Option ℕ) (head : ℕ) → t ≡ Some head → (n m : ℕ) → out_refusal t w.device q n m g ≡ 0 → rings_inside (length g.mem) g.base q ≡ true
   unfolding out_refusal
-  out_inside Nothing head e n m z = let y : ◌≡◌ {A = ℕ} 0 1 = cc in absurd (omega arith)
-  out_inside (Head x) head e n m z =
+  out_inside None head e n m z = let y : ◌≡◌ {A = ℕ} 0 1 = cc in absurd (omega arith)
+  out_inside (Some x) head e n m z =
       by_test (rings_inside (length g.mem) g.base q) (λ t. t)
       (λ t. by_test (eqb (pending_refusal w.device n m) 0)
       (λ s. let y = rw (t, s) at z in absurd (omega arith))
       (λ s. let y = rw s at z in let k : eqb (pending_refusal w.device n m) 0 ≡ true = rw y in let y : ◌≡◌ {A = ℕ} 0 1 = cc in absurd (omega arith)))
 
-  answer_inside : (head : ℕ) → q.taken ≡ Head head → (n m : ℕ) → answer_refusal w.device q n m g ≡ 0 → rings_inside (length g.mem) g.base q ≡ true
+  answer_inside : (head : ℕ) → q.taken ≡ Some head → (n m : ℕ) → answer_refusal w.device q n m g ≡ 0 → rings_inside (length g.mem) g.base q ≡ true
   unfolding answer_refusal
   answer_inside head e n m z =
       by_test (queue_ok q.taken w.device.pending) (λ t. out_inside q.taken head e n m (rw t at z)) (λ t. let y = rw t at z in absurd (omega arith))
 
-  answer_reported : (head : ℕ) → head < 65536 → q.taken ≡ Head head → (ok : Bool) (host : ℕ) → Reported head (queue_step w q (Host g ok host))
+  answer_reported : (head : ℕ) → head < 65536 → q.taken ≡ Some head → (ok : Bool) (host : ℕ) → Reported head (queue_step w q (Host g ok host))
   unfolding queue_step unless_refused answers ending_told
   answer_reported head h out ok host =
       let o = step w (HostAnswer g ok host) in
       by_cond (Reported head) (eqb (answer_refusal w.device q (length w.blocks) (length w.rows) g) 0) _ _
-      (λ t. rw (ap (λ (x : Taken). answers x q g.base o) out) (about_reported head q q refl refl (answer_inside head out _ _ (eqb-true _ 0 t)) h (HostAnswer g ok host) o (answer_keeps w g ok host)))
+      (λ t. rw (ap (λ (x : Option ℕ). answers x q g.base o) out) (about_reported head q q refl refl (answer_inside head out _ _ (eqb-true _ 0 t)) h (HostAnswer g ok host) o (answer_keeps w g ok host)))
       (λ t len e. no_report e)
 
 -- ---- the head that is out was read out of bytes, so it has 16 bits
-pub record Fits (t : Taken) : Type 0 where
-  pub fits : (head : ℕ) → t ≡ Head head → head < 65536
+pub record Fits (t : Option ℕ) : Type 0 where
+  pub fits : (head : ℕ) → t ≡ Some head → head < 65536
 
 head_fits : (mem : List ℕ) → ((i : ℕ) → get_or mem i 0 < 256) → (base : ℕ) (q : Queue) (head : ℕ) → next_head mem base q ≡ HasHead head → head < 65536
 head_fits mem bytes base q head e = let z = head_reads mem base q head e in rw z (value_below mem bytes _ 2)
@@ -106,10 +105,10 @@ taken_fits w q g bytes f =
         settled_fits (ending_of (step w (Request g q.descriptors.0 x)).answer) q (took_head q x) f
         (record { fits = λ head e. let same : x ≡ head = cc in rw (← same) (head_fits g.mem bytes g.base q x is) })
 
-heard_fits : (t : Taken) (q : Queue) (base : ℕ) (o : Outcome) → Fits q.taken → Fits (answers t q base o).queue.taken
+heard_fits : (t : Option ℕ) (q : Queue) (base : ℕ) (o : Outcome) → Fits q.taken → Fits (answers t q base o).queue.taken
 unfolding answers
-heard_fits Nothing q base o f = f
-heard_fits (Head h) q base o f = settled_fits (ending_of o.answer) q q f f
+heard_fits None q base o f = f
+heard_fits (Some h) q base o f = settled_fits (ending_of o.answer) q q f f
 
 fits_then : (w : World) (q : Queue) (c : QueueCall) → LendsBytes c → Fits q.taken → Fits (queue_step w q c).queue.taken
 unfolding queue_step unless_refused lent_to
@@ -132,10 +131,10 @@ the_head (HasHead h) head e = let same : h ≡ head = cc in rw same
 the_head HasNone head e = let z : ◌≡◌ {A = ℕ} 0 1 = cc in absurd (omega arith)
 the_head (HasRefused n) head e = let z : ◌≡◌ {A = ℕ} 0 1 = cc in absurd (omega arith)
 
-the_one_out : (t : Taken) (head : ℕ) → out_of t ≡ head ∷ [] → t ≡ Head head
+the_one_out : (t : Option ℕ) (head : ℕ) → out_of t ≡ head ∷ [] → t ≡ Some head
 unfolding out_of
-the_one_out (Head h) head e = let same : h ≡ head = cc in rw same
-the_one_out Nothing head e = let z : ◌≡◌ {A = ℕ} 0 1 = cc in absurd (omega arith)
+the_one_out (Some h) head e = let same : h ≡ head = cc in rw same
+the_one_out None head e = let z : ◌≡◌ {A = ℕ} 0 1 = cc in absurd (omega arith)
 
 reads : (w : World) (q : Queue) (c : QueueCall) → LendsBytes c → Fits q.taken → (head len : ℕ) → Reports q c (queue_step w q c) head len
     → ReadsAs (queue_step w q c).bytes (q.used.0 - (lent_to c).base) q.next_used head len

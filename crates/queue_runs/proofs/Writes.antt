@@ -1,5 +1,6 @@
 -- SPDX-License-Identifier: Apache-2.0 AND BSD-3-Clause
 -- The device and the clauses Q4, Q6 and Q7: only the used ring and the response are written, the index last, and a length counts the response's bytes.
+use Rattle.std.specs.Prelude.{Option, Some, None}
 use Prim.Native.Nat.{ℕ, ◌+◌, ◌-◌, ◌*◌, ◌%◌}
 use mathlib.Core.Path.{◌≡◌, refl, ◌∙◌, sym}
 use mathlib.Core.Bool.{Bool, true, false}
@@ -13,8 +14,6 @@ use Rattle.little_endian.specs.Bytes.{part}
 use Rattle.record.specs.declared.Pending.{Pending}
 use Rattle.record.specs.declared.Pending.TheVariants.{Nothing as Idle, Create, Discard, DiscardOne}
 use Rattle.rings.specs.declared.Queue.{Queue}
-use Rattle.rings.specs.declared.Taken.{Taken}
-use Rattle.rings.specs.declared.Taken.TheVariants.{Nothing, Head}
 use Rattle.rings.specs.declared.Next.{Next}
 use Rattle.rings.specs.declared.Next.TheVariants.{Head as HasHead, Empty as HasNone, Refused as HasRefused}
 use Rattle.rings.specs.Standard.{Apart}
@@ -68,10 +67,10 @@ module _ (w : World) (q : Queue) (g : Guest) where
     taken_only HasNone far = refl
     taken_only (HasRefused n) far = refl
 
-    heard_only : (ok : Bool) (host : ℕ) (t : Taken) → Outside i (HostAnswer g ok host ∷ []) → Kept i (answers t q g.base (step w (HostAnswer g ok host))).bytes
+    heard_only : (ok : Bool) (host : ℕ) (t : Option ℕ) → Outside i (HostAnswer g ok host ∷ []) → Kept i (answers t q g.base (step w (HostAnswer g ok host))).bytes
     unfolding answers
-    heard_only ok host Nothing far = (answer_keeps w g ok host).others i (λ status e. far (HostAnswer g ok host) status refl e)
-    heard_only ok host (Head h) far = about_only h q refl refl (HostAnswer g ok host) (answer_keeps w g ok host) far
+    heard_only ok host None far = (answer_keeps w g ok host).others i (λ status e. far (HostAnswer g ok host) status refl e)
+    heard_only ok host (Some h) far = about_only h q refl refl (HostAnswer g ok host) (answer_keeps w g ok host) far
 
 pub writes_only : FromEveryQueue WritesOnly
 unfolding queue_step unless_refused device_calls lent_to on_guest
@@ -138,11 +137,11 @@ module _ (w : World) (q : Queue) (g : Guest) where
   refused_written there n head len r e = stays_not e
 
   -- a host's answer: the head that is out
-  heard_written : (ok : Bool) (host : ℕ) (t : Taken) (head len : ℕ) → let call = HostAnswer g ok host in let o = answers t q g.base (step w call) in
+  heard_written : (ok : Bool) (host : ℕ) (t : Option ℕ) (head len : ℕ) → let call = HostAnswer g ok host in let o = answers t q g.base (step w call) in
       used_by (ending_told o.answer) (out_of t) ≡ head ∷ [] → ending_told o.answer ≡ Used len → WrittenBy (call ∷ []) o.bytes head len
   unfolding answers ending_told out_of used_by lent_by
-  heard_written ok host Nothing head len r e = let f : [] ≡ head ∷ [] = rw e at r in let z : ◌≡◌ {A = ℕ} 0 1 = cc in absurd (omega arith)
-  heard_written ok host (Head h) head len r e =
+  heard_written ok host None head len r e = let f : [] ≡ head ∷ [] = rw e at r in let z : ◌≡◌ {A = ℕ} 0 1 = cc in absurd (omega arith)
+  heard_written ok host (Some h) head len r e =
       let call = HostAnswer g ok host in
       let f : h ∷ [] ≡ head ∷ [] = rw e at r in
       let same : h ≡ head = cc in
@@ -202,11 +201,11 @@ module _ (w : World) (q : Queue) (g : Guest) where
   taken_unused (HasRefused n) e = refl
   taken_unused (HasHead h) e = about_unused h (took_head q h) (Request g q.descriptors.0 h) (request_keeps w g q.descriptors.0 h) e
 
-  heard_unused : (ok : Bool) (host : ℕ) (t : Taken) → is_out t ≡ discarding w.device.pending → let o = answers t q g.base (step w (HostAnswer g ok host)) in
+  heard_unused : (ok : Bool) (host : ℕ) (t : Option ℕ) → is_out t ≡ discarding w.device.pending → let o = answers t q g.base (step w (HostAnswer g ok host)) in
       used_by (ending_told o.answer) (out_of t) ≡ [] → o.bytes ≡ g.mem
   unfolding answers ending_told out_of is_out status_for
-  heard_unused ok host Nothing k e = (answer_keeps w g ok host).nowhere (no_status w.device.pending (sym k))
-  heard_unused ok host (Head h) k e = about_unused h q (HostAnswer g ok host) (answer_keeps w g ok host) e
+  heard_unused ok host None k e = (answer_keeps w g ok host).nowhere (no_status w.device.pending (sym k))
+  heard_unused ok host (Some h) k e = about_unused h q (HostAnswer g ok host) (answer_keeps w g ok host) e
 
 unreported : (w : World) (q : Queue) → is_out q.taken ≡ discarding w.device.pending → (c : QueueCall) → on_guest c ≡ true
     → newly_reported q c (queue_step w q c).answer ≡ [] → (queue_step w q c).bytes ≡ (lent_to c).mem

@@ -1,14 +1,11 @@
 -- SPDX-License-Identifier: Apache-2.0 AND BSD-3-Clause
 -- What becomes of the heads: each that is taken is reported used once, and a refused call takes none (R13.9, R13.12).
-use Rattle.std.specs.Prelude.{ℕ, ◌+◌, ◌-◌, ◌%◌, ◌≡◌, Bool, true, false, List, [], ◌∷◌, ◌++◌, length}
+use Rattle.std.specs.Prelude.{ℕ, ◌+◌, ◌-◌, ◌%◌, ◌≡◌, Bool, true, false, List, [], ◌∷◌, ◌++◌, length, Option, Some, None}
 use Rattle.record.specs.Shape.{is_idle}
 use Rattle.rings.specs.declared.Queue.{Queue}
-use Rattle.rings.specs.declared.Taken.{Taken}
-use Rattle.rings.specs.declared.Taken.TheVariants.{Nothing, Head}
 use Rattle.rings.specs.Standard.{used_index, used_id, used_length}
 use Rattle.step.specs.declared.Answer.TheVariants.{Refused}
 use Rattle.step.specs.World.{World, Guest}
-use Rattle.queue.specs.declared.QueueAnswer.TheVariants.{Empty, Of}
 use Rattle.queue.specs.declared.Ending.TheVariants.{Used}
 use Rattle.queue.specs.Queue.{QueueOutcome, discarding}
 use Rattle.queue_runs.specs.Runs.{Beside, Placing, Sizing, Reading, Writing, QueueCall, TakeNext, Host, PastIt, queue_step, lent_to, ending_told, newly_taken, newly_reported, out_of, QueueStory, QueueReached, LendsBytes, AllLendBytes}
@@ -22,9 +19,9 @@ pub record InOrder (s : QueueStory) (c : QueueCall) : Type 0 where
   pub index_used : s.queue.next_used ≡ length s.reports % 65536
 
 -- a head is out exactly while its request has not ended: the host is asked for a discard
-unfoldable pub is_out : Taken → Bool
-is_out Nothing = false
-is_out (Head head) = true
+unfoldable pub is_out : Option ℕ → Bool
+is_out None = false
+is_out (Some head) = true
 
 abbrev pub OutWhileOpen : QueueStory → QueueCall → Type 0
 OutWhileOpen s c = is_out s.queue.taken ≡ discarding s.world.device.pending
@@ -65,19 +62,19 @@ bytes_to (Host g ok host) = g.mem
 bytes_to (PastIt b) = beside_bytes b
 
 abbrev pub RefusedTakesNone : World → Queue → QueueCall → QueueOutcome → Type 0
-RefusedTakesNone w q c o = (n : ℕ) → o.answer ≡ Of (Refused n) → TakesNone w q c o × (o.bytes ≡ bytes_to c)
+RefusedTakesNone w q c o = (n : ℕ) → o.answer ≡ Some (Refused n) → TakesNone w q c o × (o.bytes ≡ bytes_to c)
 
 -- nor does it change anything; 10 is a creation that failed, and leaves of the world what `TenIsCreationFailed` says
 abbrev pub RefusedMovesNothing : World → Queue → QueueCall → QueueOutcome → Type 0
-RefusedMovesNothing w q c o = (n : ℕ) → o.answer ≡ Of (Refused n) → (n ≡ 10 → ⊥) → o.world ≡ w
+RefusedMovesNothing w q c o = (n : ℕ) → o.answer ≡ Some (Refused n) → (n ≡ 10 → ⊥) → o.world ≡ w
 
 abbrev pub EmptyMovesNothing : World → Queue → QueueCall → QueueOutcome → Type 0
-EmptyMovesNothing w q c o = o.answer ≡ Empty → TakesNone w q c o × (o.world ≡ w) × (o.bytes ≡ bytes_to c)
+EmptyMovesNothing w q c o = o.answer ≡ None → TakesNone w q c o × (o.world ≡ w) × (o.bytes ≡ bytes_to c)
 
 -- ---- R13.9: none is taken while a host call is pending
 abbrev pub NoneWhilePending : QueueStory → QueueCall → Type 0
-NoneWhilePending s c = (g : Guest) → is_idle s.world.device.pending ≡ false → (queue_step s.world s.queue (TakeNext g)).answer ≡ Of (Refused 7)
+NoneWhilePending s c = (g : Guest) → is_idle s.world.device.pending ≡ false → (queue_step s.world s.queue (TakeNext g)).answer ≡ Some (Refused 7)
 
 -- R13.11, R18.11: 12 never appears
 abbrev pub Never12 : QueueStory → QueueCall → Type 0
-Never12 s c = (queue_step s.world s.queue c).answer ≡ Of (Refused 12) → ⊥
+Never12 s c = (queue_step s.world s.queue c).answer ≡ Some (Refused 12) → ⊥

@@ -1,10 +1,9 @@
 -- SPDX-License-Identifier: Apache-2.0 AND BSD-3-Clause
 -- Demands 2 and 3 and the rule of the requested size over the requests taken (R13.14): a call on the queue is none or one of the device, so what is said of every call of the device, and of every run of them, holds on the queue.
-use Rattle.std.specs.Prelude.{◌+◌, ◌≤◌, ◌<◌, ◌≡◌, Bool, true, false, List, [], ◌∷◌, ◌++◌}
+use Rattle.std.specs.Prelude.{◌+◌, ◌≤◌, ◌<◌, ◌≡◌, Bool, true, false, List, [], ◌∷◌, ◌++◌, Some}
 use Rattle.rings.specs.declared.Queue.{Queue}
 use Rattle.step.specs.World.{World, Call}
 use Rattle.step.specs.Step.{step, usable, plugged, requested, Untouched}
-use Rattle.queue.specs.declared.QueueAnswer.TheVariants.{Of}
 use Rattle.queue.specs.Queue.{QueueOutcome}
 use Rattle.history.specs.History.{Event, events_of, Story, Demand3}
 use Rattle.history.specs.Reached.{Reached}
@@ -15,7 +14,7 @@ use Rattle.queue_runs.specs.Runs.{Placing, Sizing, Reading, Writing, QueueCall, 
 -- ---- demand 2 (R18.2): a call makes none or one call of the device, leaves its world and tells its answer
 pub record IsCall (w : World) (o : QueueOutcome) (call : Call) : Type 0 where
   pub same_world : o.world ≡ (step w call).world
-  pub same_answer : o.answer ≡ Of (step w call).answer
+  pub same_answer : o.answer ≡ Some (step w call).answer
 
 unfoldable pub AsCalls : World → List Call → QueueOutcome → Type 0
 AsCalls w [] o = o.world ≡ w

@@ -1,19 +1,16 @@
 -- SPDX-License-Identifier: Apache-2.0 AND BSD-3-Clause
 -- A run on the queue: every call, with all that it brings; the calls of the device that it makes; the heads taken and the heads reported, oldest first.
+use Rattle.step.specs.declared.Answer.{Answer}
 use Prim.{Unit}
-use Rattle.std.specs.Prelude.{ℕ, ◌<◌, ◌≡◌, Bool, true, cond, List, [], ◌∷◌, ◌++◌, eqb, length, get_or}
+use Rattle.std.specs.Prelude.{ℕ, ◌<◌, ◌≡◌, Bool, true, cond, List, [], ◌∷◌, ◌++◌, eqb, length, get_or, Option, Some, None}
 use Rattle.rows.specs.declared.MapRow.{MapRow}
 use Rattle.rings.specs.declared.Queue.{Queue}
-use Rattle.rings.specs.declared.Taken.{Taken}
-use Rattle.rings.specs.declared.Taken.TheVariants.{Nothing, Head}
 use Rattle.rings.specs.declared.Next.{Next}
 use Rattle.rings.specs.declared.Next.TheVariants.{Head as HasHead, Empty as HasNone, Refused as HasRefused}
 use Rattle.rings.specs.Rings.{next_head}
 use Rattle.record.specs.Shape.{is_idle}
 use Rattle.step.specs.World.{World, Guest, no_guest, Call, Place, SetRequestedSize, Request, HostAnswer, ReadConfig, WriteConfig}
 use Rattle.step.specs.Step.{step}
-use Rattle.queue.specs.declared.QueueAnswer.{QueueAnswer}
-use Rattle.queue.specs.declared.QueueAnswer.TheVariants.{Empty, Of}
 use Rattle.queue.specs.declared.Ending.{Ending}
 use Rattle.queue.specs.declared.Ending.TheVariants.{Stays, Out, Used}
 use Rattle.queue.specs.Queue.{QueueOutcome, ending_of, aside, next_of, serve_next, answer_refusal, host_answers}
@@ -64,9 +61,9 @@ device_calls w q (Host g ok host) =
 device_calls w q (PastIt b) = beside_call b ∷ []
 
 -- ---- the heads that a call takes and reports, by what it tells
-unfoldable pub ending_told : QueueAnswer → Ending
-ending_told Empty = Stays
-ending_told (Of a) = ending_of a
+unfoldable pub ending_told : Option Answer → Ending
+ending_told None = Stays
+ending_told (Some a) = ending_of a
 
 -- of these heads: those that are taken, and those that are reported used
 unfoldable pub taken_by : Ending → List ℕ → List ℕ
@@ -85,16 +82,16 @@ head_of (HasHead h) = h ∷ []
 head_of HasNone = []
 head_of (HasRefused n) = []
 
-unfoldable pub out_of : Taken → List ℕ
-out_of Nothing = []
-out_of (Head h) = h ∷ []
+unfoldable pub out_of : Option ℕ → List ℕ
+out_of None = []
+out_of (Some h) = h ∷ []
 
-unfoldable pub newly_taken : Queue → QueueCall → QueueAnswer → List ℕ
+unfoldable pub newly_taken : Queue → QueueCall → Option Answer → List ℕ
 newly_taken q (TakeNext g) t = taken_by (ending_told t) (head_of (next_head g.mem g.base q))
 newly_taken q (Host g ok host) t = []
 newly_taken q (PastIt b) t = []
 
-unfoldable pub newly_reported : Queue → QueueCall → QueueAnswer → List ℕ
+unfoldable pub newly_reported : Queue → QueueCall → Option Answer → List ℕ
 newly_reported q (TakeNext g) t = used_by (ending_told t) (head_of (next_head g.mem g.base q))
 newly_reported q (Host g ok host) t = used_by (ending_told t) (out_of q.taken)
 newly_reported q (PastIt b) t = []
@@ -127,7 +124,7 @@ after_all s (c ∷ cs) = after_all (next_story s c) cs
 -- ---- how it begins
 -- R13.1: a queue as it is made: no head is out, and both indices are 0 (Q3)
 pub record New (q : Queue) : Type 0 where
-  pub none_out : q.taken ≡ Nothing
+  pub none_out : q.taken ≡ None
   pub available_first : q.next_available ≡ 0
   pub used_first : q.next_used ≡ 0
 

@@ -1,5 +1,6 @@
 -- SPDX-License-Identifier: Apache-2.0 AND BSD-3-Clause
 -- Encoding and decoding are inverse: a queue reads back from its words, and words that are a queue's are what it is written as.
+use Rattle.std.specs.Prelude.{Option, Some, None}
 use Prim.Native.Nat.{ℕ, ◌+◌, ◌-◌, ◌≤◌}
 use mathlib.Core.Path.{◌≡◌, refl, sym, ap}
 use mathlib.Core.Bool.{Bool, true, false, cond, ◌&&◌}
@@ -14,10 +15,6 @@ use Rattle.little_endian.specs.Bytes.{put}
 use Rattle.little_endian.proofs.Laws.{put_fits}
 use Rattle.words.specs.Record.{word}
 use Rattle.rings.specs.declared.Queue.{Queue}
-use Rattle.rings.specs.declared.Taken.{Taken}
-use Rattle.rings.specs.declared.Taken.TheVariants.{Nothing, Head}
-use Rattle.queue_words.specs.declared.DecodedQueue.{DecodedQueue}
-use Rattle.queue_words.specs.declared.DecodedQueue.TheVariants.{Is, NoQueue}
 use Rattle.step.specs.declared.Verdict.{Verdict}
 use Rattle.record.specs.declared.HostCall.{HostCall}
 use Rattle.record.specs.declared.HostCall.TheVariants.{Create, Discard}
@@ -61,15 +58,15 @@ pub bounds : (ws : List ℕ) → 6 ≤ length ws → bounded ws ≡ true → Fit
 unfolding is_queue
 bounds ws long h = queue_fits ws (simp (le-leb _ _ long) h)
 
-pub unfit : (ws : List ℕ) → bounded ws ≡ false → NoQueue ≡ decoded_queue_of ws
+pub unfit : (ws : List ℕ) → bounded ws ≡ false → None ≡ decoded_queue_of ws
 unfolding decoded_queue_of is_queue
 unfit ws h = by_test (leb 6 (length ws)) (λ t. simp (t, h)) (λ t. simp t)
 
 -- ---- a queue reads back
-pub taken_back : (t : Taken) → taken_of (taken_word t) ≡ t
+pub taken_back : (t : Option ℕ) → taken_of (taken_word t) ≡ t
 unfolding taken_of
-taken_back Nothing = refl
-taken_back (Head head) =
+taken_back None = refl
+taken_back (Some head) =
     let e : head + 1 - 1 ≡ head = omega arith in
     simp (ne_eqb (head + 1) 0 (λ z. omega arith), e)
 
@@ -78,14 +75,14 @@ unfolding queue_words
 words_long q rest = rw length-append (omega arith)
 
 -- whatever is behind its words
-words_back : (q : Queue) (rest : List ℕ) → is_queue (queue_words q) ≡ true → decoded_queue_of (queue_words q ++ rest) ≡ Is q
+words_back : (q : Queue) (rest : List ℕ) → is_queue (queue_words q) ≡ true → decoded_queue_of (queue_words q ++ rest) ≡ Some q
 unfolding decoded_queue_of is_queue queue_of queue_words
 words_back q rest h =
     let f = queue_fits (queue_words q) h in
     simp (le-leb _ _ (words_long q rest), le-leb _ 65535 f.available, le-leb _ 65535 f.used, le-leb _ 65536 f.taken, taken_back q.taken)
 
 -- what was encoded decodes to the queue, where there is room for it
-pub encoded_decodes : (q : Queue) (ws : List ℕ) → is_queue (queue_words q) ≡ true → 6 ≤ length ws → decoded_queue_of (put ws 0 (queue_words q)) ≡ Is q
+pub encoded_decodes : (q : Queue) (ws : List ℕ) → is_queue (queue_words q) ≡ true → 6 ≤ length ws → decoded_queue_of (put ws 0 (queue_words q)) ≡ Some q
 unfolding queue_words
 encoded_decodes q ws h room = rw (put_fits ws 0 (queue_words q) room) (words_back q (drop 6 ws) h)
 
@@ -101,26 +98,26 @@ unfolding queue_words queue_of put
 queue_written ws = simp (taken_written (word ws 5), set-get_or)
 
 -- the queue that words mean, if they mean one
-abbrev meant : Queue → DecodedQueue → Queue
-meant e (Is q) = q
-meant e NoQueue = e
+abbrev meant : Queue → Option Queue → Queue
+meant e (Some q) = q
+meant e None = e
 
-abbrev is_queue_lem : DecodedQueue → ℕ
-is_queue_lem (Is q) = 1
-is_queue_lem NoQueue = 0
+abbrev is_queue_lem : Option Queue → ℕ
+is_queue_lem (Some q) = 1
+is_queue_lem None = 0
 
 -- words that decode are a queue's
-pub decoded_fits : (ws : List ℕ) (q : Queue) → decoded_queue_of ws ≡ Is q → (is_queue ws ≡ true) × (queue_of ws ≡ q)
+pub decoded_fits : (ws : List ℕ) (q : Queue) → decoded_queue_of ws ≡ Some q → (is_queue ws ≡ true) × (queue_of ws ≡ q)
 unfolding decoded_queue_of
 decoded_fits ws q h =
-    by_test (is_queue ws) (λ t. let g : Is (queue_of ws) ≡ Is q = simp t at h in (t, ap (meant q) g))
-    (λ t. let g : NoQueue ≡ Is q = simp t at h in let y : ◌≡◌ {A = ℕ} 0 1 = ap is_queue_lem g in absurd (omega arith))
+    by_test (is_queue ws) (λ t. let g : Some (queue_of ws) ≡ Some q = simp t at h in (t, ap (meant q) g))
+    (λ t. let g : None ≡ Some q = simp t at h in let y : ◌≡◌ {A = ℕ} 0 1 = ap is_queue_lem g in absurd (omega arith))
 
-pub decoded_long : (ws : List ℕ) (q : Queue) → decoded_queue_of ws ≡ Is q → 6 ≤ length ws
+pub decoded_long : (ws : List ℕ) (q : Queue) → decoded_queue_of ws ≡ Some q → 6 ≤ length ws
 decoded_long ws q h = (queue_fits ws (decoded_fits ws q h).0).long
 
 -- what decodes encodes to the same words
-pub decoded_encodes : (ws : List ℕ) (q : Queue) → decoded_queue_of ws ≡ Is q → put ws 0 (queue_words q) ≡ ws
+pub decoded_encodes : (ws : List ℕ) (q : Queue) → decoded_queue_of ws ≡ Some q → put ws 0 (queue_words q) ≡ ws
 decoded_encodes ws q h = rw (← (decoded_fits ws q h).1) (queue_written ws)
 
 -- ---- an answer's ending reads back from its words

@@ -1,23 +1,19 @@
 -- SPDX-License-Identifier: Apache-2.0 AND BSD-3-Clause
 -- The queue as words, and what words mean (R19.4).
-use Rattle.std.specs.Prelude.{ℕ, ◌+◌, ◌-◌, Bool, cond, ◌&&◌, List, [], ◌∷◌, leb, eqb, length}
+use Rattle.std.specs.Prelude.{ℕ, ◌+◌, ◌-◌, Bool, cond, ◌&&◌, List, [], ◌∷◌, leb, eqb, length, Option, Some, None}
 use Rattle.rings.specs.declared.Queue.{Queue}
-use Rattle.rings.specs.declared.Taken.{Taken}
-use Rattle.rings.specs.declared.Taken.TheVariants.{Nothing, Head}
 use Rattle.words.specs.Record.{word}
 use Rattle.queue.specs.declared.Ending.{Ending}
 use Rattle.queue.specs.declared.Ending.TheVariants.{Stays, Out, Used}
-use Rattle.queue_words.specs.declared.DecodedQueue.{DecodedQueue}
-use Rattle.queue_words.specs.declared.DecodedQueue.TheVariants.{Is, NoQueue}
 
 -- R19.4: how many words a queue is
 abbrev pub queue_length : ℕ
 queue_length = 6
 
 -- 0 where no head is out, else the head plus 1
-abbrev pub taken_word : Taken → ℕ
-taken_word Nothing = 0
-taken_word (Head head) = head + 1
+abbrev pub taken_word : Option ℕ → ℕ
+taken_word None = 0
+taken_word (Some head) = head + 1
 
 -- R19.4: a queue, word by word
 unfoldable pub queue_words : Queue → List ℕ
@@ -31,8 +27,8 @@ queue_words q =
     ∷ []
 
 -- ---- and back
-unfoldable pub taken_of : ℕ → Taken
-taken_of n = cond (eqb n 0) Nothing (Head (n - 1))
+unfoldable pub taken_of : ℕ → Option ℕ
+taken_of n = cond (eqb n 0) None (Some (n - 1))
 
 -- R19.4: words begin with a queue's: there are as many, and the indices and a head are numbers of 16 bits
 unfoldable pub is_queue : List ℕ → Bool
@@ -52,8 +48,8 @@ queue_of ws =
     }
 
 -- what words mean: no queue where they are no encoding of one
-unfoldable pub decoded_queue_of : List ℕ → DecodedQueue
-decoded_queue_of ws = cond (is_queue ws) (Is (queue_of ws)) NoQueue
+unfoldable pub decoded_queue_of : List ℕ → Option Queue
+decoded_queue_of ws = cond (is_queue ws) (Some (queue_of ws)) None
 
 -- ---- R19.3, R13.8: what the words of an answer mean for the head that it is about: kinds 1 and 2 ask the host, 4 serves no request, 5 responds with a used length of 10 or 0 (`ending_told_lem`)
 unfoldable pub ending_words : List ℕ → Ending

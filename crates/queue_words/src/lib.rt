@@ -2,46 +2,38 @@
 // The queue as words, and what a call on it tells, for callers that have no enums.
 #![tactic(auto)]
 
-ghost use Rattle.std.specs.Prelude.{◌≡◌, true, ◌≤◌, length};
+ghost use Rattle.std.specs.Prelude.{◌≡◌, true, ◌≤◌, length, Some};
 ghost use Rattle.little_endian.specs.Bytes.{put};
 ghost use Rattle.queue.specs.Queue.{queue_answer_words, queue_number_of};
-ghost use Rattle.queue_words.specs.declared.DecodedQueue.TheVariants.{Is};
 ghost use Rattle.queue_words.specs.Words.{queue_length, taken_word, taken_of, queue_words, is_queue};
 ghost use Rattle.queue_words.specs.Words.{decoded_queue_of, ending_words};
 
 use answer_words::{ANSWER_WORDS, tell};
-use queue::{Ending, QueueAnswer};
-use rings::{Queue, Taken};
+use queue::Ending;
+use rings::Queue;
 use units::GuestAddr;
 use words::write_words;
 
 // A queue's length in words.
 pub const QUEUE_WORDS: usize = 6;
 
-// What words mean: a queue, or no encoding of one.
-#[derive(Clone, Copy)]
-pub enum DecodedQueue {
-    Is(Queue),
-    NoQueue,
-}
-
 // The head that a word means: the word less 1, and none where it is 0.
-fn taken_of(word: u64) -> Taken
+fn taken_of(word: u64) -> Option<u16>
     requires { word ≤ 65536 }
     ensures { result ≡ taken_of word }
 {
     if word == 0 {
-        return Taken::Nothing;
+        return None;
     }
-    Taken::Head((word - 1) as u16)
+    Some((word - 1) as u16)
 }
 
 // The queue that words begin with, if they do.
-pub fn decode_queue(words: &[u64]) -> DecodedQueue
+pub fn decode_queue(words: &[u64]) -> Option<Queue>
     ensures { result ≡ decoded_queue_of words.now }
 {
     if words.len() < QUEUE_WORDS {
-        return DecodedQueue::NoQueue;
+        return None;
     }
     let descriptors = words[0];
     let available = words[1];
@@ -50,10 +42,10 @@ pub fn decode_queue(words: &[u64]) -> DecodedQueue
     let next_used = words[4];
     let out = words[5];
     if !((next_available <= 65535) & ((next_used <= 65535) & (out <= 65536))) {
-        return DecodedQueue::NoQueue;
+        return None;
     }
     let taken = taken_of(out);
-    DecodedQueue::Is(Queue {
+    Some(Queue {
         descriptors: GuestAddr(descriptors),
         available: GuestAddr(available),
         used: GuestAddr(used),
@@ -64,13 +56,13 @@ pub fn decode_queue(words: &[u64]) -> DecodedQueue
 }
 
 // A head that is out as a word.
-fn taken_word(taken: Taken) -> u64
+fn taken_word(taken: Option<u16>) -> u64
     ensures value { result ≡ taken_word taken }
     ensures upper_bound { result ≤ 65536 }
 {
     match taken {
-        Taken::Nothing => 0,
-        Taken::Head(head) => head as u64 + 1,
+        None => 0,
+        Some(head) => head as u64 + 1,
     }
 }
 
@@ -107,7 +99,7 @@ fn store_queue(words: &mut [u64], all: [u64; QUEUE_WORDS])
 // Writes a queue as words; none past the end.
 pub fn encode_queue(q: Queue, words: &mut [u64])
     ensures words_after { words.new ≡ put words.old 0 (queue_words q) }
-    ensures words_after_2 { queue_length ≤ length words.old → decoded_queue_of words.new ≡ Is q }
+    ensures words_after_2 { queue_length ≤ length words.old → decoded_queue_of words.new ≡ Some q }
 {
     if words.len() < QUEUE_WORDS {
         let all = queue_words(q);
@@ -119,17 +111,17 @@ pub fn encode_queue(q: Queue, words: &mut [u64])
 }
 
 // Writes what a call on a queue tells as words, none past the end, and tells its number.
-pub fn tell_queue(answer: QueueAnswer, words: &mut [u64]) -> u64
+pub fn tell_queue(answer: Option<Answer>, words: &mut [u64]) -> u64
     ensures value { result ≡ queue_number_of answer }
     ensures words_after { words.new ≡ put words.old 0 (queue_answer_words answer) }
 {
     match answer {
-        QueueAnswer::Empty => {
+        None => {
             let all: [u64; ANSWER_WORDS] = [7, 0, 0, 0, 0, 0, 0, 0, 0];
             write_words(words, &all);
             0
         }
-        QueueAnswer::Of(a) => tell(a, words),
+        Some(a) => tell(a, words),
     }
 }
 

@@ -1,5 +1,6 @@
 -- SPDX-License-Identifier: Apache-2.0 AND BSD-3-Clause
 -- The laws of `specs/Resize.antt` that callers cite.
+use Rattle.std.specs.Prelude.{Option, Some, None}
 use Prim.Native.Nat.{ℕ, ◌+◌, ◌*◌, ◌/◌, ◌%◌, ◌≤◌, ◌<◌, min}
 use mathlib.Core.Path.{◌≡◌, refl}
 use mathlib.Core.Bool.{Bool, true, false}
@@ -10,8 +11,6 @@ use lib.Dec.{ltb, eqb}
 use lib.ListN.{length}
 use borrow.Author.Tests.{ltb-true, lt-ltb, ne_eqb}
 use Rattle.units.proofs.Tests.{by_test}
-use Rattle.rows.specs.declared.FirstUnmapped.{FirstUnmapped}
-use Rattle.rows.specs.declared.FirstUnmapped.TheVariants.{Row, NoneLeft}
 use Rattle.rows.specs.declared.MapRow.{MapRow}
 use Rattle.rows.specs.Rows.{first_unmapped, row_at}
 use Rattle.rows.proofs.Laws.{IsFirst, first_found, first_none}
@@ -54,9 +53,9 @@ asking region true usable new rows i last size e =
     (λ t. by_found (first_unmapped rows (end_row region true usable) (end_row region true new)) refl (ltb-true usable new t) (rw t at e))
     (λ t. let f : Settled ≡ Asks i last size = rw t at e in let z : ◌≡◌ {A = ℕ} 0 1 = cc in absurd (omega arith))
   where
-    by_found : (f : FirstUnmapped) → first_unmapped rows (end_row region true usable) (end_row region true new) ≡ f → usable < new → growth_at f region true (end_row region true new) ≡ Asks i last size → Asking region true usable new rows i last size
-    by_found NoneLeft p h q = let z : ◌≡◌ {A = ℕ} 0 1 = cc in absurd (omega arith)
-    by_found (Row j) p h q =
+    by_found : (f : Option ℕ) → first_unmapped rows (end_row region true usable) (end_row region true new) ≡ f → usable < new → growth_at f region true (end_row region true new) ≡ Asks i last size → Asking region true usable new rows i last size
+    by_found None p h q = let z : ◌≡◌ {A = ℕ} 0 1 = cc in absurd (omega arith)
+    by_found (Some j) p h q =
         let same : j ≡ i = cc in
         let ends : last ≡ end_row region true new = cc in
         record {
@@ -73,7 +72,7 @@ pub settled : (region usable new : ℕ) (rows : List MapRow) → growth_of regio
 unfolding growth_of growth_at
 settled region usable new rows e h = by_found (first_unmapped rows (end_row region true usable) (end_row region true new)) refl (rw (lt-ltb usable new h) at e)
   where
-    by_found : (f : FirstUnmapped) → first_unmapped rows (end_row region true usable) (end_row region true new) ≡ f → growth_at f region true (end_row region true new) ≡ Settled
+    by_found : (f : Option ℕ) → first_unmapped rows (end_row region true usable) (end_row region true new) ≡ f → growth_at f region true (end_row region true new) ≡ Settled
         → (k : ℕ) → end_row region true usable ≤ k → k ≤ end_row region true new → k < length rows → (row_at rows k).mapped ≡ 0 → ⊥
-    by_found NoneLeft p q = first_none rows (end_row region true usable) (end_row region true new) p
-    by_found (Row j) p q = let z : ◌≡◌ {A = ℕ} 0 1 = cc in absurd (omega arith)
+    by_found None p q = first_none rows (end_row region true usable) (end_row region true new) p
+    by_found (Some j) p q = let z : ◌≡◌ {A = ℕ} 0 1 = cc in absurd (omega arith)

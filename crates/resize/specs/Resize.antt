@@ -1,8 +1,6 @@
 -- SPDX-License-Identifier: Apache-2.0 AND BSD-3-Clause
 -- The usable size and the one creation that it may ask for (R6), over numbers and the list of rows; b is the block size.
-use Rattle.std.specs.Prelude.{ℕ, ◌+◌, ◌-◌, ◌*◌, ◌/◌, min, max, Bool, cond, ◌&&◌, List, ltb, eqb}
-use Rattle.rows.specs.declared.FirstUnmapped.{FirstUnmapped}
-use Rattle.rows.specs.declared.FirstUnmapped.TheVariants.{Row, NoneLeft}
+use Rattle.std.specs.Prelude.{ℕ, ◌+◌, ◌-◌, ◌*◌, ◌/◌, min, max, Bool, cond, ◌&&◌, List, ltb, eqb, Option, Some, None}
 use Rattle.rows.specs.declared.MapRow.{MapRow}
 use Rattle.rows.specs.Rows.{first_unmapped}
 use Rattle.units.specs.Numbers.{map_region, map_regions}
@@ -27,9 +25,9 @@ creation_size region several i last =
     (last - i) * map_region + cond (eqb (last + 1) (map_regions region several)) (region - last * map_region) map_region
 
 -- R6.6: one creation covers i to last
-unfoldable pub growth_at : FirstUnmapped → (region : ℕ) (several : Bool) (last : ℕ) → Growth
-growth_at (Row i) region several last = Asks i last (creation_size region several i last)
-growth_at NoneLeft region several last = Settled
+unfoldable pub growth_at : Option ℕ → (region : ℕ) (several : Bool) (last : ℕ) → Growth
+growth_at (Some i) region several last = Asks i last (creation_size region several i last)
+growth_at None region several last = Settled
 
 -- R6.4, R6.5: what the growth of the usable size asks for
 unfoldable pub growth_of : (region : ℕ) (several : Bool) (usable new : ℕ) → List MapRow → Growth

@@ -7,7 +7,7 @@ ghost use Rattle.rows.specs.Rows.{rows_of};
 ghost use Rattle.units.specs.Numbers.{map_regions};
 ghost use Rattle.resize.specs.Resize.{new_size, grown, end_row, creation_size, growth_of};
 
-use rows::{FirstUnmapped, first_unmapped};
+use rows::first_unmapped;
 use units::{MemTool, map_regions, smaller};
 
 // What the growth of the usable size asks for: rows from the first number to the second in one creation of the third's
@@ -86,7 +86,7 @@ pub fn growth_of(region: u64, several: bool, usable: u64, new: u64, table: &[u64
         return Growth::Settled;
     }
     let last = end_row(region, new);
-    let FirstUnmapped::Row(i) = first_unmapped(table, end_row(region, usable), last) else {
+    let Some(i) = first_unmapped(table, end_row(region, usable), last) else {
         return Growth::Settled;
     };
     Growth::Asks(i, last, creation_size(region, i, last))

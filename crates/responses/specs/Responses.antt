@@ -1,10 +1,8 @@
 -- SPDX-License-Identifier: Apache-2.0 AND BSD-3-Clause
 -- Which sentence a response brings (R12.13): an ACK says what was done, a NACK and an ERROR why nothing was. Sizes and offsets are in MiB, addresses in bytes.
-use Rattle.std.specs.Prelude.{ℕ, ◌+◌, ◌-◌, ◌%◌, Bool, true, false, cond, List, [], ◌∷◌, eqb}
+use Rattle.std.specs.Prelude.{ℕ, ◌+◌, ◌-◌, ◌%◌, Bool, true, false, cond, List, [], ◌∷◌, eqb, Option, Some, None}
 use Rattle.units.specs.Numbers.{saturated, map_region}
 use Rattle.bitmap.specs.Blocks.{next_set, next_clear}
-use Rattle.bitmap.specs.declared.Found.{Found}
-use Rattle.bitmap.specs.declared.Found.TheVariants.{At, Nothing as NoneFound}
 use Rattle.text.specs.Words.{bytes}
 use Rattle.forms.specs.Forms.{filled}
 use Rattle.record.specs.declared.Device.{Device}
@@ -137,9 +135,9 @@ abbrev pub not_discarded : Span → Device → List ℕ
 not_discarded s d = filled (bytes "ERROR: the host could not discard offset # MiB; plugged stays # MiB") (s.offset ∷ plugged_in d ∷ [])
 
 -- the number of a block in its range: the first is block 1; and 0 of none
-unfoldable pub number_in : Span → Found → ℕ
-number_in s (At i) = saturated (i - s.first + 1)
-number_in s NoneFound = 0
+unfoldable pub number_in : Span → Option ℕ → ℕ
+number_in s (Some i) = saturated (i - s.first + 1)
+number_in s None = 0
 
 -- one past the last block of a range
 abbrev pub end_of : Span → ℕ

@@ -16,7 +16,7 @@ ghost use Rattle.responses.specs.Responses.{ends_past_usable, outside_text, plug
 ghost use Rattle.responses.specs.Responses.{unmapped, host_past_top, not_discarded, number_in, is_plug, wrong_text};
 ghost use Rattle.responses.specs.Responses.{error_text, reply_text};
 
-use bitmap::{Found, next_clear, next_set};
+use bitmap::{next_clear, next_set};
 use forms::put_form_at;
 use record::{Device, Pending};
 use spans::{Span, op_span};
@@ -326,12 +326,12 @@ fn put_not_discarded(out: &mut [u8], at: usize, s: Span, d: Device) -> usize
 }
 
 // The number of a block in its range, from 1 on.
-fn number_in(s: Span, found: Found) -> u64
+fn number_in(s: Span, found: Option<usize>) -> u64
     ensures { result ≡ number_in s found }
 {
     match found {
-        Found::At(i) => saturating_add(saturating_sub(i as u64, s.first), 1),
-        Found::Nothing => 0,
+        Some(i) => saturating_add(saturating_sub(i as u64, s.first), 1),
+        None => 0,
     }
 }
 

@@ -7,7 +7,7 @@ ghost use Rattle.std.specs.Prelude.{◌≡◌, length};
 ghost use Rattle.descriptors.specs.Descriptors.{inside};
 ghost use Rattle.rings.specs.Rings.{ahead_of, index_after, rings_inside, next_head, reported};
 
-use descriptors::{Place, place_of};
+use descriptors::place_of;
 use little_endian::{read_u16, write_u16, write_u32};
 use units::GuestAddr;
 
@@ -20,13 +20,6 @@ const AVAILABLE_SIZE: u64 = 262;
 // The bytes of the used ring: flags, index, 128 elements of 8 bytes, avail_event.
 const USED_SIZE: u64 = 1030;
 
-// A head that was taken, whose request has not ended.
-#[derive(Clone, Copy)]
-pub enum Taken {
-    Nothing,
-    Head(u16),
-}
-
 // Where the guest has its queue, and where the device stands in it.
 #[derive(Clone, Copy)]
 pub struct Queue {
@@ -35,7 +28,7 @@ pub struct Queue {
     pub used: GuestAddr,
     pub next_available: u16,
     pub next_used: u16,
-    pub taken: Taken,
+    pub taken: Option<u16>,
 }
 
 // What the available ring has next.
@@ -64,7 +57,7 @@ pub fn index_after(index: u16) -> u16
 fn is_inside(mem: &[u8], base: GuestAddr, addr: GuestAddr, size: u64) -> bool
     ensures { result ≡ inside (length mem.now) base.0 addr.0 size }
 {
-    let Place::At(_) = place_of(mem, base, addr, size) else {
+    let Some(_) = place_of(mem, base, addr, size) else {
         return false;
     };
     true
@@ -103,7 +96,7 @@ pub fn next_head(mem: &[u8], base: GuestAddr, q: Queue) -> Next
 pub fn report(mem: &mut [u8], base: GuestAddr, used: GuestAddr, index: u16, head: u16, length: u32)
     ensures { mem.new ≡ reported mem.old base.0 used.0 index head length }
 {
-    let Place::At(at) = place_of(&mem[..], base, used, USED_SIZE) else {
+    let Some(at) = place_of(&mem[..], base, used, USED_SIZE) else {
         return;
     };
     let element = at + 4 + 8 * (index % QUEUE_SIZE) as usize;

@@ -1,5 +1,6 @@
 -- SPDX-License-Identifier: Apache-2.0 AND BSD-3-Clause
 -- The laws of `specs/Rows.antt` that a caller cites. All are on lists of rows, and none speaks of words.
+use Rattle.std.specs.Prelude.{Some, None}
 use Prim.Native.Nat.{ℕ, zero, suc, ◌+◌, ◌-◌, ◌*◌, ◌≤◌, ◌<◌, min}
 use mathlib.Core.Path.{◌≡◌, refl, ap}
 use mathlib.Core.Bool.{true, false}
@@ -11,18 +12,16 @@ use lib.Seq.{get_or-take, get_or-drop}
 use borrow.Author.Tests.{eq-eqb, ne_eqb, eqb-true, eqb-false}
 use Rattle.units.specs.Numbers.{map_region}
 use Rattle.units.proofs.Tests.{by_test}
-use Rattle.rows.specs.declared.FirstUnmapped.TheVariants.{Row, NoneLeft}
-use Rattle.rows.specs.declared.Mapping.TheVariants.{At, Unmapped}
 use Rattle.rows.specs.declared.MapRow.{MapRow}
 use Rattle.rows.specs.Rows.{row_at, mapping_of, unmapped_from, first_unmapped, mapped_at, fill_rows, rows_laid}
 
 -- ---- where a row is mapped: its two cases
 module _ (rs : List MapRow) (i : ℕ) where
-  pub mapping_unmapped : (row_at rs i).mapped ≡ 0 → mapping_of rs i ≡ Unmapped
+  pub mapping_unmapped : (row_at rs i).mapped ≡ 0 → mapping_of rs i ≡ None
   unfolding mapping_of
   mapping_unmapped m = rw (eq-eqb (row_at rs i).mapped 0 m)
 
-  pub mapping_at : ((row_at rs i).mapped ≡ 0 → ⊥) → mapping_of rs i ≡ At (row_at rs i).host
+  pub mapping_at : ((row_at rs i).mapped ≡ 0 → ⊥) → mapping_of rs i ≡ Some (row_at rs i).host
   unfolding mapping_of
   mapping_at m = rw (ne_eqb (row_at rs i).mapped 0 m)
 
@@ -40,13 +39,13 @@ pub record IsFirst (rs : List MapRow) (first last j : ℕ) : Type 0 where
   pub unmapped : (row_at rs j).mapped ≡ 0
   pub before : (k : ℕ) → first ≤ k → k < j → (row_at rs k).mapped ≡ 0 → ⊥
 
-found_in : (i : ℕ) (ss : List MapRow) (j : ℕ) → unmapped_from i ss ≡ Row j → (i ≤ j) × (j < i + length ss) × ((row_at ss (j - i)).mapped ≡ 0) × ((k : ℕ) → i + k < j → (row_at ss k).mapped ≡ 0 → ⊥)
+found_in : (i : ℕ) (ss : List MapRow) (j : ℕ) → unmapped_from i ss ≡ Some j → (i ≤ j) × (j < i + length ss) × ((row_at ss (j - i)).mapped ≡ 0) × ((k : ℕ) → i + k < j → (row_at ss k).mapped ≡ 0 → ⊥)
 unfolding unmapped_from
 found_in i [] j e = let z : ◌≡◌ {A = ℕ} 0 1 = cc in absurd (omega arith)
 found_in i (r ∷ ss) j e =
     by_test (eqb r.mapped 0)
     (λ t.
-    let q : Row i ≡ Row j = rw t at e in
+    let q : Some i ≡ Some j = rw t at e in
     let d : i ≡ j = cc in
     let u : j - i ≡ 0 = omega arith in
     (omega arith, omega arith, rw u (eqb-true r.mapped 0 t), λ k l z. omega arith))
@@ -59,22 +58,22 @@ found_in i (r ∷ ss) j e =
     past t w zero l z = eqb-false r.mapped 0 t z
     past t w (suc k) l z = w.3 k (omega arith) z
 
-none_in : (i : ℕ) (ss : List MapRow) → unmapped_from i ss ≡ NoneLeft → (k : ℕ) → k < length ss → (row_at ss k).mapped ≡ 0 → ⊥
+none_in : (i : ℕ) (ss : List MapRow) → unmapped_from i ss ≡ None → (k : ℕ) → k < length ss → (row_at ss k).mapped ≡ 0 → ⊥
 unfolding unmapped_from
 none_in i [] e k l z = omega arith
 none_in i (r ∷ ss) e zero l z =
     let t : eqb r.mapped 0 ≡ true = eq-eqb r.mapped 0 z in
-    let q : Row i ≡ NoneLeft = rw t at e in
+    let q : Some i ≡ None = rw t at e in
     let z : ◌≡◌ {A = ℕ} 0 1 = cc in omega arith
 none_in i (r ∷ ss) e (suc k) l z =
     by_test (eqb r.mapped 0)
-    (λ t. let q : Row i ≡ NoneLeft = rw t at e in let z : ◌≡◌ {A = ℕ} 0 1 = cc in omega arith)
+    (λ t. let q : Some i ≡ None = rw t at e in let z : ◌≡◌ {A = ℕ} 0 1 = cc in omega arith)
     (λ t. none_in (suc i) ss (rw t at e) k (omega arith) z)
 
 in_range : (rs : List MapRow) (first last k : ℕ) → first + k ≤ last → row_at (take (last + 1 - first) (drop first rs)) k ≡ row_at rs (first + k)
 in_range rs first last k l = let h : k < last + 1 - first = omega arith in rw (get_or-take, get_or-drop)
 
-pub first_found : (rs : List MapRow) (first last j : ℕ) → first_unmapped rs first last ≡ Row j → IsFirst rs first last j
+pub first_found : (rs : List MapRow) (first last j : ℕ) → first_unmapped rs first last ≡ Some j → IsFirst rs first last j
 first_found rs first last j e =
     let w = found_in first (take (last + 1 - first) (drop first rs)) j e in
     let l = rw (length-drop first rs) at (length-take (last + 1 - first) (drop first rs)) in
@@ -89,7 +88,7 @@ first_found rs first last j e =
           w.3 (k - first) (omega arith) (rw (in_range rs first last (k - first) (omega arith), d) z);
     }
 
-pub first_none : (rs : List MapRow) (first last : ℕ) → first_unmapped rs first last ≡ NoneLeft → (k : ℕ) → first ≤ k → k ≤ last → k < length rs → (row_at rs k).mapped ≡ 0 → ⊥
+pub first_none : (rs : List MapRow) (first last : ℕ) → first_unmapped rs first last ≡ None → (k : ℕ) → first ≤ k → k ≤ last → k < length rs → (row_at rs k).mapped ≡ 0 → ⊥
 first_none rs first last e k p q l z =
     let d : first + (k - first) ≡ k = omega arith in
     let m = rw (length-drop first rs) at (length-take (last + 1 - first) (drop first rs)) in

@@ -1,5 +1,6 @@
 -- SPDX-License-Identifier: Apache-2.0 AND BSD-3-Clause
 -- What one turn of a loop over the rows does.
+use Rattle.std.specs.Prelude.{Some}
 use Prim.Native.Nat.{ℕ, zero, suc, ◌+◌, ◌-◌, ◌*◌, ◌≤◌, ◌<◌, min}
 use mathlib.Core.Path.{◌≡◌, refl, ap, sym, ◌∙◌}
 use mathlib.Core.List.{List, [], ◌∷◌}
@@ -9,7 +10,6 @@ use lib.ListN.{length, get_or, set, take, drop, length-set}
 use lib.Seq.{drop-cons, drop-nil, take-nil}
 use Rattle.units.specs.Numbers.{saturated, map_region}
 use borrow.Author.Tests.{eq-eqb, ne_eqb}
-use Rattle.rows.specs.declared.FirstUnmapped.TheVariants.{Row}
 use Rattle.rows.specs.declared.MapRow.{MapRow}
 use Rattle.rows.specs.Rows.{rows_of, written, row_at, unmapped_from, mapped_at, fill_rows, rows_laid}
 use Rattle.rows.proofs.Words.{read_back, written_again}
@@ -35,7 +35,7 @@ unfolding unmapped_from
 search_on rs i n l m = rw (drop-cons rs i (record { slot = 0; mapped = 0; host = record { 0 = 0 } }) l, ne_eqb (row_at rs i).mapped 0 m, add-one)
 
 -- row i is looked at, and it is not mapped
-pub search_ends : (rs : List MapRow) (i n : ℕ) → i < length rs → (row_at rs i).mapped ≡ 0 → Row i ≡ unmapped_from i (take (suc n) (drop i rs))
+pub search_ends : (rs : List MapRow) (i n : ℕ) → i < length rs → (row_at rs i).mapped ≡ 0 → Some i ≡ unmapped_from i (take (suc n) (drop i rs))
 unfolding unmapped_from
 search_ends rs i n l m = rw (drop-cons rs i (record { slot = 0; mapped = 0; host = record { 0 = 0 } }) l, eq-eqb (row_at rs i).mapped 0 m)
 

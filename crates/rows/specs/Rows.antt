@@ -1,13 +1,10 @@
 -- SPDX-License-Identifier: Apache-2.0 AND BSD-3-Clause
 -- What the lent map table means: a list of rows, one for each map region, row 0 first (R8.3).
 -- Only `rows_in`, `rows_of`, `row_words`, `written`, `filled_table` and `laid_table` speak of words: every other definition is on that list.
-use Rattle.std.specs.Prelude.{ℕ, zero, suc, ◌+◌, ◌-◌, ◌*◌, ◌/◌, Bool, not, cond, List, [], ◌∷◌, ◌++◌, eqb, length, get_or, take, drop}
+use Rattle.units.specs.declared.HostAddr.{HostAddr}
+use Rattle.std.specs.Prelude.{ℕ, zero, suc, ◌+◌, ◌-◌, ◌*◌, ◌/◌, Bool, not, cond, List, [], ◌∷◌, ◌++◌, eqb, length, get_or, take, drop, Option, Some, None}
 use Rattle.units.specs.Numbers.{saturated, map_region}
-use Rattle.rows.specs.declared.FirstUnmapped.{FirstUnmapped}
-use Rattle.rows.specs.declared.FirstUnmapped.TheVariants.{Row, NoneLeft}
 use Rattle.rows.specs.declared.MapRow.{MapRow}
-use Rattle.rows.specs.declared.Mapping.{Mapping}
-use Rattle.rows.specs.declared.Mapping.TheVariants.{At, Unmapped}
 
 -- R8.3: how many rows so many words make
 abbrev pub rows_in : (words : ℕ) → ℕ
@@ -38,16 +35,16 @@ abbrev pub is_mapped : MapRow → Bool
 is_mapped row = not (eqb row.mapped 0)
 
 -- whether row i is mapped, and where
-unfoldable pub mapping_of : List MapRow → ℕ → Mapping
-mapping_of rows i = cond (is_mapped (row_at rows i)) (At (row_at rows i).host) Unmapped
+unfoldable pub mapping_of : List MapRow → ℕ → Option HostAddr
+mapping_of rows i = cond (is_mapped (row_at rows i)) (Some (row_at rows i).host) None
 
 -- the first row that is not mapped, where the first of the list is row i
-unfoldable pub unmapped_from : ℕ → List MapRow → FirstUnmapped
-unmapped_from i [] = NoneLeft
-unmapped_from i (row ∷ rows) = cond (is_mapped row) (unmapped_from (suc i) rows) (Row i)
+unfoldable pub unmapped_from : ℕ → List MapRow → Option ℕ
+unmapped_from i [] = None
+unmapped_from i (row ∷ rows) = cond (is_mapped row) (unmapped_from (suc i) rows) (Some i)
 
 -- R6.5: among the rows that exist
-abbrev pub first_unmapped : List MapRow → (first last : ℕ) → FirstUnmapped
+abbrev pub first_unmapped : List MapRow → (first last : ℕ) → Option ℕ
 first_unmapped rows first last = unmapped_from first (take (last + 1 - first) (drop first rows))
 
 -- the row mapped at a host address (R8.6)

@@ -20,20 +20,6 @@ pub struct MapRow {
 // How many words a row is.
 pub const ROW_WORDS: u64 = 3;
 
-// Whether a map region is mapped, and where.
-#[derive(Clone, Copy)]
-pub enum Mapping {
-    At(HostAddr),
-    Unmapped,
-}
-
-// What the search for a map region without a mapping found.
-#[derive(Clone, Copy)]
-pub enum FirstUnmapped {
-    Row(u64),
-    NoneLeft,
-}
-
 // How many whole rows so many words make.
 pub fn rows_in(words: usize) -> u64
     ensures { result ≡ rows_in words }
@@ -96,20 +82,20 @@ pub fn slot_of(table: &[u64], row: u64) -> u64
 }
 
 // Whether a row is mapped, and where.
-pub fn mapping_of(table: &[u64], row: u64) -> Mapping
+pub fn mapping_of(table: &[u64], row: u64) -> Option<HostAddr>
     ensures { result ≡ mapping_of (rows_of table.now) row }
 {
     let found = row_at(table, row);
     let unmapped = found.mapped == 0;
     if unmapped {
-        return Mapping::Unmapped;
+        return None;
     }
     let host = found.host;
-    Mapping::At(host)
+    Some(host)
 }
 
 // The first row from `first` to `last` that is not mapped.
-pub fn first_unmapped(table: &[u64], first: u64, last: u64) -> FirstUnmapped
+pub fn first_unmapped(table: &[u64], first: u64, last: u64) -> Option<u64>
     ensures { result ≡ first_unmapped (rows_of table.now) first last }
 {
     let end = end_of(table, last);
@@ -125,9 +111,9 @@ pub fn first_unmapped(table: &[u64], first: u64, last: u64) -> FirstUnmapped
         row += 1;
     };
     if found < end {
-        FirstUnmapped::Row(found)
+        Some(found)
     } else {
-        FirstUnmapped::NoneLeft
+        None
     }
 }
 

@@ -1,5 +1,6 @@
 -- SPDX-License-Identifier: Apache-2.0 AND BSD-3-Clause
 -- One text for runs that are apart, and one list of runs for a text; and what each step of reading does.
+use Rattle.std.specs.Prelude.{Option, Some, None}
 use Prim.Native.Nat.{ℕ, suc, ◌+◌, ◌-◌, ◌*◌, ◌≤◌, ◌<◌}
 use mathlib.Core.Path.{◌≡◌, refl, ap, ◌∙◌, sym}
 use mathlib.Core.Bool.{Bool, true, false, not}
@@ -15,11 +16,7 @@ use Rattle.bitmap.specs.Blocks.{blocks, Outside, Filled}
 use Rattle.bitmap.proofs.Bytes.{blocks_tell}
 use Rattle.forms.specs.Forms.{holes, filled, filled_from}
 use Rattle.forms.specs.Scanning.{found, lost, byte_then, scan_of, ScannedAt}
-use Rattle.forms.specs.declared.Place.{Place}
-use Rattle.forms.specs.declared.Place.TheVariants as place
 use Rattle.forms.proofs.Laws.{filled_length, opened, scan_written, missing, scan_read, scan_at_found, scan_at_nowhere}
-use Rattle.runs.specs.declared.Counted.{Counted}
-use Rattle.runs.specs.declared.Counted.TheVariants.{Blocks, Bad}
 use Rattle.runs.specs.declared.RunLine.{RunLine}
 use Rattle.runs.specs.declared.RunLine.TheVariants as line
 use Rattle.runs.specs.Runs.{Run, RunsApart, total, laid_on}
@@ -62,18 +59,18 @@ same_runs i j end stop (r ∷ rs) (q ∷ qs) u v a b h =
 
 -- ---- `run_at`
 
-module _ (s : List ℕ) (at : ℕ) {after : List ℕ} {r : Place} (o : ScannedAt (0 ∷ 0 ∷ []) s (scan_of run_line (drop at s)) r after) where
-  pub run_found : (n : ℕ) → r ≡ place.At n → scan_of run_line (drop at s) ≡ found (get_or after 0 0 ∷ get_or after 1 0 ∷ []) (drop n s)
+module _ (s : List ℕ) (at : ℕ) {after : List ℕ} {r : Option ℕ} (o : ScannedAt (0 ∷ 0 ∷ []) s (scan_of run_line (drop at s)) r after) where
+  pub run_found : (n : ℕ) → r ≡ Some n → scan_of run_line (drop at s) ≡ found (get_or after 0 0 ∷ get_or after 1 0 ∷ []) (drop n s)
   unfolding holes
   run_found n e = let f = scan_at_found run_line s at o n e in rw (f.stored 0 refl, f.stored 1 refl) f.is
 
-  pub run_nowhere : r ≡ place.Nowhere → (us rest : List ℕ) → scan_of run_line (drop at s) ≡ found us rest → ⊥
+  pub run_nowhere : r ≡ None → (us rest : List ℕ) → scan_of run_line (drop at s) ≡ found us rest → ⊥
   unfolding holes
   run_nowhere e = scan_at_nowhere run_line s at o e (omega arith)
 
 -- ---- `count_runs`
 
-bad_is : {n : ℕ} → Bad ≡ Blocks n → ⊥
+bad_is : {n : ℕ} → None ≡ Some n → ⊥
 bad_is h = let z : ◌≡◌ {A = ℕ} 0 1 = cc in omega arith
 
 -- a text that starts with no run's line is that of no run, and empty
@@ -83,19 +80,19 @@ no_line from end l h n [] a t = sym t
 no_line from end l h n (r ∷ rs) a t =
     absurd (n _ _ (ap (scan_of run_line) (sym t) ∙ run_written r rs (omega (arith, a.2)) (omega (arith, a.2))))
 
-pub counts_none : (from end sum : ℕ) (l : List ℕ) → end ≤ largest → 0 < length l → ((us rest : List ℕ) → scan_of run_line l ≡ found us rest → ⊥) → Counts from end sum l Bad
+pub counts_none : (from end sum : ℕ) (l : List ℕ) → end ≤ largest → 0 < length l → ((us rest : List ℕ) → scan_of run_line l ≡ found us rest → ⊥) → Counts from end sum l None
 counts_none from end sum l h p n =
     record {
       whole = λ rs a t. let e : length l ≡ 0 = ap length (no_line from end l h n rs a t) in absurd (omega arith);
       only = λ m e. absurd (bad_is e);
     }
 
-pub counts_end : (from end sum : ℕ) → end ≤ largest → Counts from end sum [] (Blocks sum)
+pub counts_end : (from end sum : ℕ) → end ≤ largest → Counts from end sum [] (Some sum)
 unfolding total runs_text
 counts_end from end sum h = record { whole = go; only = λ m e. ([], tt, refl, (let q : sum ≡ m = cc in omega arith)) }
   where
-    go : (rs : List Run) → RunsApart from end rs → runs_text rs ≡ [] → Blocks sum ≡ Blocks (sum + total rs)
-    go [] a t = let z : sum ≡ sum + 0 = omega arith in ap Blocks z
+    go : (rs : List Run) → RunsApart from end rs → runs_text rs ≡ [] → Some sum ≡ Some (sum + total rs)
+    go [] a t = let z : sum ≡ sum + 0 = omega arith in ap Some z
     go (r ∷ rs) a t =
         absurd (missing (sym no_run ∙ ap (scan_of run_line) (sym t) ∙ run_written r rs (omega (arith, a.2)) (omega (arith, a.2))))
 
@@ -124,22 +121,22 @@ module _ (from end sum : ℕ) (l : List ℕ) (h : end ≤ largest) (first count 
       let z : r.first + r.count ≡ first + count = omega arith in
       f rs (ok_run first count from end (omega (arith, a.0)) (omega (arith, a.1)) (omega (arith, a.2))) (rw z at a.3) w (rw y)
 
-  pub counts_bad : run_ok first count from end ≡ false → Counts from end sum l Bad
+  pub counts_bad : run_ok first count from end ≡ false → Counts from end sum l None
   counts_bad n =
       record {
-        whole = λ rs a t. starts (Bad ≡ Blocks (sum + total rs)) rs a t (λ qs y b u v. absurd (let z : ◌≡◌ {A = ℕ} 0 1 = cc in omega arith));
+        whole = λ rs a t. starts (None ≡ Some (sum + total rs)) rs a t (λ qs y b u v. absurd (let z : ◌≡◌ {A = ℕ} 0 1 = cc in omega arith));
         only = λ m q. absurd (bad_is q);
       }
 
-  pub counts_turn : (w : Counted) → run_ok first count from end ≡ true → Counts (suc (first + count)) end (sum + count) rest w → Counts from end sum l w
+  pub counts_turn : (w : Option ℕ) → run_ok first count from end ≡ true → Counts (suc (first + count)) end (sum + count) rest w → Counts from end sum l w
   unfolding total runs_text holes
   counts_turn w y c =
       let o = run_ok_lem first count from end y in
       record {
         whole =
             λ rs a t.
-            starts (w ≡ Blocks (sum + total rs)) rs a t
-            (λ qs y b u v. let z : sum + count + total qs ≡ sum + total rs = omega arith in c.whole qs b u ∙ ap Blocks z);
+            starts (w ≡ Some (sum + total rs)) rs a t
+            (λ qs y b u v. let z : sum + count + total qs ≡ sum + total rs = omega arith in c.whole qs b u ∙ ap Some z);
         only =
             λ m q.
             let d = c.only m q in
@@ -169,7 +166,7 @@ line_bad s l r h e = let g : IsRunLine s l line.Bad = rw e at h in g
 
 -- the loop stands at i of the text, with `sum` blocks in runs that end before block `from`: what is right for the text that is left is right for the whole
 pub record Reading (s : List ℕ) (at end i from sum : ℕ) : Type 0 where
-  pub back : (w : Counted) → Counts from end sum (drop i s) w → Counts 0 end 0 (drop at s) w
+  pub back : (w : Option ℕ) → Counts from end sum (drop i s) w → Counts 0 end 0 (drop at s) w
   pub few : sum ≤ from
   pub inside : from ≤ end + 1
 
@@ -180,16 +177,16 @@ module _ {s : List ℕ} {at end i from sum : ℕ} (h : end ≤ 1099511627776) (o
   left_long : i < length s → 0 < length (drop i s)
   left_long p = let d = length-drop i s in omega arith
 
-  pub read_none : i < length s → (r : RunLine) → IsRunLine s (drop i s) r → r ≡ line.Bad → Counts 0 end 0 (drop at s) Bad
-  read_none p r q e = o.back Bad (counts_none from end sum (drop i s) (omega arith) (left_long p) (line_bad s (drop i s) r q e))
+  pub read_none : i < length s → (r : RunLine) → IsRunLine s (drop i s) r → r ≡ line.Bad → Counts 0 end 0 (drop at s) None
+  read_none p r q e = o.back None (counts_none from end sum (drop i s) (omega arith) (left_long p) (line_bad s (drop i s) r q e))
 
-  pub read_end : length s ≤ i → Counts 0 end 0 (drop at s) (Blocks sum)
-  read_end p = o.back (Blocks sum) (rw (drop_of_length-le s p) (counts_end from end sum (omega arith)))
+  pub read_end : length s ≤ i → Counts 0 end 0 (drop at s) (Some sum)
+  read_end p = o.back (Some sum) (rw (drop_of_length-le s p) (counts_end from end sum (omega arith)))
 
   module _ (r : RunLine) (q : IsRunLine s (drop i s) r) (f c n : ℕ) (e : r ≡ line.At f c n) (g : Bool) (t : g ≡ run_ok f c from end) where
-    pub read_bad : not g ≡ true → Counts 0 end 0 (drop at s) Bad
+    pub read_bad : not g ≡ true → Counts 0 end 0 (drop at s) None
     read_bad u =
-        o.back Bad (counts_bad from end sum (drop i s) (omega arith) f c (drop n s) (line_at s (drop i s) r q f c n e) (refused (run_ok f c from end) g t u))
+        o.back None (counts_bad from end sum (drop i s) (omega arith) f c (drop n s) (line_at s (drop i s) r q f c n e) (refused (run_ok f c from end) g t u))
 
     pub read_sums : not g ≡ false → (sum + c ≤ end) × (f + c ≤ end)
     read_sums u =
@@ -291,10 +288,10 @@ pub lays_once : (l entry xs ys : List ℕ) → ((i : ℕ) → get_or xs i 0 < 25
 lays_once l entry xs ys p q a b =
     blocks_tell xs ys p q (a.as_blocks ∙ ap (λ (rs : List Run). laid_on rs (blocks entry)) (starts_once l a.runs b.runs a.starts b.starts) ∙ sym b.as_blocks)
 
-pub counts_once : (from end sum : ℕ) (l : List ℕ) (a b : Counted) → Counts from end sum l a → Counts from end sum l b → a ≡ b
-counts_once from end sum l (Blocks n) b p q = let o = p.only n refl in ap Blocks o.3 ∙ sym (q.whole o.0 o.1 o.2)
-counts_once from end sum l Bad (Blocks n) p q = let o = q.only n refl in p.whole o.0 o.1 o.2 ∙ ap Blocks (sym o.3)
-counts_once from end sum l Bad Bad p q = refl
+pub counts_once : (from end sum : ℕ) (l : List ℕ) (a b : Option ℕ) → Counts from end sum l a → Counts from end sum l b → a ≡ b
+counts_once from end sum l (Some n) b p q = let o = p.only n refl in ap Some o.3 ∙ sym (q.whole o.0 o.1 o.2)
+counts_once from end sum l None (Some n) p q = let o = q.only n refl in p.whole o.0 o.1 o.2 ∙ ap Some (sym o.3)
+counts_once from end sum l None None p q = refl
 
 -- the loop stands at i of the text: what is right for the text that is left is right for the whole
 pub record Setting (s : List ℕ) (at : ℕ) (entry : List ℕ) (i : ℕ) (cur : List ℕ) : Type 0 where

@@ -1,5 +1,6 @@
 -- SPDX-License-Identifier: Apache-2.0 AND BSD-3-Clause
 -- What each step of writing and of measuring does.
+use Rattle.std.specs.Prelude.{Option, Some, None}
 use Prim.Native.Nat.{ℕ, zero, suc, min, ◌+◌, ◌-◌, ◌≤◌, ◌<◌}
 use mathlib.Core.Path.{◌≡◌, refl, ap, ◌∙◌, sym}
 use mathlib.Core.Bool.{Bool, true, false}
@@ -17,8 +18,6 @@ use Rattle.text.proofs.Puts.{then}
 use Rattle.forms.specs.Forms.{holes}
 use Rattle.forms.proofs.Laws.{filled_length}
 use Rattle.bitmap.specs.Blocks.{block_at, every, range, all_are, next_in_state}
-use Rattle.bitmap.specs.declared.Found.{Found}
-use Rattle.bitmap.specs.declared.Found.TheVariants as found
 use Rattle.bitmap.proofs.Laws.{range-take, range_length, next_at, next_nothing}
 use Rattle.runs.specs.declared.NextRun.{NextRun}
 use Rattle.runs.specs.declared.NextRun.TheVariants as run
@@ -50,7 +49,7 @@ past_end [] i h = refl
 past_end (c ∷ cs) zero h = absurd (omega arith)
 past_end (c ∷ cs) (suc i) h = past_end cs i (omega arith)
 
-pub stop_after : (bs : List Bool) (end first : ℕ) (r : Found) → r ≡ next_in_state false bs first end → (stop : ℕ) → r ≡ found.At stop → first ≤ stop
+pub stop_after : (bs : List Bool) (end first : ℕ) (r : Option ℕ) → r ≡ next_in_state false bs first end → (stop : ℕ) → r ≡ Some stop → first ≤ stop
 stop_after bs end first r e stop q = (next_at false bs first end stop (sym e ∙ q)).from_on
 
 pub room_after : (bs : List Bool) (end first : ℕ) → first < length (take end bs) → (n : ℕ) → n ≡ min end (length bs) → first ≤ n
@@ -60,7 +59,7 @@ module _ (bs : List Bool) (end first : ℕ) (there : first < length (take end bs
   short : length (take end bs) ≡ min end (length bs)
   short = first_length bs end
 
-  pub row_stops : (r : Found) → r ≡ next_in_state false bs first end → (stop : ℕ) → r ≡ found.At stop → InARow (take end bs) first (stop - first)
+  pub row_stops : (r : Option ℕ) → r ≡ next_in_state false bs first end → (stop : ℕ) → r ≡ Some stop → InARow (take end bs) first (stop - first)
   row_stops r e stop q =
       let low = next_at false bs first end stop (sym e ∙ q) in
       let a = low.from_on in
@@ -75,7 +74,7 @@ module _ (bs : List Bool) (end first : ℕ) (there : first < length (take end bs
         ends = rw z (block_of bs end stop b ∙ low.found);
       }
 
-  pub row_ends : (r : Found) → r ≡ next_in_state false bs first end → r ≡ found.Nothing → (n : ℕ) → n ≡ min end (length bs) → InARow (take end bs) first (n - first)
+  pub row_ends : (r : Option ℕ) → r ≡ next_in_state false bs first end → r ≡ None → (n : ℕ) → n ≡ min end (length bs) → InARow (take end bs) first (n - first)
   row_ends r e q n k =
       let s = short in
       let z : first + (n - first) ≡ length (take end bs) = omega arith in
@@ -98,8 +97,8 @@ run_closes cs i n e =
     (λ t. let d = drop-cons cs i false (ltb-true i (length cs) t) in rw (d, e))
     (λ t. let d = drop_of_length-le cs {i = i} (ltb-false i (length cs) t) in rw d)
 
-module _ (bs : List Bool) (end from : ℕ) (r : Found) (e : r ≡ next_in_state true bs from end) where
-  pub next_found : (first n : ℕ) → r ≡ found.At first → (first < length (take end bs)) × (InARow (take end bs) first n → IsNext (take end bs) from (run.At first n))
+module _ (bs : List Bool) (end from : ℕ) (r : Option ℕ) (e : r ≡ next_in_state true bs from end) where
+  pub next_found : (first n : ℕ) → r ≡ Some first → (first < length (take end bs)) × (InARow (take end bs) first n → IsNext (take end bs) from (run.At first n))
   next_found first n q =
       let cs = take end bs in
       let low = next_at true bs from end first (sym e ∙ q) in
@@ -134,7 +133,7 @@ module _ (bs : List Bool) (end from : ℕ) (r : Found) (e : r ≡ next_in_state 
       not_none cs first zero p q = let w : first + 0 ≡ first = omega arith in let u : true ≡ false = sym p ∙ ap (block_at cs) (sym w) ∙ q in let k : ◌≡◌ {A = ℕ} 0 1 = cc in absurd (omega arith)
       not_none cs first (suc n) p q = omega arith
 
-  pub next_none : r ≡ found.Nothing → runs_from from 0 (drop from (take end bs)) ≡ []
+  pub next_none : r ≡ None → runs_from from 0 (drop from (take end bs)) ≡ []
   unfolding closed
   next_none q =
       let cs = take end bs in

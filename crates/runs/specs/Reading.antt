@@ -1,12 +1,10 @@
 -- SPDX-License-Identifier: Apache-2.0 AND BSD-3-Clause
 -- What counting the runs of a text, and laying them on a bitmap, promise.
-use Rattle.std.specs.Prelude.{ℕ, ◌+◌, ◌≡◌, Bool, ◌&&◌, List, [], ◌∷◌, leb, ltb, length, drop}
+use Rattle.std.specs.Prelude.{ℕ, ◌+◌, ◌≡◌, Bool, ◌&&◌, List, [], ◌∷◌, leb, ltb, length, drop, Option, Some}
 use Rattle.bitmap.specs.Blocks.{blocks, Outside}
 use Rattle.forms.specs.Scanning.{found, scan_of}
 use Rattle.runs.specs.declared.RunLine.{RunLine}
 use Rattle.runs.specs.declared.RunLine.TheVariants as line
-use Rattle.runs.specs.declared.Counted.{Counted}
-use Rattle.runs.specs.declared.Counted.TheVariants.{Blocks}
 use Rattle.runs.specs.Runs.{Run, RunsApart, total, laid_on}
 use Rattle.runs.specs.Text.{run_line, runs_text}
 
@@ -19,9 +17,9 @@ unfoldable pub run_ok : (first count from end : ℕ) → Bool
 run_ok first count from end = leb from first && (ltb 0 count && leb (first + count) end)
 
 -- l is the text of runs that are apart, from block `from` on and none past `end`, and w counts their blocks on from `sum`; or it is no such text
-pub record Counts (from end sum : ℕ) (l : List ℕ) (w : Counted) : Type 0 where
-  pub whole : (rs : List Run) → RunsApart from end rs → runs_text rs ≡ l → w ≡ Blocks (sum + total rs)
-  pub only : (n : ℕ) → w ≡ Blocks n → (rs : List Run) × RunsApart from end rs × (runs_text rs ≡ l) × (n ≡ sum + total rs)
+pub record Counts (from end sum : ℕ) (l : List ℕ) (w : Option ℕ) : Type 0 where
+  pub whole : (rs : List Run) → RunsApart from end rs → runs_text rs ≡ l → w ≡ Some (sum + total rs)
+  pub only : (n : ℕ) → w ≡ Some n → (rs : List Run) × RunsApart from end rs × (runs_text rs ≡ l) × (n ≡ sum + total rs)
 
 -- the runs with whose lines a text starts, up to where no run's line follows
 abbrev pub Starts : List ℕ → List Run → Type 0

@@ -12,8 +12,7 @@ ghost use Rattle.runs.specs.Text.{line_of, runs_text};
 ghost use Rattle.runs.specs.Next.{InARow, IsNext};
 ghost use Rattle.runs.specs.Reading.{IsRunLine, run_ok, Counts, Lays};
 
-use bitmap::{Found, next_clear, next_set};
-use forms::Place;
+use bitmap::{next_clear, next_set};
 use units::{saturating_add, sum_within};
 
 // How many bytes a run's line has room for: more than any has.
@@ -39,8 +38,8 @@ fn count_from(bitmap: &[u8], first: usize, end: usize) -> usize
     ensures { InARow (take end (blocks bitmap.now)) first result }
 {
     match next_clear(bitmap, first, end) {
-        Found::At(stop) => stop - first,
-        Found::Nothing => blocks_within(bitmap.len(), end) - first,
+        Some(stop) => stop - first,
+        None => blocks_within(bitmap.len(), end) - first,
     }
 }
 
@@ -49,7 +48,7 @@ fn count_from(bitmap: &[u8], first: usize, end: usize) -> usize
 fn next_run(bitmap: &[u8], from: usize, end: usize) -> NextRun
     ensures { IsNext (take end (blocks bitmap.now)) from result }
 {
-    let Found::At(first) = next_set(bitmap, from, end) else {
+    let Some(first) = next_set(bitmap, from, end) else {
         return NextRun::Nothing;
     };
     NextRun::At {
@@ -106,19 +105,12 @@ enum RunLine {
     Bad,
 }
 
-// How many blocks the runs of a text have.
-#[derive(Clone, Copy)]
-pub enum Counted {
-    Blocks(u64),
-    Bad,
-}
-
 // The run's line at a position of a text.
 fn run_at(s: &[u8], at: usize) -> RunLine
     ensures { IsRunLine s.now (drop at s.now) result }
 {
     let mut v = [0u64; 2];
-    let Place::At(next) = forms::scan_at(s, at, b"run=#,#\n", &mut v) else {
+    let Some(next) = forms::scan_at(s, at, b"run=#,#\n", &mut v) else {
         return RunLine::Bad;
     };
     RunLine::At {
@@ -137,7 +129,7 @@ fn run_ok(first: u64, count: u64, from: u64, end: u64) -> bool
 
 // Whether the text from a position on is that of runs that neither touch nor fall back, none past block `end`; and
 // how many blocks they have.
-pub fn count_runs(s: &[u8], at: usize, end: u32) -> Counted
+pub fn count_runs(s: &[u8], at: usize, end: u32) -> Option<u64>
     ensures { Counts 0 end 0 (drop at s.now) result }
 {
     let mut i = at;
@@ -145,16 +137,16 @@ pub fn count_runs(s: &[u8], at: usize, end: u32) -> Counted
     let mut sum = 0;
     while i < s.len() {
         let RunLine::At { first, count, next } = run_at(s, i) else {
-            return Counted::Bad;
+            return None;
         };
         if !run_ok(first, count, from, end as u64) {
-            return Counted::Bad;
+            return None;
         }
         sum += count;
         from = first + count + 1;
         i = next;
     }
-    Counted::Blocks(sum)
+    Some(sum)
 }
 
 // Sets the blocks of the runs that stand in a text from a position on.

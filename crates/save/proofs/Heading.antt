@@ -1,5 +1,6 @@
 -- SPDX-License-Identifier: Apache-2.0 AND BSD-3-Clause
 -- The head of a text, and the whole of it.
+use Rattle.std.specs.Prelude.{Option, Some, None}
 use Prim.Native.Nat.{ℕ, ◌≤◌, ◌<◌}
 use mathlib.Core.Path.{◌≡◌, refl, ap, ◌∙◌, sym}
 use mathlib.Core.Bool.{Bool, false}
@@ -10,8 +11,6 @@ use lib.Dec.{ltb}
 use lib.ListN.{length, drop, get_or}
 use Rattle.forms.specs.Forms.{holes, filled}
 use Rattle.forms.specs.Scanning.{Scan, found, lost, scan_of, ScannedAt}
-use Rattle.forms.specs.declared.Place.{Place}
-use Rattle.forms.specs.declared.Place.TheVariants as place
 use Rattle.forms.proofs.Laws.{scan_read, scan_at_found, scan_at_nowhere}
 use Rattle.save.specs.declared.Fields.{Fields}
 use Rattle.save.specs.declared.Head.{Head}
@@ -26,26 +25,26 @@ use Rattle.save.proofs.Text.{says_form, fields_written, fields_are, state_words,
 
 -- ---- `fields_at`
 
-module _ (s : List ℕ) (at : ℕ) {after : List ℕ} {r : Place} (o : ScannedAt (0 ∷ 0 ∷ 0 ∷ 0 ∷ 0 ∷ []) s (scan_of (field_lines 2) (drop at s)) r after) where
-  pub fields_found : (n : ℕ) → r ≡ place.At n
+module _ (s : List ℕ) (at : ℕ) {after : List ℕ} {r : Option ℕ} (o : ScannedAt (0 ∷ 0 ∷ 0 ∷ 0 ∷ 0 ∷ []) s (scan_of (field_lines 2) (drop at s)) r after) where
+  pub fields_found : (n : ℕ) → r ≡ Some n
       → (scan_of (field_lines 2) (drop at s) ≡ found (get_or after 0 0 ∷ get_or after 1 0 ∷ get_or after 2 0 ∷ get_or after 3 0 ∷ get_or after 4 0 ∷ []) (drop n s)) × (n ≤ length s)
   unfolding holes
   fields_found n e =
       let f = scan_at_found (field_lines 2) s at o n e in
       (rw (f.stored 0 refl, f.stored 1 refl, f.stored 2 refl, f.stored 3 refl, f.stored 4 refl) f.is, f.inside)
 
-  pub fields_nowhere : r ≡ place.Nowhere → (us rest : List ℕ) → scan_of (field_lines 2) (drop at s) ≡ found us rest → ⊥
+  pub fields_nowhere : r ≡ None → (us rest : List ℕ) → scan_of (field_lines 2) (drop at s) ≡ found us rest → ⊥
   unfolding holes
   fields_nowhere e = scan_at_nowhere (field_lines 2) s at o e (omega arith)
 
 -- ---- `head_of`
 
-module _ (s : List ℕ) {after : List ℕ} {r : Place} (o : ScannedAt (0 ∷ []) s (scan_of form_line s) r after) where
-  pub form_found : (n : ℕ) → r ≡ place.At n → scan_of form_line s ≡ found (get_or after 0 0 ∷ []) (drop n s)
+module _ (s : List ℕ) {after : List ℕ} {r : Option ℕ} (o : ScannedAt (0 ∷ []) s (scan_of form_line s) r after) where
+  pub form_found : (n : ℕ) → r ≡ Some n → scan_of form_line s ≡ found (get_or after 0 0 ∷ []) (drop n s)
   unfolding holes
   form_found n e = let f = scan_at_found form_line s 0 o n e in rw (f.stored 0 refl) f.is
 
-  pub form_nowhere : r ≡ place.Nowhere → (us rest : List ℕ) → scan_of form_line s ≡ found us rest → ⊥
+  pub form_nowhere : r ≡ None → (us rest : List ℕ) → scan_of form_line s ≡ found us rest → ⊥
   unfolding holes
   form_nowhere e = scan_at_nowhere form_line s 0 o e (omega arith)
 

@@ -1,5 +1,6 @@
 -- SPDX-License-Identifier: Apache-2.0 AND BSD-3-Clause
 -- `runs_of`: the fields and the runs of a text make a state, or no state has them.
+use Rattle.std.specs.Prelude.{Option, Some, None}
 use Prim.Native.Nat.{ℕ, suc, ◌+◌, ◌-◌, ◌*◌, ◌≤◌}
 use mathlib.Core.Path.{◌≡◌, refl, ap, ◌∙◌, sym}
 use mathlib.Core.Bool.{Bool, true, false, not}
@@ -12,8 +13,6 @@ use Rattle.units.proofs.Tests.{refused}
 use Rattle.units.specs.Numbers.{blocks_in}
 use Rattle.bitmap.specs.Blocks.{ones, all_are}
 use Rattle.save.specs.declared.Fields.{Fields}
-use Rattle.runs.specs.declared.Counted.{Counted}
-use Rattle.runs.specs.declared.Counted.TheVariants.{Blocks, Bad}
 use Rattle.runs.specs.Runs.{Run, runs_of, spread, RunsApart, total}
 use Rattle.runs.specs.Text.{runs_text}
 use Rattle.runs.specs.Reading.{Counts}
@@ -26,10 +25,10 @@ later : (i end stop : ℕ) (rs : List Run) → end ≤ stop → RunsApart i end 
 later i end stop [] h a = tt
 later i end stop (r ∷ rs) h a = (a.0, a.1, omega (arith, a.2), later (suc (r.first + r.count)) end stop rs h a.3)
 
-bad_is : {n : ℕ} → Bad ≡ Blocks n → ⊥
+bad_is : {n : ℕ} → None ≡ Some n → ⊥
 bad_is h = let z : ◌≡◌ {A = ℕ} 0 1 = cc in omega arith
 
-blocks_is : {m n : ℕ} → Blocks m ≡ Blocks n → m ≡ n
+blocks_is : {m n : ℕ} → Some m ≡ Some n → m ≡ n
 blocks_is h = cc
 
 -- the state of runs
@@ -80,14 +79,14 @@ module _ (f : Fields) (end : ℕ) (s : shape_ok f ≡ true) (u : end ≡ used_of
       runs_inside bs end (omega arith) p
 
   -- `end` as the code hands it on
-  module _ (e : ℕ) (same : e ≡ end) (l : List ℕ) (w : Counted) (c : Counts 0 e 0 l w) where
+  module _ (e : ℕ) (same : e ≡ end) (l : List ℕ) (w : Option ℕ) (c : Counts 0 e 0 l w) where
     counts : Counts 0 end 0 l w
     counts = rw same at c
 
-    pub laid_bad : w ≡ Bad → No f l
+    pub laid_bad : w ≡ None → No f l
     laid_bad q = (refl, λ bs st t. bad_is (sym q ∙ counts.whole (runs_of bs) (state_runs bs st) t))
 
-    module _ (n plugged : ℕ) (q : w ≡ Blocks n) (v : plugged ≡ blocks_in f.block f.plugged) where
+    module _ (n plugged : ℕ) (q : w ≡ Some n) (v : plugged ≡ blocks_in f.block f.plugged) where
       pub laid_other : (plugged ≡ n → ⊥) → No f l
       laid_other d = (
         refl,

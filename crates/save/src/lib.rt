@@ -9,8 +9,7 @@ ghost use Rattle.save.specs.Text.{shape_ok, head_text};
 ghost use Rattle.save.specs.Writing.{valid_in, length_of, Writes};
 ghost use Rattle.save.specs.Reading.{IsRuns, IsFields, IsHead, Checks, ReadsState};
 
-use forms::Place;
-use runs::{Counted, count_runs, lay_runs, put_runs, runs_length};
+use runs::{count_runs, lay_runs, put_runs, runs_length};
 use units::{GuestAddr, MemTool};
 use wire::VirtioMemConfig;
 
@@ -152,7 +151,7 @@ fn runs_of(f: Fields, s: &[u8], at: usize) -> Checked
         return Checked::Refused(18);
     }
     let end = MemTool::blocks_in(f.usable, f.block);
-    let Counted::Blocks(n) = count_runs(s, at, end as u32) else {
+    let Some(n) = count_runs(s, at, end as u32) else {
         return Checked::Refused(18);
     };
     let plugged = MemTool::blocks_in(f.plugged, f.block);
@@ -177,7 +176,7 @@ fn fields_at(s: &[u8], at: usize) -> Head
     ensures { IsFields s.now (drop at s.now) result }
 {
     let mut v = [0u64; 5];
-    let Place::At(next) = forms::scan_at(
+    let Some(next) = forms::scan_at(
         s,
         at,
         b"start=#\nregion=#\nrequested=#\nusable=#\nplugged=#\n",
@@ -201,7 +200,7 @@ fn head_of(s: &[u8]) -> Head
     ensures { IsHead s.now result }
 {
     let mut v = [0u64; 1];
-    let Place::At(at) = forms::scan_at(s, 0, b"form=#\n", &mut v) else {
+    let Some(at) = forms::scan_at(s, 0, b"form=#\n", &mut v) else {
         return Head::Refused(18);
     };
     let form = v[0];

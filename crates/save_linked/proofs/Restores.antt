@@ -1,12 +1,11 @@
 -- SPDX-License-Identifier: Apache-2.0 AND BSD-3-Clause
 -- A restore by the library is a restore of the definition's run: the words that it leaves mean the restored record, and the bitmap the blocks of the text's runs.
+use Rattle.std.specs.Prelude.{Option, Some, None}
 use Prim.Native.Nat.{ℕ}
 use mathlib.Core.Path.{◌≡◌, refl, ap, ◌∙◌}
 use mathlib.Core.List.{List}
 use Rattle.record.specs.declared.Device.{Device}
 use Rattle.step.specs.World.{World, Call, Outcome, world_of}
-use Rattle.words.specs.declared.Decoded.{Decoded}
-use Rattle.words.specs.declared.Decoded.TheVariants.{Is, NoRecord}
 use Rattle.words.specs.Record.{decoded_of}
 use Rattle.words.proofs.Laws.{reads_back}
 use Rattle.history.specs.History.{Story, after}
@@ -42,7 +41,7 @@ module _ (h : Held) (s : Story) (m : Means h s.world) (reached : Reached s) (tex
       let plugs = plugs_of (runs_of r.bs) in
       let h' = held_then h words' bitmap' in
       let starts = restore_starts here d' text h.bitmap bitmap' h.table r in
-      let decodes : decoded_of words' ≡ Is d' = ap decoded_of recorded ∙ reads_back h.words here m.decodes d' (ap (λ (d : Device). d.config.node_id) r.device) in
+      let decodes : decoded_of words' ≡ Some d' = ap decoded_of recorded ∙ reads_back h.words here m.decodes d' (ap (λ (d : Device). d.config.node_id) r.device) in
       let left : Means h' (world_of d' bitmap' h.table) = record { decodes = decodes; marked = refl; mapped = refl } in
       let leads : world_of d' bitmap' h.table ≡ after_restore s.world f.requested plugs = starts.leads ∙ ap (λ (w : World). after_restore w f.requested plugs) same_world in
       let means : Means h' (after_restore s.world f.requested plugs) = rw leads at left in
@@ -93,6 +92,6 @@ refused_restore_changes_nothing text words words' bitmap bitmap' number t refuse
     of d (Laid d') r e w = absurd (refused e)
     of d (Refused k) r e w = record { same_words = w; same_bitmap = r.same }
 
-    go : (r : Decoded) → RestoresFrom r text words words' bitmap bitmap' number → RestoreUntouched words words' bitmap bitmap'
-    go (Is d) l = of d l.answer l.restores l.numbered l.recorded
-    go NoRecord l = record { same_words = l.recorded; same_bitmap = l.marked }
+    go : (r : Option Device) → RestoresFrom r text words words' bitmap bitmap' number → RestoreUntouched words words' bitmap bitmap'
+    go (Some d) l = of d l.answer l.restores l.numbered l.recorded
+    go None l = record { same_words = l.recorded; same_bitmap = l.marked }

@@ -1,13 +1,13 @@
 -- SPDX-License-Identifier: Apache-2.0 AND BSD-3-Clause
 -- Each promise leaves one outcome, bytes included: the number, and what stands in each lent slice.
+use Rattle.record.specs.declared.Device.{Device}
+use Rattle.std.specs.Prelude.{Option, Some, None}
 use Prim.Native.Nat.{ℕ, ◌<◌}
 use mathlib.Core.Path.{◌≡◌, ap, ◌∙◌, sym}
 use mathlib.Core.Bool.{Bool, true, false, ◌&&◌}
 use mathlib.Core.List.{List}
 use lib.Dec.{leb}
 use lib.ListN.{length, get_or}
-use Rattle.words.specs.declared.Decoded.{Decoded}
-use Rattle.words.specs.declared.Decoded.TheVariants.{Is, NoRecord}
 use Rattle.words.specs.Record.{decoded_of}
 use Rattle.save.specs.declared.Fields.{Fields}
 use Rattle.save.specs.declared.Wrote.{Wrote}
@@ -27,15 +27,15 @@ save_told_once words bitmap text len xs ys us vs m n x y =
 
 -- the bytes of a bitmap are below 256, as its type says
 module _ (bitmap xs ys : List ℕ) (p : (i : ℕ) → get_or xs i 0 < 256) (q : (i : ℕ) → get_or ys i 0 < 256) where
-  laid_once : (r : Decoded) (text words us vs : List ℕ) (m n : ℕ) → RestoresFrom r text words us bitmap xs m → RestoresFrom r text words vs bitmap ys n → (m ≡ n) × (us ≡ vs) × (xs ≡ ys)
+  laid_once : (r : Option Device) (text words us vs : List ℕ) (m n : ℕ) → RestoresFrom r text words us bitmap xs m → RestoresFrom r text words vs bitmap ys n → (m ≡ n) × (us ≡ vs) × (xs ≡ ys)
   unfolding RestoresFrom
-  laid_once (Is d) text words us vs m n x y =
+  laid_once (Some d) text words us vs m n x y =
       let o = restores_once d text bitmap xs ys x.answer y.answer p q x.restores y.restores in (
         x.numbered ∙ ap (λ (r : Restored). restored_number r) o.0 ∙ sym y.numbered,
         x.recorded ∙ ap (λ (r : Restored). restored_words r words) o.0 ∙ sym y.recorded,
         o.1,
       )
-  laid_once NoRecord text words us vs m n x y =
+  laid_once None text words us vs m n x y =
       (x.numbered ∙ sym y.numbered, x.recorded ∙ sym y.recorded, x.marked ∙ sym y.marked)
 
   pub restore_told_once : (text words us vs : List ℕ) (m n : ℕ) → RestoreTold text words us bitmap xs m → RestoreTold text words vs bitmap ys n → (m ≡ n) × (us ≡ vs) × (xs ≡ ys)

@@ -1,5 +1,6 @@
 -- SPDX-License-Identifier: Apache-2.0 AND BSD-3-Clause
 -- The ways that a call ends in: no room, no record, a refusal, or what it gives.
+use Rattle.std.specs.Prelude.{Option, Some, None}
 use Prim.Native.Nat.{ℕ, ◌≤◌, ◌<◌}
 use mathlib.Core.Path.{◌≡◌, refl, ◌∙◌, sym}
 use mathlib.Core.List.{List, [], ◌∷◌}
@@ -7,8 +8,6 @@ use lib.ListN.{length}
 use borrow.Author.Tests.{le-leb, lt-leb}
 use Rattle.little_endian.specs.Bytes.{put}
 use Rattle.record.specs.declared.Device.{Device}
-use Rattle.words.specs.declared.Decoded.{Decoded}
-use Rattle.words.specs.declared.Decoded.TheVariants.{Is, NoRecord}
 use Rattle.words.specs.Record.{words_of, decoded_of}
 use Rattle.save.specs.declared.Fields.{Fields}
 use Rattle.save.specs.declared.Wrote.{Wrote}
@@ -40,19 +39,19 @@ module _ (words bitmap len : List ℕ) where
   pub save_no_room : (text : List ℕ) → length len < 1 → SaveTold words bitmap text text len len 18
   save_no_room text h = let t = lt-leb 1 (length len) h in record { told = rw t (record { numbered = refl; told = refl }); buffer = rw t }
 
-  module _ (h : 1 ≤ length len) (r : Decoded) (e : r ≡ decoded_of words) where
-    pub length_foreign : r ≡ NoRecord → WroteTold (length_from words bitmap len) len len 12
+  module _ (h : 1 ≤ length len) (r : Option Device) (e : r ≡ decoded_of words) where
+    pub length_foreign : r ≡ None → WroteTold (length_from words bitmap len) len len 12
     unfolding on_record
     length_foreign q = let t = le-leb 1 (length len) h in let k = sym e ∙ q in rw (t, k) (record { numbered = refl; told = refl })
 
-    pub save_foreign : (text : List ℕ) → r ≡ NoRecord → SaveTold words bitmap text text len len 12
+    pub save_foreign : (text : List ℕ) → r ≡ None → SaveTold words bitmap text text len len 12
     unfolding on_record
     save_foreign text q =
         let t = le-leb 1 (length len) h in
         let k = sym e ∙ q in
         record { told = rw (t, k) (record { numbered = refl; told = refl }); buffer = rw (t, k) }
 
-    module _ (d : Device) (q : r ≡ Is d) (w : Wrote) (len' : List ℕ) (number : ℕ) (o : WroteTold w len len' number) where
+    module _ (d : Device) (q : r ≡ Some d) (w : Wrote) (len' : List ℕ) (number : ℕ) (o : WroteTold w len len' number) where
       pub length_told : w ≡ saved_length d bitmap → WroteTold (length_from words bitmap len) len len' number
       unfolding on_record
       length_told p =
@@ -72,12 +71,12 @@ module _ (words bitmap len : List ℕ) where
 
 -- ---- `tell_restore`
 
-module _ (text words bitmap : List ℕ) (r : Decoded) (e : r ≡ decoded_of words) where
-  pub restore_foreign : r ≡ NoRecord → RestoreTold text words words bitmap bitmap 12
+module _ (text words bitmap : List ℕ) (r : Option Device) (e : r ≡ decoded_of words) where
+  pub restore_foreign : r ≡ None → RestoreTold text words words bitmap bitmap 12
   unfolding RestoresFrom
   restore_foreign q = let k = sym e ∙ q in rw k (record { numbered = refl; recorded = refl; marked = refl })
 
-  module _ (d : Device) (q : r ≡ Is d) (bitmap' : List ℕ) (a : Restored) (h : RestoresText d text bitmap bitmap' a) where
+  module _ (d : Device) (q : r ≡ Some d) (bitmap' : List ℕ) (a : Restored) (h : RestoresText d text bitmap bitmap' a) where
     pub restore_refused : (n : ℕ) → a ≡ restored.Refused n → RestoreTold text words words bitmap bitmap' n
     unfolding RestoresFrom
     restore_refused n p = let k = sym e ∙ q in rw k (record { answer = a; restores = h; numbered = rw p; recorded = rw p })

@@ -1,10 +1,8 @@
 -- SPDX-License-Identifier: Apache-2.0 AND BSD-3-Clause
 -- What saving, restoring and the moves leave in the words that they were lent (R19.7).
-use Rattle.std.specs.Prelude.{ℕ, ◌≡◌, Bool, true, false, cond, ◌&&◌, List, [], ◌∷◌, leb, length, get_or}
+use Rattle.std.specs.Prelude.{ℕ, ◌≡◌, Bool, true, false, cond, ◌&&◌, List, [], ◌∷◌, leb, length, get_or, Option, Some, None}
 use Rattle.little_endian.specs.Bytes.{put}
 use Rattle.record.specs.declared.Device.{Device}
-use Rattle.words.specs.declared.Decoded.{Decoded}
-use Rattle.words.specs.declared.Decoded.TheVariants.{Is, NoRecord}
 use Rattle.words.specs.Record.{words_of, decoded_of}
 use Rattle.save.specs.declared.Fields.{Fields}
 use Rattle.save.specs.declared.Wrote.{Wrote}
@@ -45,9 +43,9 @@ pub record WroteTold (w : Wrote) (length length' : List ℕ) (number : ℕ) : Ty
   pub told : length' ≡ wrote_words w length
 
 -- R19.7: 18 where there is no room for the length; R19.2: 12 for words that are no record
-unfoldable pub on_record : Decoded → (Device → Wrote) → Wrote
-on_record (Is d) call = call d
-on_record NoRecord call = Refused 12
+unfoldable pub on_record : Option Device → (Device → Wrote) → Wrote
+on_record (Some d) call = call d
+on_record None call = Refused 12
 
 abbrev pub if_room : (n : ℕ) (words : List ℕ) → Wrote → Wrote
 if_room n words w = cond (leb n (length words)) w (Refused 18)
@@ -59,9 +57,9 @@ abbrev pub saved_from : (words bitmap text length : List ℕ) → Wrote
 saved_from words bitmap text len = if_room 1 len (on_record (decoded_of words) (λ d. saved_of d bitmap (length text)))
 
 -- the text of the record in the words, where there is one
-unfoldable pub text_from : Decoded → (bitmap : List ℕ) → List ℕ
-text_from (Is d) bitmap = text_in (fields_in d) bitmap
-text_from NoRecord bitmap = []
+unfoldable pub text_from : Option Device → (bitmap : List ℕ) → List ℕ
+text_from (Some d) bitmap = text_in (fields_in d) bitmap
+text_from None bitmap = []
 
 pub record SaveTold (words bitmap text text' length length' : List ℕ) (number : ℕ) : Type 0 where
   pub told : WroteTold (saved_from words bitmap text length) length length' number
@@ -89,9 +87,9 @@ pub record RefusesNoRecord (words words' bitmap bitmap' : List ℕ) (number : �
   pub recorded : words' ≡ words
   pub marked : bitmap' ≡ bitmap
 
-unfoldable pub RestoresFrom : Decoded → (text words words' bitmap bitmap' : List ℕ) → ℕ → Type 0
-RestoresFrom (Is d) text words words' bitmap bitmap' number = RestoresRecord d text words words' bitmap bitmap' number
-RestoresFrom NoRecord text words words' bitmap bitmap' number = RefusesNoRecord words words' bitmap bitmap' number
+unfoldable pub RestoresFrom : Option Device → (text words words' bitmap bitmap' : List ℕ) → ℕ → Type 0
+RestoresFrom (Some d) text words words' bitmap bitmap' number = RestoresRecord d text words words' bitmap bitmap' number
+RestoresFrom None text words words' bitmap bitmap' number = RefusesNoRecord words words' bitmap bitmap' number
 
 abbrev pub RestoreTold : (text words words' bitmap bitmap' : List ℕ) → ℕ → Type 0
 RestoreTold text words words' bitmap bitmap' number = RestoresFrom (decoded_of words) text words words' bitmap bitmap' number

@@ -11,7 +11,7 @@ ghost use Rattle.save_words.specs.Told.{WroteTold, SaveTold, RestoreTold, ToNewT
 use old_form::{to_new, to_old};
 use save::{Fields, Got, Wrote};
 use saving::Restored;
-use words::{Decoded, decode, encode, write_words};
+use words::{decode, encode, write_words};
 
 // The fields' length in words: block size, start, region, requested, usable and plugged size.
 const FIELDS_WORDS: usize = 6;
@@ -56,7 +56,7 @@ pub fn tell_save_length(words: &[u64], bitmap: &[u8], length: &mut [u64]) -> u64
     if length.len() < LENGTH_WORDS {
         return 18;
     }
-    let Decoded::Is(d) = decode(words) else {
+    let Some(d) = decode(words) else {
         return 12;
     };
     let w = saving::save_length(d, bitmap);
@@ -71,7 +71,7 @@ pub fn tell_save(words: &[u64], bitmap: &[u8], text: &mut [u8], length: &mut [u6
     if length.len() < LENGTH_WORDS {
         return 18;
     }
-    let Decoded::Is(d) = decode(words) else {
+    let Some(d) = decode(words) else {
         return 12;
     };
     let w = saving::save(d, bitmap, text);
@@ -83,7 +83,7 @@ pub fn tell_restore(words: &mut [u64], bitmap: &mut [u8], text: &[u8]) -> u64
     ensures { RestoreTold text.now words.old words.new
         bitmap.old bitmap.new result }
 {
-    let Decoded::Is(d) = decode(&words[..]) else {
+    let Some(d) = decode(&words[..]) else {
         return 12;
     };
     match saving::restore(d, bitmap, text) {

@@ -2,7 +2,7 @@
 // Where a text or old bytes can first no longer be those of a state, and why. This explains, and decides nothing:
 // whether they are refused, and as which number, the crates `save` and `old_form` say.
 use super::saying::behind;
-use forms::{Place, scan_at};
+use forms::scan_at;
 use save::Fields;
 use std::num::wrapping_add_u64;
 use units::{MemTool, sum_within};
@@ -208,7 +208,7 @@ fn line_wrong(seen: Seen, line: &[u8]) -> Found {
 ",
         key,
     );
-    let Place::At(end) = scan_at(line, 0, form, &mut v) else {
+    let Some(end) = scan_at(line, 0, form, &mut v) else {
         return report(seen.line, key, 0, 0);
     };
     if end < line.len() {

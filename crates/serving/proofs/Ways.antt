@@ -1,5 +1,6 @@
 -- SPDX-License-Identifier: Apache-2.0 AND BSD-3-Clause
 -- What the ways through a request come to: each lemma takes what the code knows on a way and shows the leaf of `Step.antt` there.
+use Rattle.std.specs.Prelude.{Option, Some, None}
 use Prim.Native.Nat.{ℕ, suc, ◌+◌, ◌≤◌, ◌<◌}
 use mathlib.Core.Path.{◌≡◌, refl, sym, ap, ◌∙◌}
 use mathlib.Core.Bool.{Bool, true, false, cond}
@@ -10,8 +11,6 @@ use borrow.Author.Tests.{lt-ltb, le-ltb, lt-leb, le-leb, leb-true, leb-false, ne
 use Rattle.units.specs.Numbers.{top, bytes_of, blocks_in}
 use Rattle.units.specs.declared.RegionOffset.{RegionOffset}
 use Rattle.units.specs.declared.HostAddr.{HostAddr}
-use Rattle.bitmap.specs.declared.Found.{Found}
-use Rattle.bitmap.specs.declared.Found.TheVariants.{At, Nothing as NoneSet}
 use Rattle.bitmap.specs.Blocks.{blocks, block_at, next_set, Filled}
 use Rattle.bitmap.proofs.Laws.{next_at}
 use Rattle.rows.specs.Rows.{rows_of}
@@ -154,20 +153,20 @@ module _ (d : Device) (bitmap table : List ℕ) (shape : shaped_of d ≡ true) (
           rw (by_host, legal) (answers _ _ (e ∙ ap (λ n. asked d (DiscardOne block (record { 0 = status })) (record { 0 = bytes_of d.config.block_size block }) n host) same) refl refl)
 
   -- the next block of an unplug-all
-  module _ (from last : ℕ) (last-is : last ≡ blocks_in d.config.block_size d.config.region_size) (found : Found) (found-is : found ≡ next_set (blocks bitmap) from last) where
+  module _ (from last : ℕ) (last-is : last ≡ blocks_in d.config.block_size d.config.region_size) (found : Option ℕ) (found-is : found ≡ next_set (blocks bitmap) from last) where
     same_found : next_set (blocks bitmap) from (blocks_in d.config.block_size d.config.region_size) ≡ found
     same_found = rw (← last-is, ← found-is)
 
-    pub all_ends : {bytes : List ℕ} → found ≡ NoneSet → (d' d'' : Device) → d' ≡ plugged_to 0 d → d'' ≡ pending_to Nothing d' → Responded g status ack d'' s bytes → Gives (unplug_all (world_of d bitmap table) from status g) (lent bitmap table g.mem) (lent bitmap table bytes) s
+    pub all_ends : {bytes : List ℕ} → found ≡ None → (d' d'' : Device) → d' ≡ plugged_to 0 d → d'' ≡ pending_to Nothing d' → Responded g status ack d'' s bytes → Gives (unplug_all (world_of d bitmap table) from status g) (lent bitmap table g.mem) (lent bitmap table bytes) s
     unfolding next_as
     all_ends e d' d'' same same' p = rw (same_found, e) (serves g status _ bitmap (rw (same', same) at p) refl refl)
 
-    pub all_goes_on : {bytes : List ℕ} (block : ℕ) → found ≡ At block → Gives (unplug_one (world_of d bitmap table) block status g) (lent bitmap table g.mem) (lent bitmap table bytes) s → Gives (unplug_all (world_of d bitmap table) from status g) (lent bitmap table g.mem) (lent bitmap table bytes) s
+    pub all_goes_on : {bytes : List ℕ} (block : ℕ) → found ≡ Some block → Gives (unplug_one (world_of d bitmap table) block status g) (lent bitmap table g.mem) (lent bitmap table bytes) s → Gives (unplug_all (world_of d bitmap table) from status g) (lent bitmap table g.mem) (lent bitmap table bytes) s
     unfolding next_as
     all_goes_on block e m = rw (same_found, e) m
 
 -- the block that an unplug-all finds is one of the region, and plugged
-pub block_inside : (b region from last : ℕ) (bs : List Bool) {found : Found} (block : ℕ) → last ≡ blocks_in b region → found ≡ next_set bs from last → found ≡ At block → block < blocks_in b region
+pub block_inside : (b region from last : ℕ) (bs : List Bool) {found : Option ℕ} (block : ℕ) → last ≡ blocks_in b region → found ≡ next_set bs from last → found ≡ Some block → block < blocks_in b region
 block_inside b region from last bs block last-is found-is e = rw last-is at (next_at true bs from last block (sym found-is ∙ e)).before_end
 
 -- and where it starts fits
@@ -178,7 +177,7 @@ block_fits d shape block inside =
     let fits : bytes_of 4194304 block ≤ top = omega (arith, h.region_top) in
     rw h.block_size fits
 
-pub block_plugged : (bs : List Bool) (from last : ℕ) {found : Found} (block : ℕ) → found ≡ next_set bs from last → found ≡ At block → block_at bs block ≡ true
+pub block_plugged : (bs : List Bool) (from last : ℕ) {found : Option ℕ} (block : ℕ) → found ≡ next_set bs from last → found ≡ Some block → block_at bs block ≡ true
 block_plugged bs from last block found-is e = (next_at true bs from last block (sym found-is ∙ e)).found
 
 module _ (w : World) (req : VirtioMemReq) (status : ℕ) (g : Guest) where

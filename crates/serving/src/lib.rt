@@ -16,7 +16,7 @@ ghost use Rattle.step.specs.Promise.{lent, Gives, Steps, Does, request_on, answe
 ghost use Rattle.units.specs.Numbers.{blocks_in};
 ghost use Rattle.bitmap.specs.Blocks.{blocks, block_at};
 
-use bitmap::{Found, next_set, set_range};
+use bitmap::{next_set, set_range};
 use chain::{Parsed, parse};
 use change::{Change, HostRange, Range, change_of, host_of, range_of, state_of};
 use record::{Device, HostCall, Pending};
@@ -245,7 +245,7 @@ fn unplug_all(
         (lent bitmap.now table.now mem.new) result }
 {
     let end = MemTool::blocks_in(d.config.region_size, d.config.block_size);
-    let Found::At(block) = next_set(bitmap, from as usize, end as usize) else {
+    let Some(block) = next_set(bitmap, from as usize, end as usize) else {
         let none = pending_to(plugged_to(d, 0), Pending::Nothing);
         return ended(none, mem, base, status, ACK, 0);
     };

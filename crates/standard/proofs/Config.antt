@@ -1,5 +1,6 @@
 -- SPDX-License-Identifier: Apache-2.0 AND BSD-3-Clause
 -- The device and the clauses M2 to M5 and M7: the features and the config fields.
+use Rattle.std.specs.Prelude.{Option, Some}
 use Prim.Native.Nat.{ℕ, ◌*◌, ◌%◌, max, ◌≤◌}
 use mathlib.Core.Path.{◌≡◌, refl, ◌∙◌}
 use mathlib.Core.Bool.{Bool, true, false, not, ◌||◌}
@@ -14,8 +15,6 @@ use Rattle.record.specs.declared.Device.{Device}
 use Rattle.record.specs.Shape.{size_ok}
 use Rattle.record.proofs.Laws.{Shaped as Facts, shaped_is as facts-of, whole as shaped-when}
 use Rattle.resize.specs.Resize.{new_size}
-use Rattle.units.specs.declared.Node.{Node}
-use Rattle.units.specs.declared.Node.TheVariants.{None, Number}
 use Rattle.making.specs.declared.Made.TheVariants.{Device as MadeDevice, Refused as MadeRefused}
 use Rattle.making.specs.Made.{new_device, made}
 use Rattle.step.specs.World.{World, Call, Outcome}
@@ -123,11 +122,11 @@ pub requested_is_usable : RequestedIsUsable
 requested_is_usable s cs e = requested_is_usable_from false s cs (λ z. clash z refl) e
 
 -- ---- M2, from making on
-features_of_lem : (region requested alignment : ℕ) (several : Bool) (node : Node) → Features node (new_device region requested alignment several node)
+features_of_lem : (region requested alignment : ℕ) (several : Bool) (node : Option ℕ) → Features node (new_device region requested alignment several node)
 features_of_lem region requested alignment several None = record { with_node = refl; node_is = refl; accessible = refl }
-features_of_lem region requested alignment several (Number n) = record { with_node = refl; node_is = refl; accessible = refl }
+features_of_lem region requested alignment several (Some n) = record { with_node = refl; node_is = refl; accessible = refl }
 
-made_features : (capacity requested : ℕ) (several : Bool) (node : Node) (boot : ℕ) (d : Device) → made capacity requested several node boot ≡ MadeDevice d → Features node d
+made_features : (capacity requested : ℕ) (several : Bool) (node : Option ℕ) (boot : ℕ) (d : Device) → made capacity requested several node boot ≡ MadeDevice d → Features node d
 unfolding made
 made_features capacity requested several node boot d e =
     let alignment = alignment_of boot in
@@ -142,7 +141,7 @@ made_features capacity requested several node boot d e =
     never : (n : ℕ) → MadeRefused n ≡ MadeDevice d → Features node d
     never n q = let z : ◌≡◌ {A = ℕ} 0 1 = cc in absurd (omega arith)
 
-features_stay : (node : Node) (w w' : World) → Constant w w' → Features node w.device → Features node w'.device
+features_stay : (node : Option ℕ) (w w' : World) → Constant w w' → Features node w.device → Features node w'.device
 features_stay n w w' k f = record { with_node = rw k.same_features f.with_node; node_is = k.same_node ∙ f.node_is; accessible = rw k.same_features f.accessible }
 
 pub features_from_making : FeaturesFromMaking

@@ -1,5 +1,6 @@
 -- SPDX-License-Identifier: Apache-2.0 AND BSD-3-Clause
 -- The device and the clauses M10 to M16: the outcome of each request is as specs/Requests.antt says of its type.
+use Rattle.std.specs.Prelude.{Option, Some, None}
 use Prim.Native.Nat.{ℕ, zero, suc, ◌+◌, ◌-◌, ◌*◌, ◌%◌, ◌≤◌, ◌<◌}
 use mathlib.Core.Path.{◌≡◌, refl, ap, ◌∙◌, sym}
 use mathlib.Core.Bool.{Bool, true, false, not, beq}
@@ -16,8 +17,6 @@ use Rattle.units.specs.declared.RegionOffset.{RegionOffset}
 use Rattle.units.specs.declared.HostAddr.{HostAddr}
 use Rattle.units.proofs.Tests.{by_test, and_left}
 use Rattle.bitmap.specs.Blocks.{block_at, all_are, range, every, fill, next_set}
-use Rattle.bitmap.specs.declared.Found.{Found}
-use Rattle.bitmap.specs.declared.Found.TheVariants.{At, Nothing as NoneSet}
 use Rattle.bitmap.proofs.Laws.{all_at, at_inside, at_before, at_after, range-take, all_clear_at, next_at, next_nothing}
 use Rattle.wire.specs.declared.VirtioMemReq.{VirtioMemReq}
 use Rattle.record.specs.declared.Pending.{Pending}
@@ -456,7 +455,7 @@ module _ (w : World) (sound : Sound w) where
   unfolding next_as one_as response among is_legal pending_ok
   unplugs_from from status g = go (next_set w.blocks from (region_blocks w)) refl
     where
-      lowest : (block : ℕ) → next_set w.blocks from (region_blocks w) ≡ At block → Lowest w from block
+      lowest : (block : ℕ) → next_set w.blocks from (region_blocks w) ≡ Some block → Lowest w from block
       lowest block e =
           let l = next_at true w.blocks from (region_blocks w) block e in
           record {
@@ -466,7 +465,7 @@ module _ (w : World) (sound : Sound w) where
             none_below = λ j p q. all_clear_at w.blocks from (block - from) j l.none_below p (omega arith);
           }
 
-      all_clear : next_set w.blocks from (region_blocks w) ≡ NoneSet → NoneFrom w from
+      all_clear : next_set w.blocks from (region_blocks w) ≡ None → NoneFrom w from
       all_clear e i p q = all_clear_at w.blocks from (region_blocks w - from) i (next_nothing true w.blocks from (region_blocks w) e) p (omega arith)
 
       stopped : {why : ℕ} (block : ℕ) → Lowest w from block → (CanDiscard w block → ⊥) → UnplugsFrom w from (stops why w status g)
@@ -528,8 +527,8 @@ module _ (w : World) (sound : Sound w) where
       one block WrongState l e = stopped block l (illegal block WrongState l e refl)
       one block (NoHost part) l e = stopped block l (illegal block (NoHost part) l e refl)
 
-      go : (f : Found) → next_set w.blocks from (region_blocks w) ≡ f → UnplugsFrom w from (next_as f w status g)
-      go NoneSet e =
+      go : (f : Option ℕ) → next_set w.blocks from (region_blocks w) ≡ f → UnplugsFrom w from (next_as f w status g)
+      go None e =
           record {
             none_left = λ _. refl;
             only_none_left = λ _. all_clear e;
@@ -541,7 +540,7 @@ module _ (w : World) (sound : Sound w) where
             only_cannot = λ r. let z : ◌≡◌ {A = ℕ} 0 1 = cc in absurd (omega arith);
             responses = λ type r. only_type (0 ∷ 3 ∷ []) 0 type refl r;
           }
-      go (At block) e = one block (changing w (address_of w block) 1 false) (lowest block e) refl
+      go (Some block) e = one block (changing w (address_of w block) 1 false) (lowest block e) refl
 
 -- ---- a request that is heard is served
 module _ (w : World) (g : Guest) (descriptors head : ℕ) (req : VirtioMemReq) (status : GuestAddr) (h : Hears w g descriptors head req status) where

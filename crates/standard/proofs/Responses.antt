@@ -1,5 +1,6 @@
 -- SPDX-License-Identifier: Apache-2.0 AND BSD-3-Clause
 -- The device and the clauses M8, M12 and M17, of every call in every world; and that nothing changes while a request waits for the host.
+use Rattle.std.specs.Prelude.{Option, Some, None}
 use Prim.Native.Nat.{ℕ, ◌+◌, ◌^◌, ◌≤◌, ◌<◌}
 use mathlib.Core.Path.{◌≡◌, refl, ap, ◌∙◌, sym}
 use mathlib.Core.Bool.{Bool, true, false, cond, not, ◌||◌}
@@ -18,8 +19,6 @@ use Rattle.wire.proofs.Standard.{response as response-bytes}
 use Rattle.descriptors.specs.Descriptors.{inside, link_at, link_after}
 use Rattle.descriptors.proofs.Laws.{inside_facts}
 use Rattle.descriptors.specs.declared.Descriptor.{Descriptor}
-use Rattle.descriptors.specs.declared.Link.{Link}
-use Rattle.descriptors.specs.declared.Link.TheVariants.{Is, Missing}
 use Rattle.descriptors.specs.Standard.{is_write_only, is_indirect}
 use Rattle.chain.specs.declared.Parsed.{Parsed}
 use Rattle.chain.specs.declared.Parsed.TheVariants.{Request as Got, Bad}
@@ -115,21 +114,21 @@ past true reason p req status e = let z : ◌≡◌ {A = ℕ} 0 1 = cc in absurd
 past false reason p req status e = (refl, e)
 
 module _ (g : Guest) (descriptors head : ℕ) (req : VirtioMemReq) (status : GuestAddr) where
-  second_writable : (first : Descriptor) (found : VirtioMemReq) (l : Link) → link_at g.mem g.base descriptors head ≡ Is first → link_after g.mem g.base descriptors first ≡ l
+  second_writable : (first : Descriptor) (found : VirtioMemReq) (l : Option Descriptor) → link_at g.mem g.base descriptors head ≡ Some first → link_after g.mem g.base descriptors first ≡ l
       → with_second found l ≡ Got req status → WritableAt g descriptors head status
   unfolding with_second
-  second_writable first found Missing h f e = let z : ◌≡◌ {A = ℕ} 0 1 = cc in absurd (omega arith)
-  second_writable first found (Is second) h f e =
+  second_writable first found None h f e = let z : ◌≡◌ {A = ℕ} 0 1 = cc in absurd (omega arith)
+  second_writable first found (Some second) h f e =
       let direct = past (is_indirect second) _ _ req status e in
       let writable = past (not (is_write_only second)) _ _ req status direct.1 in
       let long = past (ltb second.len 10) _ _ req status writable.1 in
       let got = long.1 in
       record { first = first; second = second; heads = h; follows = f; is_writable = not-false (is_write_only second) writable.0; is_long = ltb-false second.len 10 long.0; is_there = cc }
 
-  first_writable : (l : Link) → link_at g.mem g.base descriptors head ≡ l → with_first g.mem g.base descriptors l ≡ Got req status → WritableAt g descriptors head status
+  first_writable : (l : Option Descriptor) → link_at g.mem g.base descriptors head ≡ l → with_first g.mem g.base descriptors l ≡ Got req status → WritableAt g descriptors head status
   unfolding with_first
-  first_writable Missing h e = let z : ◌≡◌ {A = ℕ} 0 1 = cc in absurd (omega arith)
-  first_writable (Is first) h e =
+  first_writable None h e = let z : ◌≡◌ {A = ℕ} 0 1 = cc in absurd (omega arith)
+  first_writable (Some first) h e =
       let direct = past (is_indirect first) _ _ req status e in
       let readable = past (is_write_only first) _ _ req status direct.1 in
       let whole = past (not (eqb first.len 24)) _ _ req status readable.1 in

@@ -1,6 +1,6 @@
 -- SPDX-License-Identifier: Apache-2.0 AND BSD-3-Clause
 -- What Virtio 1.2 asks of the features and the config of a memory device: M2 to M7. The names M2, Q9, .. are clauses of sections 5.15 and 2.7, retold and numbered in docs/STANDARD.md. Where one is narrower here, a line says how.
-use Rattle.std.specs.Prelude.{ℕ, ◌+◌, ◌*◌, ◌/◌, ◌%◌, ◌^◌, ◌≤◌, ◌<◌, ◌≡◌, Bool, true, false, List, [], ◌∷◌, eqb, drop, replicate}
+use Rattle.std.specs.Prelude.{ℕ, ◌+◌, ◌*◌, ◌/◌, ◌%◌, ◌^◌, ◌≤◌, ◌<◌, ◌≡◌, Bool, true, false, List, [], ◌∷◌, eqb, drop, replicate, Option}
 use Rattle.bitmap.specs.Blocks.{block_at, ones}
 use Rattle.little_endian.specs.Bytes.{put}
 use Rattle.wire.specs.Standard.{virtio_mem_config}
@@ -9,7 +9,6 @@ use Rattle.record.specs.declared.Device.{Device}
 use Rattle.record.specs.declared.HostCall.{HostCall}
 use Rattle.record.specs.declared.HostCall.TheVariants.{Create, Discard}
 use Rattle.record.specs.Shape.{shaped_of}
-use Rattle.units.specs.declared.Node.{Node}
 use Rattle.making.specs.declared.Made.TheVariants.{Device as MadeDevice}
 use Rattle.making.specs.Made.{is_given, node_number, made}
 use Rattle.step.specs.declared.Answer.{Answer}
@@ -33,14 +32,14 @@ abbrev pub offers : Device → (bit : ℕ) → Bool
 offers d bit = eqb (d.avail_features / 2 ^ bit % 2) 1
 
 -- the node's bit is offered exactly if a node was given, and without one node_id is 0; memory that is unplugged may be read
-pub record Features (node : Node) (d : Device) : Type 0 where
+pub record Features (node : Option ℕ) (d : Device) : Type 0 where
   pub with_node : offers d VIRTIO_MEM_F_ACPI_PXM ≡ is_given node
   pub node_is : d.config.node_id ≡ node_number node
   pub accessible : offers d VIRTIO_MEM_F_UNPLUGGED_INACCESSIBLE ≡ false
 
 -- from making on, in every run: what is offered stays offered
 abbrev pub FeaturesFromMaking : Type 0
-FeaturesFromMaking = (capacity requested : ℕ) (several : Bool) (node : Node) (boot : ℕ) (s : Story) (r : Reached s) → made capacity requested several node boot ≡ MadeDevice (made_as r)
+FeaturesFromMaking = (capacity requested : ℕ) (several : Bool) (node : Option ℕ) (boot : ℕ) (s : Story) (r : Reached s) → made capacity requested several node boot ≡ MadeDevice (made_as r)
     → Features node s.world.device
 
 -- ---- M3, the layout: what a config read gives from its offset on, as far as the buffer goes

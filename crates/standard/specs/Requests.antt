@@ -1,6 +1,6 @@
 -- SPDX-License-Identifier: Apache-2.0 AND BSD-3-Clause
 -- What Virtio 1.2 asks of the requests and of the response to each: M8 to M17. The names M8, Q4, .. are clauses of sections 5.15 and 2.7, retold and numbered in docs/STANDARD.md. Everything here holds in every world, whether or not a run leads there. Where a clause is narrower, a line says how, and docs/DIFFERENCES.md has the input.
-use Rattle.std.specs.Prelude.{ℕ, ◌+◌, ◌-◌, ◌*◌, ◌%◌, ◌^◌, ◌≤◌, ◌<◌, ◌≡◌, Bool, true, false, ◌||◌, List, [], ◌∷◌, eqb, length}
+use Rattle.std.specs.Prelude.{ℕ, ◌+◌, ◌-◌, ◌*◌, ◌%◌, ◌^◌, ◌≤◌, ◌<◌, ◌≡◌, Bool, true, false, ◌||◌, List, [], ◌∷◌, eqb, length, Some}
 use Rattle.std.proofs.Math.Option.{Option, some, none}
 use Rattle.units.specs.declared.GuestAddr.{GuestAddr}
 use Rattle.units.specs.declared.HostAddr.{HostAddr}
@@ -12,7 +12,6 @@ use Rattle.wire.specs.Standard.{virtio_mem_resp}
 use Rattle.wire.specs.declared.VirtioMemReq.{VirtioMemReq}
 use Rattle.wire.specs.declared.VirtioMemResp.{VirtioMemResp}
 use Rattle.descriptors.specs.declared.Descriptor.{Descriptor}
-use Rattle.descriptors.specs.declared.Link.TheVariants.{Is}
 use Rattle.descriptors.specs.Standard.{is_write_only}
 use Rattle.descriptors.specs.Descriptors.{link_at, link_after}
 use Rattle.chain.specs.declared.Parsed.{Parsed}
@@ -260,8 +259,8 @@ ResponseIsDelivered w c o = (reply : Reply) → o.answer ≡ Served reply → Re
 pub record WritableAt (g : Guest) (descriptors head : ℕ) (status : GuestAddr) : Type 0 where
   pub first : Descriptor
   pub second : Descriptor
-  pub heads : link_at g.mem g.base descriptors head ≡ Is first
-  pub follows : link_after g.mem g.base descriptors first ≡ Is second
+  pub heads : link_at g.mem g.base descriptors head ≡ Some first
+  pub follows : link_after g.mem g.base descriptors first ≡ Some second
   pub is_writable : is_write_only second ≡ true
   pub is_long : 10 ≤ second.len
   pub is_there : second.addr ≡ status

@@ -1,5 +1,6 @@
 -- SPDX-License-Identifier: Apache-2.0 AND BSD-3-Clause
 -- Request 2/12: no answer to a request hangs on what stands behind the table's end. A table with more rows, whatever they say, gives the same outcome.
+use Rattle.std.specs.Prelude.{Option, Some, None}
 use Prim.Native.Nat.{ℕ, ◌+◌}
 use mathlib.Core.Path.{◌≡◌, refl}
 use mathlib.Core.Bool.{Bool, true, false}
@@ -10,8 +11,6 @@ use lib.ListN.{length, length-append, get_or-append}
 use Rattle.units.specs.Numbers.{bytes_of}
 use Rattle.units.proofs.Tests.{by_test}
 use Rattle.bitmap.specs.Blocks.{next_set}
-use Rattle.bitmap.specs.declared.Found.{Found}
-use Rattle.bitmap.specs.declared.Found.TheVariants.{At, Nothing as NoneSet}
 use Rattle.wire.specs.declared.VirtioMemReq.{VirtioMemReq}
 use Rattle.chain.specs.declared.Parsed.{Parsed}
 use Rattle.chain.specs.declared.Parsed.TheVariants.{Request as Got, Bad}
@@ -82,9 +81,9 @@ module _ (w : World) (shape : shaped_of w.device ≡ true) (fit : tables_fit w.d
       go block WrongState = refl
       go block (NoHost part) = refl
 
-      next : (f : Found) → next_as f (longer more w) status g ≡ longer_after more (next_as f w status g)
-      next NoneSet = refl
-      next (At block) = rw (same_change (start w + bytes_of (block_size w) block) 1 false) (go block (changing w (start w + bytes_of (block_size w) block) 1 false))
+      next : (f : Option ℕ) → next_as f (longer more w) status g ≡ longer_after more (next_as f w status g)
+      next None = refl
+      next (Some block) = rw (same_change (start w + bytes_of (block_size w) block) 1 false) (go block (changing w (start w + bytes_of (block_size w) block) 1 false))
 
   serve_behind : (req : VirtioMemReq) → serve (longer more w) req status g ≡ longer_after more (serve w req status g)
   unfolding serve

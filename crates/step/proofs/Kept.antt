@@ -1,13 +1,12 @@
 -- SPDX-License-Identifier: Apache-2.0 AND BSD-3-Clause
 -- What a call may change of the record: a request the plugged size and the pending call; a host's answer those, the usable size and whether the device is placed.
+use Rattle.std.specs.Prelude.{Option, Some, None}
 use Prim.Native.Nat.{ℕ, ◌+◌}
 use mathlib.Core.Path.{◌≡◌, refl, ap}
 use mathlib.Core.Bool.{Bool, true, false, cond}
 use lib.Dec.{ltb, eqb}
 use lib.ListN.{length}
 use Rattle.units.specs.Numbers.{top, bytes_of}
-use Rattle.bitmap.specs.declared.Found.{Found}
-use Rattle.bitmap.specs.declared.Found.TheVariants.{At, Nothing as NoneSet}
 use Rattle.wire.specs.declared.VirtioMemReq.{VirtioMemReq}
 use Rattle.chain.specs.declared.Parsed.{Parsed}
 use Rattle.chain.specs.declared.Parsed.TheVariants.{Request as Got, Bad}
@@ -60,10 +59,10 @@ module _ (g : Guest) (before w : World) (h : request_kept w.device ≡ request_k
   one_keeps WrongState block status = record { same = h }
   one_keeps (NoHost part) block status = record { same = h }
 
-  next_keeps : (f : Found) (status : ℕ) → Keeps request_kept before (next_as f w status g)
+  next_keeps : (f : Option ℕ) (status : ℕ) → Keeps request_kept before (next_as f w status g)
   unfolding next_as
-  next_keeps NoneSet status = record { same = h }
-  next_keeps (At block) status = one_keeps _ block status
+  next_keeps None status = record { same = h }
+  next_keeps (Some block) status = one_keeps _ block status
 
   serve_keeps : (req : VirtioMemReq) (status : ℕ) → Keeps request_kept before (serve w req status g)
   unfolding serve plug

@@ -1,5 +1,6 @@
 -- SPDX-License-Identifier: Apache-2.0 AND BSD-3-Clause
 -- What holds of every response: a used length is 10 or 0, and an ERROR has its reason (R10.18). One walk over the requests shows each.
+use Rattle.std.specs.Prelude.{Option, Some, None}
 use Prim.Native.Nat.{ℕ, ◌+◌, ◌*◌}
 use mathlib.Core.Path.{◌≡◌, refl}
 use mathlib.Core.Bool.{Bool, true, false, cond, not}
@@ -7,8 +8,6 @@ use mathlib.Core.List.{List, []}
 use native.Mathlib.Omega.{arith}
 use lib.Dec.{ltb, eqb}
 use Rattle.units.specs.Numbers.{top, bytes_of, MiB}
-use Rattle.bitmap.specs.declared.Found.{Found}
-use Rattle.bitmap.specs.declared.Found.TheVariants.{At, Nothing as NoneSet}
 use Rattle.wire.specs.declared.VirtioMemReq.{VirtioMemReq}
 use Rattle.chain.specs.declared.Parsed.{Parsed}
 use Rattle.chain.specs.declared.Parsed.TheVariants.{Request as Got, Bad}
@@ -99,10 +98,10 @@ module _ (P : Verdict → Type 0) (W : World → Type 0) (k : Known P W) (K : Re
   one_of WrongState f w block = says _ _ f
   one_of (NoHost host) f w block = says _ _ f
 
-  next_of : (f : Found) (w : World) → W w → Of K (next_as f w status g)
+  next_of : (f : Option ℕ) (w : World) → W w → Of K (next_as f w status g)
   unfolding next_as
-  next_of NoneSet w u = says _ _ k.acks
-  next_of (At block) w u = one_of _ (k.changes w u _ _ _) w block
+  next_of None w u = says _ _ k.acks
+  next_of (Some block) w u = one_of _ (k.changes w u _ _ _) w block
 
   pub serve_of : (w : World) → W w → (req : VirtioMemReq) → Of K (serve w req status g)
   unfolding serve plug OfReply

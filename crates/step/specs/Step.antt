@@ -1,10 +1,8 @@
 -- SPDX-License-Identifier: Apache-2.0 AND BSD-3-Clause
 -- What each call does, in the order of the rules' tests (R2): `step` from a World and a Call to an Outcome. Every ending is a named leaf, and every decision a tree of tests over leaves.
-use Rattle.std.specs.Prelude.{ℕ, ◌+◌, ◌-◌, ◌*◌, ◌≡◌, Bool, true, false, cond, not, ◌&&◌, List, [], leb, ltb, eqb, length, drop}
+use Rattle.std.specs.Prelude.{ℕ, ◌+◌, ◌-◌, ◌*◌, ◌≡◌, Bool, true, false, cond, not, ◌&&◌, List, [], leb, ltb, eqb, length, drop, Option, Some, None}
 use Rattle.units.specs.Numbers.{top, bytes_of, blocks_in, map_region, map_regions, MiB}
 use Rattle.bitmap.specs.Blocks.{fill, next_set}
-use Rattle.bitmap.specs.declared.Found.{Found}
-use Rattle.bitmap.specs.declared.Found.TheVariants.{At, Nothing as NoneSet}
 use Rattle.wire.specs.declared.VirtioMemReq.{VirtioMemReq}
 use Rattle.little_endian.specs.Bytes.{put}
 use Rattle.wire.specs.Layout.{config_bytes}
@@ -296,9 +294,9 @@ one_as (NoHost host) w block status g = stops (host_why host) w status g
 abbrev pub unplug_one : World → (block status : ℕ) → Guest → Outcome
 unplug_one w block status g = one_as (changing w (start w + bytes_of (block_size w) block) 1 false) w block status g
 
-unfoldable pub next_as : Found → World → (status : ℕ) → Guest → Outcome
-next_as NoneSet w status g = ends_all w status g
-next_as (At block) w status g = unplug_one w block status g
+unfoldable pub next_as : Option ℕ → World → (status : ℕ) → Guest → Outcome
+next_as None w status g = ends_all w status g
+next_as (Some block) w status g = unplug_one w block status g
 
 -- R10.11, R10.12: the plugged blocks, the lowest first, from a block on
 abbrev pub unplug_all : World → (from status : ℕ) → Guest → Outcome

@@ -3,7 +3,6 @@
 // one block on.
 use super::lines::{Numbers, small};
 use super::show::{end, number, word};
-use bitmap::Found;
 use std::io;
 
 // A number of the table as a block or a count.
@@ -44,10 +43,10 @@ fn show_five(rt: &impl Print, bytes: [u8; 5]) -> io::Result<()> {
     hex(rt, bytes[4])
 }
 
-fn show_found(rt: &impl Print, found: Found) -> io::Result<()> {
+fn show_found(rt: &impl Print, found: Option<usize>) -> io::Result<()> {
     match found {
-        Found::At(block) => number(rt, b" ", block as u64),
-        Found::Nothing => word(rt, b" nothing"),
+        Some(block) => number(rt, b" ", block as u64),
+        None => word(rt, b" nothing"),
     }
 }
 

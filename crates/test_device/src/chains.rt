@@ -4,7 +4,6 @@ use super::lines::{Numbers, front, small};
 use super::show::{end, number, print, wide, word};
 use chain::Parsed;
 use chain_reader::{parse_chain, second_link};
-use descriptors::{Link, Place};
 use little_endian::{write_u16, write_u32, write_u64};
 use std::io;
 use units::GuestAddr;
@@ -70,7 +69,7 @@ fn place(
     size: u64,
 ) -> io::Result<()> {
     word(rt, name)?;
-    let Place::At(at) = descriptors::place_of(mem, GuestAddr(base), GuestAddr(addr), size) else {
+    let Some(at) = descriptors::place_of(mem, GuestAddr(base), GuestAddr(addr), size) else {
         return word(rt, b": outside\n");
     };
     print(rt, b": at=#\n", &[at as u64])
@@ -121,7 +120,7 @@ fn show_read(rt: &impl Print, mem: &[u8], head: u16) -> io::Result<()> {
 
 fn read(rt: &impl Print, mem: &[u8], head: u16) -> io::Result<()> {
     show_read(rt, mem, head)?;
-    let Link::Is(second) = second_link(mem, GuestAddr(4096), GuestAddr(4096), head) else {
+    let Some(second) = second_link(mem, GuestAddr(4096), GuestAddr(4096), head) else {
         return word(rt, b", no second\n");
     };
     print(rt, b", second at #\n", &[second.addr.0])

@@ -9,7 +9,7 @@ use record::{Device, HostCall};
 use serving::host_answer;
 use std::io;
 use step::{Answer, Answered};
-use units::{GuestAddr, HostAddr, Node};
+use units::{GuestAddr, HostAddr};
 
 fn flag(rt: &impl Print, holds: bool) -> io::Result<()> {
     if holds {
@@ -156,10 +156,10 @@ fn show_byte(rt: &impl Print, bitmap: &[u8], at: usize) -> io::Result<()> {
 
 fn new(rt: &impl Print, v: Numbers) -> io::Result<()> {
     if v.3 == 1 {
-        let node = Node::Number((v.4 % 65536) as u16);
+        let node = Some((v.4 % 65536) as u16);
         show_made(rt, Mem::new(v.0, v.1, v.2 == 1, node, v.5))
     } else {
-        show_made(rt, Mem::new(v.0, v.1, v.2 == 1, Node::None, v.5))
+        show_made(rt, Mem::new(v.0, v.1, v.2 == 1, None, v.5))
     }
 }
 

@@ -4,7 +4,7 @@
 use super::lines::{Numbers, small};
 use making::{Made, Mem};
 use record::{Device, Pending};
-use units::{GuestAddr, Node};
+use units::GuestAddr;
 use wire::VirtioMemConfig;
 
 // `known` says whether the last line was a command.
@@ -140,7 +140,7 @@ fn set_slot(slots: &mut [u32], i: usize, slot: u64) {
 }
 
 fn made(scene: Scene, capacity: u64, requested: u64, several: bool, boot: u64) -> Scene {
-    let Made::Device(d) = Mem::new(capacity, requested, several, Node::None, boot) else {
+    let Made::Device(d) = Mem::new(capacity, requested, several, None, boot) else {
         return after(scene, false);
     };
     with_device(scene, d)

@@ -2,7 +2,6 @@
 // rows.txt: what is laid into a map table, filled in and found.
 use super::parts::Row;
 use forms::put_form;
-use rows::{FirstUnmapped, Mapping};
 use units::HostAddr;
 
 fn slot(n: u64) -> u32 {
@@ -30,17 +29,17 @@ fn none() -> Found {
     }
 }
 
-fn row_of(first: FirstUnmapped) -> Found {
+fn row_of(first: Option<u64>) -> Found {
     match first {
-        FirstUnmapped::Row(row) => some(row),
-        FirstUnmapped::NoneLeft => none(),
+        Some(row) => some(row),
+        None => none(),
     }
 }
 
-fn host_of(mapping: Mapping) -> Found {
+fn host_of(mapping: Option<HostAddr>) -> Found {
     match mapping {
-        Mapping::At(host) => some(host.0),
-        Mapping::Unmapped => none(),
+        Some(host) => some(host.0),
+        None => none(),
     }
 }
 

@@ -5,7 +5,7 @@ use forms::{put_form, put_form_at};
 use little_endian::{copy, from};
 use std::num::wrapping_sub_usize;
 use trace_text::{FirstLine, Line, Op};
-use units::{GuestAddr, HostAddr, Node, RegionOffset};
+use units::{GuestAddr, HostAddr, RegionOffset};
 
 // The byte that a byte of the table stands for: a tab, the end of a line in other systems, and 0 have a stand-in.
 fn meant(b: u8) -> u8 {
@@ -29,10 +29,10 @@ fn line_of(command: &[u8]) -> [u8; 256] {
 }
 
 // A node's number, and one more than the largest for none.
-fn number_of(node: Node) -> u64 {
+fn number_of(node: Option<u16>) -> u64 {
     match node {
-        Node::None => 65536,
-        Node::Number(n) => n as u64,
+        None => 65536,
+        Some(n) => n as u64,
     }
 }
 

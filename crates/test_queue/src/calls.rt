@@ -6,12 +6,11 @@ use super::scene::{
     FROM, HOST, MAPPED, NEXT_AVAILABLE, NEXT_USED, PLACED, REFUSED, SERVED, SIZED, SLOT, Scene,
     TAKEN, TO, TOLD, UNSERVED, USABLE, USED, WORDS, told,
 };
-use queue::{QueueAnswer, Turn};
+use queue::Turn;
 use record::{Device, HostCall};
-use rings::{Queue, Taken};
+use rings::Queue;
 use step::{Answer, Reply};
 use units::{GuestAddr, HostAddr};
-use words::Decoded;
 
 #[derive(Clone, Copy)]
 pub enum Call {
@@ -41,22 +40,22 @@ fn no_turn(d: Device, q: Queue) -> Turn {
     Turn {
         device: d,
         queue: q,
-        answer: QueueAnswer::Of(Answer::Done),
+        answer: Some(Answer::Done),
     }
 }
 
 // The head that is out by the queue's word: the head plus 1, or 0 where none is.
-fn taken_of(word: u64) -> Taken {
+fn taken_of(word: u64) -> Option<u16> {
     if word == 0 {
-        return Taken::Nothing;
+        return None;
     }
-    Taken::Head(((word - 1) % 65536) as u16)
+    Some(((word - 1) % 65536) as u16)
 }
 
-fn word_of(taken: Taken) -> u64 {
+fn word_of(taken: Option<u16>) -> u64 {
     match taken {
-        Taken::Nothing => 0,
-        Taken::Head(head) => head as u64 + 1,
+        None => 0,
+        Some(head) => head as u64 + 1,
     }
 }
 
@@ -152,10 +151,10 @@ fn told_answer(scene: Scene, answer: Answer) -> Scene {
 }
 
 // What a call told, by the answer's kind.
-fn told_turn(scene: Scene, answer: QueueAnswer) -> Scene {
+fn told_turn(scene: Scene, answer: Option<Answer>) -> Scene {
     match answer {
-        QueueAnswer::Empty => told(scene, EMPTY, 0, 0, 0),
-        QueueAnswer::Of(a) => told_answer(scene, a),
+        None => told(scene, EMPTY, 0, 0, 0),
+        Some(a) => told_answer(scene, a),
     }
 }
 
@@ -197,7 +196,7 @@ fn called(scene: Scene, d: Device, call: Call, mem: &mut [u8]) -> Scene {
 
 // A call, where the words are a record.
 pub fn made(s: Scene, call: Call, mem: &mut [u8]) -> Scene {
-    let Decoded::Is(d) = words::decode(&s) else {
+    let Some(d) = words::decode(&s) else {
         return told(s, DONE, 0, 0, 0);
     };
     called(s, d, call, mem)

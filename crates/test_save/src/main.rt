@@ -5,7 +5,7 @@
 #![tactic(auto)]
 
 use devices::{Scene, Told};
-use forms::{Place, scan_at};
+use forms::scan_at;
 use little_endian::{copy, from};
 use parts::{Row, UNTOUCHED, byte_at, find};
 use std::num::{wrapping_add_u64, wrapping_add_usize, wrapping_sub_usize};
@@ -72,7 +72,7 @@ fn is_call_of_device(letter: u8) -> bool {
 fn make(out: &mut [u8], scene: Scene, form: &[u8], call: &[u8], bitmap: &mut [u8]) -> Told {
     let mut v = [0u64; 17];
     let mut s = [0u8; 512];
-    let Place::At(at) = scan_at(call, 0, form, &mut v) else {
+    let Some(at) = scan_at(call, 0, form, &mut v) else {
         return Told { scene, length: 0 };
     };
     let tail = from(call, wrapping_add_usize(at, 1));

@@ -1,5 +1,6 @@
 -- SPDX-License-Identifier: Apache-2.0 AND BSD-3-Clause
 -- The chain that a trace's op lays is good: in guest memory of 106 bytes or more every op is answered by a line.
+use Rattle.std.specs.Prelude.{Option, Some, None}
 use Prim.Native.Nat.{ℕ, ◌+◌, ◌*◌, ◌/◌, ◌^◌, ◌≤◌, ◌<◌}
 use mathlib.Core.Path.{◌≡◌, refl, ap, ◌∙◌}
 use mathlib.Core.Bool.{Bool, true, false, cond, not}
@@ -9,8 +10,6 @@ use borrow.Author.Tests.{le-leb}
 use lib.Dec.{eqb, ltb}
 use lib.ListN.{length}
 use Rattle.units.specs.Numbers.{top, bytes_of}
-use Rattle.bitmap.specs.declared.Found.{Found}
-use Rattle.bitmap.specs.declared.Found.TheVariants.{At, Nothing as NoneSet}
 use Rattle.wire.specs.declared.VirtioMemReq.{VirtioMemReq}
 use Rattle.little_endian.specs.Bytes.{put, part, little_endian}
 use Rattle.wire.specs.Layout.{request_at}
@@ -19,7 +18,6 @@ use Rattle.little_endian.proofs.Laws.{length-put, part-put, part-put_inside, par
 use Rattle.wire.proofs.Laws.{request_part}
 use Rattle.wire.proofs.Standard.{request as request-laid}
 use Rattle.descriptors.specs.declared.Descriptor.{Descriptor}
-use Rattle.descriptors.specs.declared.Link.TheVariants.{Is}
 use Rattle.chain.specs.declared.Parsed.TheVariants.{Request as Got}
 use Rattle.descriptors.specs.Standard.{virtq_desc, descriptor_addr}
 use Rattle.descriptors.specs.Descriptors.{inside, link_at, link_after}
@@ -96,19 +94,19 @@ module _ (mem : List ℕ) (type addr blocks : ℕ) (room : 106 ≤ length mem) w
       let l = length-put mem 0 descriptors in
       rw laid_puts (part-put (put mem 0 descriptors) 64 (laid_request type addr blocks) (omega arith))
 
-  first_link : link_at in_memory 0 0 0 ≡ Is first
+  first_link : link_at in_memory 0 0 0 ≡ Some first
   unfolding link_at descriptor_addr
   first_link =
       let l = laid_length in
       rw (is_inside (length in_memory) 0 16 (omega arith) (omega arith))
-      (ap Is (descriptor_laid in_memory 0 first (record { addr = omega arith; len = omega arith; flags = omega arith; next = omega arith }) first_part))
+      (ap Some (descriptor_laid in_memory 0 first (record { addr = omega arith; len = omega arith; flags = omega arith; next = omega arith }) first_part))
 
-  second_link_lem : link_at in_memory 0 0 1 ≡ Is second
+  second_link_lem : link_at in_memory 0 0 1 ≡ Some second
   unfolding link_at descriptor_addr
   second_link_lem =
       let l = laid_length in
       rw (is_inside (length in_memory) 16 16 (omega arith) (omega arith))
-      (ap Is (descriptor_laid in_memory 16 second (record { addr = omega arith; len = omega arith; flags = omega arith; next = omega arith }) second_part))
+      (ap Some (descriptor_laid in_memory 16 second (record { addr = omega arith; len = omega arith; flags = omega arith; next = omega arith }) second_part))
 
   -- the device reads the request that the op stands for, and answers it at guest address 96
   pub chain_good : type < 256 ^ 2 → addr < 256 ^ 8 → blocks < 256 ^ 2 → parsed in_memory 0 0 0 ≡ Got (request_of type addr blocks) (record { 0 = 96 })
@@ -164,10 +162,10 @@ module _ (w : World) where
   one_told WrongState block status g = record { line = refl }
   one_told (NoHost reason) block status g = record { line = refl }
 
-  next_told : (f : Found) (status : ℕ) (g : Guest) → Told (next_as f w status g)
+  next_told : (f : Option ℕ) (status : ℕ) (g : Guest) → Told (next_as f w status g)
   unfolding next_as
-  next_told NoneSet status g = record { line = refl }
-  next_told (At block) status g = one_told _ block status g
+  next_told None status g = record { line = refl }
+  next_told (Some block) status g = one_told _ block status g
 
   resize_told : (c : Growth) → Told (resizes c w)
   unfolding resizes

@@ -1,5 +1,6 @@
 -- SPDX-License-Identifier: Apache-2.0 AND BSD-3-Clause
 -- The reader is exact: a line reads back from its text, and only the text of a line is read.
+use Rattle.std.specs.Prelude.{Option, Some}
 use Prim.Native.Nat.{ℕ, zero, suc, ◌≤◌, ◌<◌}
 use mathlib.Core.Path.{◌≡◌, refl, sym, ap, ◌∙◌}
 use mathlib.Core.Bool.{Bool, true, false, cond, ◌&&◌}
@@ -16,8 +17,6 @@ use Rattle.forms.specs.Forms.{holes, filled}
 use Rattle.forms.specs.Scanning.{numbers, scan_of, is_whole}
 use Rattle.forms.proofs.Laws.{Words, word, taken, apart, whole_written, whole_read}
 use Rattle.forms.proofs.Clash.{clash, scan_clash}
-use Rattle.units.specs.declared.Node.{Node}
-use Rattle.units.specs.declared.Node.TheVariants.{None, Number}
 use Rattle.trace_text.specs.declared.FirstLine.{FirstLine}
 use Rattle.trace_text.specs.declared.Op.{Op}
 use Rattle.trace_text.specs.declared.Op.TheVariants.{Host, Plug, Unplug, State, UnplugAll, Size}
@@ -78,9 +77,9 @@ flag_most : (b : Bool) → flag b ≤ 1
 flag_most true = omega arith
 flag_most false = omega arith
 
-first_written : (node : Node) (f : FirstLine) → f.node ≡ node → FirstInRange f → any_of kinds (first_text node f) ≡ First f
+first_written : (node : Option ℕ) (f : FirstLine) → f.node ≡ node → FirstInRange f → any_of kinds (first_text node f) ≡ First f
 unfolding is_digit holes clear
-first_written (Number n) f e h =
+first_written (Some n) f e h =
     let o = flag_most f.multi in
     let i : n ≤ 65535 = rw e at h.node in
     any_written kind.FirstNumbered (f.capacity_mib ∷ f.requested_mib ∷ flag f.multi ∷ n ∷ f.boot ∷ f.addr.0 ∷ f.slot ∷ []) (First f) refl (omega arith)
@@ -132,7 +131,7 @@ tested : (b : Bool) (line : Line) (t : List ℕ) → (b ≡ true → Sound line 
 tested true line t f = f refl
 tested false line t f = inl refl
 
-module _ (capacity requested multi : ℕ) (node : Node) (boot addr slot : ℕ) (t : List ℕ) where
+module _ (capacity requested multi : ℕ) (node : Option ℕ) (boot addr slot : ℕ) (t : List ℕ) where
   abbrev line : FirstLine
   line =
       record {
@@ -160,7 +159,7 @@ unfolding holes
 sound kind.FirstNumbered us w =
     tested (leb (get_or us 3 0) 65535) _ _
     (λ e.
-    first_sound (get_or us 0 0) (get_or us 1 0) (get_or us 2 0) (Number (get_or us 3 0)) (get_or us 4 0) (get_or us 5 0) (get_or us 6 0) _ (word us 0 w)
+    first_sound (get_or us 0 0) (get_or us 1 0) (get_or us 2 0) (Some (get_or us 3 0)) (get_or us 4 0) (get_or us 5 0) (get_or us 6 0) _ (word us 0 w)
     (word us 1 w) (leb-true _ _ e) (word us 4 w) (word us 5 w) (λ m. rw (flag_back (get_or us 2 0) m)))
 sound kind.FirstNone us w =
     first_sound (get_or us 0 0) (get_or us 1 0) (get_or us 2 0) None (get_or us 3 0) (get_or us 4 0) (get_or us 5 0) _ (word us 0 w)

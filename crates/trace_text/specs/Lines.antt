@@ -1,11 +1,9 @@
 -- SPDX-License-Identifier: Apache-2.0 AND BSD-3-Clause
 -- The lines of a trace (R12), each defined by its text: a form in which # stands for a number.
-use Rattle.std.specs.Prelude.{ℕ, ◌≤◌, ◌≡◌, Bool, true, false, List, [], ◌∷◌, ◌⊎◌, length}
+use Rattle.std.specs.Prelude.{ℕ, ◌≤◌, ◌≡◌, Bool, true, false, List, [], ◌∷◌, ◌⊎◌, length, Option, Some}
 use Rattle.text.specs.Words.{bytes}
 use Rattle.text.specs.Decimal.{largest}
 use Rattle.forms.specs.Forms.{filled}
-use Rattle.units.specs.declared.Node.{Node}
-use Rattle.units.specs.declared.Node.TheVariants.{None, Number}
 use Rattle.trace_text.specs.declared.FirstLine.{FirstLine}
 use Rattle.trace_text.specs.declared.Op.{Op}
 use Rattle.trace_text.specs.declared.Op.TheVariants.{Host, Plug, Unplug, State, UnplugAll, Size}
@@ -20,8 +18,8 @@ flag true = 1
 flag false = 0
 
 -- R12.2: the text of the first line, by its node: `none` or a number
-abbrev pub first_text : Node → FirstLine → List ℕ
-first_text (Number node) f = filled (bytes "capacity_mib=# requested_mib=# multi=# node=# boot=# addr=# slot=#") (f.capacity_mib ∷ f.requested_mib ∷ flag f.multi ∷ node ∷ f.boot ∷ f.addr.0 ∷ f.slot ∷ [])
+abbrev pub first_text : Option ℕ → FirstLine → List ℕ
+first_text (Some node) f = filled (bytes "capacity_mib=# requested_mib=# multi=# node=# boot=# addr=# slot=#") (f.capacity_mib ∷ f.requested_mib ∷ flag f.multi ∷ node ∷ f.boot ∷ f.addr.0 ∷ f.slot ∷ [])
 first_text None f = filled (bytes "capacity_mib=# requested_mib=# multi=# node=none boot=# addr=# slot=#") (f.capacity_mib ∷ f.requested_mib ∷ flag f.multi ∷ f.boot ∷ f.addr.0 ∷ f.slot ∷ [])
 
 -- R12.3: the text of a later line
@@ -40,9 +38,9 @@ text_of (Later op) = op_text op
 text_of Bad = []
 
 -- a node has 16 bits
-abbrev pub NodeInRange : Node → Type 0
+abbrev pub NodeInRange : Option ℕ → Type 0
 NodeInRange None = Prim.Unit {0}
-NodeInRange (Number node) = node ≤ 65535
+NodeInRange (Some node) = node ≤ 65535
 
 -- R12.4: the numbers of the first line are in their ranges
 pub record FirstInRange (f : FirstLine) : Type 0 where

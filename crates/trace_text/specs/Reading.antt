@@ -1,11 +1,9 @@
 -- SPDX-License-Identifier: Apache-2.0 AND BSD-3-Clause
 -- What the private functions of `read_line` do, step by step; its own promise does not rest on it.
-use Rattle.std.specs.Prelude.{ℕ, cond, ◌&&◌, List, [], ◌∷◌, leb, eqb, get_or}
+use Rattle.std.specs.Prelude.{ℕ, cond, ◌&&◌, List, [], ◌∷◌, leb, eqb, get_or, Option, Some}
 use Rattle.units.specs.declared.GuestAddr.{GuestAddr}
 use Rattle.text.specs.Words.{bytes}
 use Rattle.forms.specs.Scanning.{Scan, numbers, scan_of, is_whole}
-use Rattle.units.specs.declared.Node.{Node}
-use Rattle.units.specs.declared.Node.TheVariants.{None, Number}
 use Rattle.trace_text.specs.declared.Op.{Op}
 use Rattle.trace_text.specs.declared.Op.TheVariants.{Host, Plug, Unplug, State, UnplugAll, Size}
 use Rattle.trace_text.specs.declared.Line.{Line}
@@ -28,7 +26,7 @@ form_of kind.UnplugAll = bytes "op=unplug_all"
 form_of kind.Size = bytes "op=size mib=#"
 
 -- the first line of these numbers, if they are in their ranges
-abbrev pub first_line_of : (capacity requested multi : ℕ) (node : Node) (boot addr slot : ℕ) → Line
+abbrev pub first_line_of : (capacity requested multi : ℕ) (node : Option ℕ) (boot addr slot : ℕ) → Line
 first_line_of capacity requested multi node boot addr slot =
     cond (leb multi 1 && leb slot 4294966000)
     (First (record { capacity_mib = capacity; requested_mib = requested; multi = eqb multi 1; node = node; boot = boot; addr = record { 0 = addr }; slot = slot }))
@@ -42,7 +40,7 @@ on_range range.State addr blocks = State addr blocks
 
 -- the line that the numbers of a kind make, if each is in its range
 abbrev pub made_of : Kind → Numbers → Line
-made_of kind.FirstNumbered n = cond (leb n.3 65535) (first_line_of n.0 n.1 n.2 (Number n.3) n.4 n.5 n.6) Bad
+made_of kind.FirstNumbered n = cond (leb n.3 65535) (first_line_of n.0 n.1 n.2 (Some n.3) n.4 n.5 n.6) Bad
 made_of kind.FirstNone n = first_line_of n.0 n.1 n.2 None n.3 n.4 n.5
 made_of kind.Host n = cond (leb n.0 1) (Later (Host (eqb n.0 1) (record { 0 = n.1 }))) Bad
 made_of (kind.Range op) n = cond (leb n.1 65535) (Later (on_range op (record { 0 = n.0 }) n.1)) Bad

@@ -6,7 +6,7 @@ ghost use Rattle.std.specs.Prelude.{◌≡◌};
 ghost use Rattle.trace_text.specs.Lines.{Reads};
 ghost use Rattle.trace_text.specs.Reading.{first_line_of, on_range, made_of, kind_of, earlier};
 
-use units::{GuestAddr, HostAddr, Node};
+use units::{GuestAddr, HostAddr};
 
 // The first line, which makes the device and places it.
 #[derive(Clone, Copy)]
@@ -14,7 +14,7 @@ pub struct FirstLine {
     pub capacity_mib: u64,
     pub requested_mib: u64,
     pub multi: bool,
-    pub node: Node,
+    pub node: Option<u16>,
     pub boot: u64,
     pub addr: GuestAddr,
     pub slot: u64,
@@ -73,7 +73,7 @@ fn first_line(
     capacity_mib: u64,
     requested_mib: u64,
     multi: u64,
-    node: Node,
+    node: Option<u16>,
     boot: u64,
     addr: u64,
     slot: u64,
@@ -112,12 +112,12 @@ fn made(kind: Kind, n: Numbers) -> Line
     match kind {
         Kind::FirstNumbered => {
             if n.3 <= 65535 {
-                let node = Node::Number(n.3 as u16);
+                let node = Some(n.3 as u16);
                 return first_line(n.0, n.1, n.2, node, n.4, n.5, n.6);
             }
             Line::Bad
         }
-        Kind::FirstNone => first_line(n.0, n.1, n.2, Node::None, n.3, n.4, n.5),
+        Kind::FirstNone => first_line(n.0, n.1, n.2, None, n.3, n.4, n.5),
         Kind::Host => {
             if n.0 <= 1 {
                 return Line::Later(Op::Host {

@@ -19,13 +19,6 @@ pub struct RegionOffset(pub u64);
 #[derive(Clone, Copy)]
 pub struct HostAddr(pub u64);
 
-// The node that a device belongs to, if one is given.
-#[derive(Clone, Copy)]
-pub enum Node {
-    None,
-    Number(u16),
-}
-
 // Boot memory from which on the guest uses large memory blocks.
 const BOOT_MEM_SIZE_FOR_LARGE_BLOCK: u64 = 64 * MemTool::GIB;
 

@@ -1,5 +1,6 @@
 -- SPDX-License-Identifier: Apache-2.0 AND BSD-3-Clause
 -- Words written one at a time are words written at once. Encoding and decoding are inverse: a record reads back from its words, and words that are a record's are what it is written as.
+use Rattle.std.specs.Prelude.{Option, Some, None}
 use Prim.Native.Nat.{ℕ, ◌+◌, ◌≤◌, ◌<◌}
 use mathlib.Core.Path.{◌≡◌, refl, sym, ap, ◌∙◌}
 use mathlib.Core.Bool.{Bool, true, false, ◌&&◌}
@@ -17,10 +18,6 @@ use Rattle.record.specs.declared.Device.{Device}
 use Rattle.record.specs.declared.Pending.{Pending}
 use Rattle.record.specs.declared.Pending.TheVariants.{Nothing, Create, Discard, DiscardOne}
 use Rattle.record.specs.Changes.{pending_to, placed_to, plugged_to, usable_to}
-use Rattle.words.specs.declared.Call.{Call}
-use Rattle.words.specs.declared.Call.TheVariants.{Known, Unknown}
-use Rattle.words.specs.declared.Decoded.{Decoded}
-use Rattle.words.specs.declared.Decoded.TheVariants.{Is, NoRecord}
 use Rattle.words.specs.Record.{bit, word, pending_words, words_of, pending_of, pending_fits, pending_call, is_record, record_of, decoded_of, after_request, after_answer}
 
 -- ---- words one at a time
@@ -76,37 +73,37 @@ record_fits ws h =
 
 -- ---- the words test by test, as `decode` does it
 -- one test that fails is enough
-pub unfit : (ws : List ℕ) (t : Bool) → (Fits ws → t ≡ true) → t ≡ false → NoRecord ≡ decoded_of ws
+pub unfit : (ws : List ℕ) (t : Bool) → (Fits ws → t ≡ true) → t ≡ false → None ≡ decoded_of ws
 unfolding decoded_of
 unfit ws t f e =
     by_test (is_record ws)
     (λ s. let h : t ≡ true = f (record_fits ws s) in absurd (let z : ◌≡◌ {A = ℕ} 0 1 = cc in omega arith))
     (λ s. simp s)
 
-pub fit : (ws : List ℕ) → Fits ws → decoded_of ws ≡ Is (record_of ws)
+pub fit : (ws : List ℕ) → Fits ws → decoded_of ws ≡ Some (record_of ws)
 unfolding decoded_of is_record
 fit ws f = simp (le-leb _ _ f.long, le-leb _ _ f.node, le-leb _ _ f.several, le-leb _ _ f.placed, f.pending)
 
 -- the call that is known, and whether one is
-abbrev call : Pending → Call → Pending
-call p (Known q) = q
-call p Unknown = p
+abbrev call : Pending → Option Pending → Pending
+call p (Some q) = q
+call p None = p
 
-abbrev is_known : Call → Bool
-is_known (Known p) = true
-is_known Unknown = false
+abbrev is_known : Option Pending → Bool
+is_known (Some p) = true
+is_known None = false
 
-pub known : (k a b c : ℕ) (p : Pending) → pending_call k a b c ≡ Known p → (pending_fits k a b c ≡ true) × (pending_of k a b c ≡ p)
+pub known : (k a b c : ℕ) (p : Pending) → pending_call k a b c ≡ Some p → (pending_fits k a b c ≡ true) × (pending_of k a b c ≡ p)
 unfolding pending_call
 known k a b c p h =
-    by_test (pending_fits k a b c) (λ t. let g : Known (pending_of k a b c) ≡ Known p = simp t at h in (t, ap (call p) g))
-    (λ t. let g : Unknown ≡ Known p = simp t at h in let z : false ≡ true = ap is_known g in absurd (let y : ◌≡◌ {A = ℕ} 0 1 = cc in omega arith))
+    by_test (pending_fits k a b c) (λ t. let g : Some (pending_of k a b c) ≡ Some p = simp t at h in (t, ap (call p) g))
+    (λ t. let g : None ≡ Some p = simp t at h in let z : false ≡ true = ap is_known g in absurd (let y : ◌≡◌ {A = ℕ} 0 1 = cc in omega arith))
 
-pub unknown : (k a b c : ℕ) → pending_call k a b c ≡ Unknown → pending_fits k a b c ≡ false
+pub unknown : (k a b c : ℕ) → pending_call k a b c ≡ None → pending_fits k a b c ≡ false
 unfolding pending_call
 unknown k a b c h =
     by_test (pending_fits k a b c)
-    (λ t. let g : Known (pending_of k a b c) ≡ Unknown = simp t at h in let z : true ≡ false = ap is_known g in absurd (let y : ◌≡◌ {A = ℕ} 0 1 = cc in omega arith))
+    (λ t. let g : Some (pending_of k a b c) ≡ None = simp t at h in let z : true ≡ false = ap is_known g in absurd (let y : ◌≡◌ {A = ℕ} 0 1 = cc in omega arith))
     (λ t. t)
 
 -- ---- a record reads back
@@ -131,7 +128,7 @@ words_long : (d : Device) (p : Pending) (rest : List ℕ) → 15 ≤ length (wor
 words_long d p rest = rw (length-append, length_words d p) (omega arith)
 
 words_back : (d : Device) (p : Pending) (rest : List ℕ) → d.config.node_id ≤ 65535
-    → decoded_of (words_of (pending_to p d) ++ rest) ≡ Is (pending_to p d)
+    → decoded_of (words_of (pending_to p d) ++ rest) ≡ Some (pending_to p d)
 unfolding words_of decoded_of is_record record_of pending_of pending_fits
 words_back d Nothing rest h =
     simp (
@@ -172,7 +169,7 @@ words_back d (DiscardOne block status) rest h =
 
 -- what was encoded decodes to the record, where there is room for it
 pub encoded_decodes : (d : Device) (ws : List ℕ) → d.config.node_id ≤ 65535 → 15 ≤ length ws
-    → decoded_of (put ws 0 (words_of d)) ≡ Is d
+    → decoded_of (put ws 0 (words_of d)) ≡ Some d
 encoded_decodes d ws h room =
     let n : length (words_of d) ≡ 15 = length_words d d.pending in
     rw (put_fits ws 0 (words_of d) (rw n room)) (words_back d d.pending (drop (0 + length (words_of d)) ws) h)
@@ -216,26 +213,26 @@ record_written ws h =
     )
 
 -- the record that words mean, if they mean one
-abbrev meant : Device → Decoded → Device
-meant e (Is d) = d
-meant e NoRecord = e
+abbrev meant : Device → Option Device → Device
+meant e (Some d) = d
+meant e None = e
 
-abbrev is_record_lem : Decoded → ℕ
-is_record_lem (Is d) = 1
-is_record_lem NoRecord = 0
+abbrev is_record_lem : Option Device → ℕ
+is_record_lem (Some d) = 1
+is_record_lem None = 0
 
 -- words that decode are a record's
-pub decoded_fits : (ws : List ℕ) (d : Device) → decoded_of ws ≡ Is d → (is_record ws ≡ true) × (record_of ws ≡ d)
+pub decoded_fits : (ws : List ℕ) (d : Device) → decoded_of ws ≡ Some d → (is_record ws ≡ true) × (record_of ws ≡ d)
 unfolding decoded_of
 decoded_fits ws d h =
-    by_test (is_record ws) (λ t. let g : Is (record_of ws) ≡ Is d = simp t at h in (t, ap (meant d) g))
-    (λ t. let g : NoRecord ≡ Is d = simp t at h in let y : ◌≡◌ {A = ℕ} 0 1 = ap is_record_lem g in absurd (omega arith))
+    by_test (is_record ws) (λ t. let g : Some (record_of ws) ≡ Some d = simp t at h in (t, ap (meant d) g))
+    (λ t. let g : None ≡ Some d = simp t at h in let y : ◌≡◌ {A = ℕ} 0 1 = ap is_record_lem g in absurd (omega arith))
 
-pub decoded_long : (ws : List ℕ) (d : Device) → decoded_of ws ≡ Is d → 15 ≤ length ws
+pub decoded_long : (ws : List ℕ) (d : Device) → decoded_of ws ≡ Some d → 15 ≤ length ws
 decoded_long ws d h = (record_fits ws (decoded_fits ws d h).0).long
 
 -- what decodes encodes to the same words
-pub decoded_encodes : (ws : List ℕ) (d : Device) → decoded_of ws ≡ Is d → put ws 0 (words_of d) ≡ ws
+pub decoded_encodes : (ws : List ℕ) (d : Device) → decoded_of ws ≡ Some d → put ws 0 (words_of d) ≡ ws
 decoded_encodes ws d h = let f = decoded_fits ws d h in rw (← f.1) (record_written ws f.0)
 
 -- ---- a record in part: where words are a record's, the ones that a call may change are enough
@@ -253,9 +250,9 @@ beside_two ws a b j h =
     again (set (set ws 4 a) 5 b) ws j
     (get_or-set_other (set ws 4 a) 5 j b 0 (λ e. omega arith) ∙ get_or-set_other ws 4 j a 0 (λ e. omega arith))
 
-module _ (ws : List ℕ) (d : Device) (is : decoded_of ws ≡ Is d) where
+module _ (ws : List ℕ) (d : Device) (is : decoded_of ws ≡ Some d) where
   -- a record of the same node reads back
-  pub reads_back : (d' : Device) → d'.config.node_id ≡ d.config.node_id → decoded_of (put ws 0 (words_of d')) ≡ Is d'
+  pub reads_back : (d' : Device) → d'.config.node_id ≡ d.config.node_id → decoded_of (put ws 0 (words_of d')) ≡ Some d'
   unfolding record_of
   reads_back d' same =
       let f = decoded_fits ws d is in
@@ -265,7 +262,7 @@ module _ (ws : List ℕ) (d : Device) (is : decoded_of ws ≡ Is d) where
 
   -- of a request
   pub request_encodes : (plugged : ℕ) (pending : Pending) → let d' = pending_to pending (plugged_to plugged d) in
-      (after_request ws d' ≡ put ws 0 (words_of d')) × (decoded_of (after_request ws d') ≡ Is d')
+      (after_request ws d' ≡ put ws 0 (words_of d')) × (decoded_of (after_request ws d') ≡ Some d')
   unfolding after_request words_of record_of put
   request_encodes plugged pending =
       let f = decoded_fits ws d is in
@@ -288,7 +285,7 @@ module _ (ws : List ℕ) (d : Device) (is : decoded_of ws ≡ Is d) where
 
   -- of a host's answer
   pub answer_encodes : (usable plugged : ℕ) (placed : Bool) (pending : Pending) → let d' = pending_to pending (placed_to placed (plugged_to plugged (usable_to usable d))) in
-      (after_answer ws d' ≡ put ws 0 (words_of d')) × (decoded_of (after_answer ws d') ≡ Is d')
+      (after_answer ws d' ≡ put ws 0 (words_of d')) × (decoded_of (after_answer ws d') ≡ Some d')
   unfolding after_answer words_of record_of put
   answer_encodes usable plugged placed pending =
       let f = decoded_fits ws d is in

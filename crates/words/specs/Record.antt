@@ -1,14 +1,10 @@
 -- SPDX-License-Identifier: Apache-2.0 AND BSD-3-Clause
 -- The record as words, and what words mean (R19.1, R19.2).
-use Rattle.std.specs.Prelude.{ℕ, Bool, true, false, cond, ◌&&◌, List, [], ◌∷◌, leb, eqb, length, get_or}
+use Rattle.std.specs.Prelude.{ℕ, Bool, true, false, cond, ◌&&◌, List, [], ◌∷◌, leb, eqb, length, get_or, Option, Some, None}
 use Rattle.little_endian.specs.Bytes.{put}
 use Rattle.record.specs.declared.Device.{Device}
 use Rattle.record.specs.declared.Pending.{Pending}
 use Rattle.record.specs.declared.Pending.TheVariants.{Nothing, Create, Discard, DiscardOne}
-use Rattle.words.specs.declared.Call.{Call}
-use Rattle.words.specs.declared.Call.TheVariants.{Known, Unknown}
-use Rattle.words.specs.declared.Decoded.{Decoded}
-use Rattle.words.specs.declared.Decoded.TheVariants.{Is, NoRecord}
 
 -- R19.1: how many words a record is. A field that comes is appended
 abbrev pub record_length : ℕ
@@ -74,9 +70,9 @@ pending_fits kind first second status =
     false)))
 
 -- the call that four words mean, where they fit
-unfoldable pub pending_call : (kind first second status : ℕ) → Call
+unfoldable pub pending_call : (kind first second status : ℕ) → Option Pending
 pending_call kind first second status =
-    cond (pending_fits kind first second status) (Known (pending_of kind first second status)) Unknown
+    cond (pending_fits kind first second status) (Some (pending_of kind first second status)) None
 
 -- the word at a place
 abbrev pub word : (ws : List ℕ) (i : ℕ) → ℕ
@@ -112,5 +108,5 @@ record_of ws =
     }
 
 -- what words mean: no record where they are no encoding of one
-unfoldable pub decoded_of : List ℕ → Decoded
-decoded_of ws = cond (is_record ws) (Is (record_of ws)) NoRecord
+unfoldable pub decoded_of : List ℕ → Option Device
+decoded_of ws = cond (is_record ws) (Some (record_of ws)) None

@@ -2,9 +2,8 @@
 // The record as words, for callers that have no enums: what is no encoding of a record is told apart from one.
 #![tactic(auto)]
 
-ghost use Rattle.std.specs.Prelude.{◌≡◌, ◌≤◌, length};
+ghost use Rattle.std.specs.Prelude.{◌≡◌, ◌≤◌, length, Some};
 ghost use Rattle.little_endian.specs.Bytes.{put};
-ghost use Rattle.words.specs.declared.Decoded.TheVariants.{Is};
 ghost use Rattle.words.specs.Record.{record_length, bit, pending_call, decoded_of, words_of, pending_words};
 ghost use Rattle.words.specs.Record.{after_request, after_answer};
 
@@ -15,20 +14,6 @@ use wire::VirtioMemConfig;
 // A record's length in words.
 pub const RECORD_WORDS: usize = 15;
 
-// What words mean.
-#[derive(Clone, Copy)]
-pub enum Decoded {
-    Is(Device),
-    NoRecord,
-}
-
-// What four words mean as a pending call.
-#[derive(Drop)]
-enum Call {
-    Known(Pending),
-    Unknown,
-}
-
 fn bit(flag: bool) -> u64
     ensures { result ≡ bit flag }
 {
@@ -36,23 +21,23 @@ fn bit(flag: bool) -> u64
 }
 
 // The pending call that four words mean: a known kind, and 0 in each word that the kind has no use for.
-fn call_of(kind: u64, first: u64, second: u64, status: u64) -> Call
+fn call_of(kind: u64, first: u64, second: u64, status: u64) -> Option<Pending>
     ensures { result ≡ pending_call kind first second status }
 {
     if (kind == 0) & ((first == 0) & ((second == 0) & (status == 0))) {
-        return Call::Known(Pending::Nothing);
+        return Some(Pending::Nothing);
     }
     match kind {
         1 => {
             if status != 0 {
-                return Call::Unknown;
+                return None;
             }
-            Call::Known(Pending::Create {
+            Some(Pending::Create {
                 first: first,
                 last: second,
             })
         }
-        2 => Call::Known(Pending::Discard {
+        2 => Some(Pending::Discard {
             first: first,
             count: second,
             status: GuestAddr(status),
@@ -60,23 +45,23 @@ fn call_of(kind: u64, first: u64, second: u64, status: u64) -> Call
         3 => {
             let no_use = second != 0;
             if no_use {
-                return Call::Unknown;
+                return None;
             }
-            Call::Known(Pending::DiscardOne {
+            Some(Pending::DiscardOne {
                 block: first,
                 status: GuestAddr(status),
             })
         }
-        _ => Call::Unknown,
+        _ => None,
     }
 }
 
 // The record that words begin with, if they do.
-pub fn decode(words: &[u64]) -> Decoded
+pub fn decode(words: &[u64]) -> Option<Device>
     ensures { result ≡ decoded_of words.now }
 {
     if words.len() < RECORD_WORDS {
-        return Decoded::NoRecord;
+        return None;
     }
     let block_size = words[0];
     let node = words[1];
@@ -93,13 +78,13 @@ pub fn decode(words: &[u64]) -> Decoded
     let first = words[12];
     let second = words[13];
     let status = words[14];
-    let Call::Known(pending) = call_of(kind, first, second, status) else {
-        return Decoded::NoRecord;
+    let Some(pending) = call_of(kind, first, second, status) else {
+        return None;
     };
     if !((node <= 65535) & ((several <= 1) & (placed <= 1))) {
-        return Decoded::NoRecord;
+        return None;
     }
-    Decoded::Is(Device {
+    Some(Device {
         config: VirtioMemConfig {
             block_size: block_size,
             node_id: node as u16,
@@ -150,7 +135,7 @@ fn pending_words(pending: Pending) -> [u64; 4]
 // Writes a record as words; none past the end.
 pub fn encode(d: Device, words: &mut [u64])
     ensures words_after { words.new ≡ put words.old 0 (words_of d) }
-    ensures words_after_2 { record_length ≤ length words.old → decoded_of words.new ≡ Is d }
+    ensures words_after_2 { record_length ≤ length words.old → decoded_of words.new ≡ Some d }
 {
     let p = d.pending;
     let pending = pending_words(p);

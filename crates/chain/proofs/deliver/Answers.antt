@@ -13,5 +13,5 @@ returns-in_default c =
 pub returns : goal.returns
 unfolding reaches delivered
 returns c =
-    let f = place_found _ _ _ _ _ _ c.place_of.ensures c.in-At.is in
+    let f = place_found _ _ _ _ _ _ c.place_of.ensures c.in-Some.is in
     record { value = simp f.lies; mem_after = simp (f.lies, ← f.place, c.write_response.ensures) }

@@ -9,16 +9,16 @@ use Rattle.chain.proofs.with_first.Goals as goal
 pub returns-then-write_only : goal.returns-then-write_only
 unfolding with_first
 returns-then-write_only c =
-    let d = c.in-Is.first in
+    let d = c.in-Some.first in
     let i : is_indirect d ≡ false = cc in
     let w : is_write_only d ≡ true = cc in
-    simp (c.in-Is.is, i, w)
+    simp (c.in-Some.is, i, w)
 
 pub returns-in_default-place_of : goal.returns-in_default-place_of
 unfolding with_first
 returns-in_default-place_of c =
-    let d = c.in-Is.first in
+    let d = c.in-Some.first in
     let i : is_indirect d ≡ false = cc in
     let w : is_write_only d ≡ false = cc in
     let l : d.len ≡ 24 = omega arith in
-    simp (c.in-Is.is, i, w, l, place_outside _ _ _ _ _ c.place_of.ensures c.in_default-place_of.is)
+    simp (c.in-Some.is, i, w, l, place_outside _ _ _ _ _ c.place_of.ensures c.in_default-place_of.is)

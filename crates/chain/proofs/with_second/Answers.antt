@@ -8,8 +8,8 @@ use Rattle.chain.proofs.with_second.Goals as goal
 pub returns-then-short : goal.returns-then-short
 unfolding with_second
 returns-then-short c =
-    let d = c.in-Is.second in
+    let d = c.in-Some.second in
     let i : is_indirect d ≡ false = cc in
     let w : is_write_only d ≡ true = cc in
     let l : ltb d.len 10 ≡ true = cc in
-    simp (c.in-Is.is, i, w, l)
+    simp (c.in-Some.is, i, w, l)

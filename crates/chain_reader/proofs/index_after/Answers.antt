@@ -10,9 +10,9 @@ returns-in_default c = simp (← c.link_at.ensures, c.in_default.is)
 pub returns-then-has_next : goal.returns-then-has_next
 unfolding reader_index
 returns-then-has_next c =
-    simp (← c.link_at.ensures, c.in-Is.is, ← c.has_next.ensures, c.if-has_next.true)
+    simp (← c.link_at.ensures, c.in-Some.is, ← c.has_next.ensures, c.if-has_next.true)
 
 pub returns-else-has_next : goal.returns-else-has_next
 unfolding reader_index
 returns-else-has_next c =
-    simp (← c.link_at.ensures, c.in-Is.is, ← c.has_next.ensures, c.if-has_next.false)
+    simp (← c.link_at.ensures, c.in-Some.is, ← c.has_next.ensures, c.if-has_next.false)

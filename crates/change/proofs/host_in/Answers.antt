@@ -9,4 +9,4 @@ returns-in_default c = simp c.in_default.is
 
 pub returns : goal.returns
 unfolding host_in
-returns c = simp c.in-At.is c.host_sum.ensures
+returns c = simp c.in-Some.is c.host_sum.ensures

@@ -9,7 +9,7 @@ use Rattle.descriptors.specs.Standard.{descriptor_addr}
 use Rattle.descriptors.specs.Descriptors.{link_at}
 use Rattle.descriptors.proofs.Laws.{past_last, Found, place_found, place_outside}
 use Rattle.descriptors.proofs.link_at.Goals as goal
-use Rattle.descriptors.proofs.link_at.Goals.{In-At}
+use Rattle.descriptors.proofs.link_at.Goals.{In-Some}
 
 pub returns-then-past_table : goal.returns-then-past_table
 unfolding link_at
@@ -42,17 +42,17 @@ returns-in_default c =
     )
 
 -- where the 16 bytes are placed, they lie inside
-placed : (c : In-At) → let a = c.args in
-    Found (length a.mem.now) a.base.0 (a.table.0 + 16 * a.index) 16 c.in-At.at
-placed c = place_found _ _ _ _ _ _ c.place_of.ensures c.in-At.is
+placed : (c : In-Some) → let a = c.args in
+    Found (length a.mem.now) a.base.0 (a.table.0 + 16 * a.index) 16 c.in-Some.at
+placed c = place_found _ _ _ _ _ _ c.place_of.ensures c.in-Some.is
 
 pub descriptor_at-requires : goal.descriptor_at-requires
-descriptor_at-requires c = let f = placed (goal.at.descriptor_at-requires c).In-At in omega arith
+descriptor_at-requires c = let f = placed (goal.at.descriptor_at-requires c).In-Some in omega arith
 
 pub returns : goal.returns
 unfolding link_at descriptor_addr
 returns c =
-    let f = placed (goal.at.returns c).In-At in
+    let f = placed (goal.at.returns c).In-Some in
     simp (
       lt-ltb c.args.index 128 (omega arith),
       f.lies,

@@ -7,4 +7,4 @@ pub returns-in_default : goal.returns-in_default
 returns-in_default c = scan_nowhere _ _ c.scan_at.ensures c.in_default.is
 
 pub returns : goal.returns
-returns c = scan_at_end _ _ c.scan_at.ensures _ c.in-At.is
+returns c = scan_at_end _ _ c.scan_at.ensures _ c.in-Some.is

@@ -25,7 +25,7 @@ pub returns-in_default : goal.returns-in_default
 returns-in_default c = no_number c.loop-j.invariant c.loop-j-test.true c.if-form-j-eq-HOLE.true _ c.if-values-k.false c.read_number.ensures c.in_default.is
 
 pub loop-j-preserved-then-form-j-eq-HOLE : goal.loop-j-preserved-then-form-j-eq-HOLE
-loop-j-preserved-then-form-j-eq-HOLE c = hole_turn c.loop-j.invariant c.loop-j-test.true c.if-form-j-eq-HOLE.true _ c.if-values-k.false c.read_number.ensures _ _ c.in-At.is
+loop-j-preserved-then-form-j-eq-HOLE c = hole_turn c.loop-j.invariant c.loop-j-test.true c.if-form-j-eq-HOLE.true _ c.if-values-k.false c.read_number.ensures _ _ c.in-Some.is
 
 pub shape_of-values-then-s-i : goal.shape_of-values-then-s-i
 shape_of-values-then-s-i c = long c.loop-j.invariant

@@ -10,7 +10,7 @@ returns-in_default c = foreign _ _ _ c.decode.ensures c.in_default.is _ _ _ _ c.
 pub returns : goal.returns
 returns c =
     let is = c.decode.ensures in
-    let known = c.in-Is.is in
+    let known = c.in-Some.is in
     let met = c.host_answer-s.ensures in
     served _ _ _ is _ known _ _ _ _ _ _ _
     met

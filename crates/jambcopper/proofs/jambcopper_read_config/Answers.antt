@@ -10,7 +10,7 @@ returns-in_default c = unserved _ _ _ c.decode.ensures c.in_default.is _
 pub returns : goal.returns
 returns c =
     let e = c.decode.ensures in
-    let f = c.in-Is.is in
+    let f = c.in-Some.is in
     let call = c.read_config-s in
     let m = call.ensures in
     served _ _ _ e _ f _ _ _ _ _ _ _ m (unwritten _ _ e _ f _ (m.recorded ∙ read_keeps _ _ _)) (c.number_of.ensures, untold call.result.answer)

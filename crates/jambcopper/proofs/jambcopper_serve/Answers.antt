@@ -12,11 +12,11 @@ returns-in_default c = no_record _ _ _ _ c.decode.ensures c.in_default.is _ _ _ 
 
 pub returns-in_default-decode_queue : goal.returns-in_default-decode_queue
 returns-in_default-decode_queue c =
-    no_queue _ _ _ _ c.decode.ensures _ c.in-Is.is _ c.decode_queue.ensures c.in_default-decode_queue.is _ _ _ _ (c.tell-in_default-decode_queue.ensures.value, c.tell-in_default-decode_queue.ensures.words_after)
+    no_queue _ _ _ _ c.decode.ensures _ c.in-Some.is _ c.decode_queue.ensures c.in_default-decode_queue.is _ _ _ _ (c.tell-in_default-decode_queue.ensures.value, c.tell-in_default-decode_queue.ensures.words_after)
 
 pub returns-in-NoHead : goal.returns-in-NoHead
 returns-in-NoHead c =
-    unmoved_told _ _ _ _ c.decode.ensures _ c.in-Is.is _ c.decode_queue.ensures _ c.in-Is-decode_queue.is _ _ _ _ _
+    unmoved_told _ _ _ _ c.decode.ensures _ c.in-Some.is _ c.decode_queue.ensures _ c.in-Some-decode_queue.is _ _ _ _ _
     (told_as _ _ _ _ _ _ c.next_taking.ensures _ c.in-NoHead.is)
     (c.tell_queue.ensures.value, c.tell_queue.ensures.words_after)
 
@@ -25,7 +25,7 @@ shape_of-words-in-Walk c = let h = c.words-1.given in omega arith
 
 pub returns-in-Walk : goal.returns-in-Walk
 returns-in-Walk c =
-    about-told _ _ _ _ c.decode.ensures _ c.in-Is.is _ c.decode_queue.ensures _ c.in-Is-decode_queue.is
+    about-told _ _ _ _ c.decode.ensures _ c.in-Some.is _ c.decode_queue.ensures _ c.in-Some-decode_queue.is
     _ _ _ _ _ _ _ c.jambcopper_request-number.ensures
     refl (always_short _ _) _ _ _ _
     (walk_as _ _ _ _ _ _ c.next_taking.ensures _ c.in-Walk.is _ c.took_head.ensures)

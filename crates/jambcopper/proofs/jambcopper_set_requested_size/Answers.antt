@@ -8,7 +8,7 @@ returns-in_default c = foreign _ _ _ c.decode.ensures c.in_default.is _ _ _ _ c.
 
 pub returns : goal.returns
 returns c =
-    served _ _ _ c.decode.ensures _ c.in-Is.is _ _ _ _ _ _ _
+    served _ _ _ c.decode.ensures _ c.in-Some.is _ _ _ _ _ _ _
     c.set_requested_size-s.ensures
     (c.encode.ensures.words_after, c.encode.ensures.words_after_2)
     (c.tell-2.ensures.value, c.tell-2.ensures.words_after)

@@ -3,10 +3,10 @@
 use Rattle.queue.specs.Queue.{can_report}
 use Rattle.queue.proofs.can_report.Goals as goal
 
-pub returns-in-Nothing : goal.returns-in-Nothing
+pub returns-in-None : goal.returns-in-None
 unfolding can_report
-returns-in-Nothing c = rw c.in-Nothing.is
+returns-in-None c = rw c.in-None.is
 
-pub returns-in-Head : goal.returns-in-Head
+pub returns-in-Some : goal.returns-in-Some
 unfolding can_report
-returns-in-Head c = rw c.in-Head.is c.rings_inside.ensures
+returns-in-Some c = rw c.in-Some.is c.rings_inside.ensures

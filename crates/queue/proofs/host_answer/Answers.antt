@@ -22,5 +22,5 @@ pub returns : goal.returns
 unfolding answers
 returns c =
     let a = c.args in
-    rw (heard_as a.d a.bitmap.now a.table.now a.q (guest_of a.mem.now a.base) _ _ _ c.queue_refusal-number.ensures (eq-eqb _ _ c.if-number-ne0.false) _ c.in-Head.is)
+    rw (heard_as a.d a.bitmap.now a.table.now a.q (guest_of a.mem.now a.base) _ _ _ c.queue_refusal-number.ensures (eq-eqb _ _ c.if-number-ne0.false) _ c.in-Some.is)
     (about_met c.host_answer-s.ensures _ _ _ _ _ _ c.ending_of.ensures c.settle-queue.ensures c.tells-2.ensures)

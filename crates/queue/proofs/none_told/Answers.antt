@@ -12,9 +12,9 @@ pub returns-in-Head : goal.returns-in-Head
 unfolding next_unless none_told
 returns-in-Head c = rw (eq-eqb _ _ c.if-number-ne0.false, c.in-Head.is)
 
-pub returns-in-Empty : goal.returns-in-Empty
+pub returns-in-None : goal.returns-in-None
 unfolding next_unless none_told
-returns-in-Empty c = rw (eq-eqb _ _ c.if-number-ne0.false, c.in-Empty.is)
+returns-in-None c = rw (eq-eqb _ _ c.if-number-ne0.false, c.in-None.is)
 
 pub returns-in-Refused : goal.returns-in-Refused
 unfolding next_unless none_told

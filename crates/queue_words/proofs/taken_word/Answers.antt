@@ -3,5 +3,5 @@
 use native.Mathlib.Omega.{arith}
 use Rattle.queue_words.proofs.taken_word.Goals as goal
 
-pub returns-in-Head : goal.returns-in-Head
-returns-in-Head c = record { value = rw c.in-Head.is; upper_bound = omega arith }
+pub returns-in-Some : goal.returns-in-Some
+returns-in-Some c = record { value = rw c.in-Some.is; upper_bound = omega arith }

@@ -2,8 +2,8 @@
 -- `queue_words::tell_queue` meets its contract, case by case.
 use Rattle.queue_words.proofs.tell_queue.Goals as goal
 
-pub returns-in-Empty : goal.returns-in-Empty
-returns-in-Empty c = record { value = rw c.in-Empty.is; words_after = rw c.in-Empty.is c.write_words.ensures }
+pub returns-in-None : goal.returns-in-None
+returns-in-None c = record { value = rw c.in-None.is; words_after = rw c.in-None.is c.write_words.ensures }
 
-pub returns-in-Of : goal.returns-in-Of
-returns-in-Of c = record { value = rw c.in-Of.is c.tell.ensures.value; words_after = rw c.in-Of.is c.tell.ensures.words_after }
+pub returns-in-Some : goal.returns-in-Some
+returns-in-Some c = record { value = rw c.in-Some.is c.tell.ensures.value; words_after = rw c.in-Some.is c.tell.ensures.words_after }

@@ -3,10 +3,10 @@
 use Rattle.responses.specs.Responses.{number_in}
 use Rattle.responses.proofs.number_in.Goals as goal
 
-pub returns-in-At : goal.returns-in-At
+pub returns-in-Some : goal.returns-in-Some
 unfolding number_in
-returns-in-At c = rw (c.in-At.is, ← c.saturating_sub.ensures) c.saturating_add.ensures
+returns-in-Some c = rw (c.in-Some.is, ← c.saturating_sub.ensures) c.saturating_add.ensures
 
-pub returns-in-Nothing : goal.returns-in-Nothing
+pub returns-in-None : goal.returns-in-None
 unfolding number_in
-returns-in-Nothing c = rw c.in-Nothing.is
+returns-in-None c = rw c.in-None.is

@@ -8,4 +8,4 @@ pub returns-in_default : goal.returns-in_default
 returns-in_default c = sym (place_outside _ _ _ _ _ c.place_of.ensures c.in_default.is)
 
 pub returns : goal.returns
-returns c = sym (place_found _ _ _ _ _ _ c.place_of.ensures c.in-At.is).lies
+returns c = sym (place_found _ _ _ _ _ _ c.place_of.ensures c.in-Some.is).lies

@@ -8,7 +8,7 @@ pub returns-in_default : goal.returns-in_default
 returns-in_default c = next_none (blocks c.args.bitmap.now) _ _ _ c.next_set.ensures c.in_default.is
 
 pub count_from-requires : goal.count_from-requires
-count_from-requires c = (next_found (blocks c.args.bitmap.now) _ _ _ c.next_set.ensures _ 0 c.in-At.is).0
+count_from-requires c = (next_found (blocks c.args.bitmap.now) _ _ _ c.next_set.ensures _ 0 c.in-Some.is).0
 
 pub returns : goal.returns
-returns c = (next_found (blocks c.args.bitmap.now) _ _ _ c.next_set.ensures _ _ c.in-At.is).1 c.count_from.ensures
+returns c = (next_found (blocks c.args.bitmap.now) _ _ _ c.next_set.ensures _ _ c.in-Some.is).1 c.count_from.ensures

@@ -7,4 +7,4 @@ pub returns-in_default : goal.returns-in_default
 returns-in_default c = run_nowhere _ c.args.at c.scan_at.ensures c.in_default.is
 
 pub returns : goal.returns
-returns c = run_found _ c.args.at c.scan_at.ensures _ c.in-At.is
+returns c = run_found _ c.args.at c.scan_at.ensures _ c.in-Some.is

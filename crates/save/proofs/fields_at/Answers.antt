@@ -8,4 +8,4 @@ pub returns-in_default : goal.returns-in_default
 returns-in_default c = (refl, fields_nowhere _ c.args.at c.scan_at.ensures c.in_default.is)
 
 pub returns : goal.returns
-returns c = let f = fields_found _ c.args.at c.scan_at.ensures _ c.in-At.is in (refl, f.0, f.1)
+returns c = let f = fields_found _ c.args.at c.scan_at.ensures _ c.in-Some.is in (refl, f.0, f.1)

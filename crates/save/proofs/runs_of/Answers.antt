@@ -16,7 +16,7 @@ pub returns-in_default : goal.returns-in_default
 returns-in_default c = laid_bad _ _ (flag _ _ _ c.shape_ok.ensures c.if-not-shape_ok.false) c.blocks_in-end.ensures _ refl _ _ c.count_runs.ensures c.in_default.is
 
 pub returns-then-plugged-n : goal.returns-then-plugged-n
-returns-then-plugged-n c = laid_other _ _ (flag _ _ _ c.shape_ok.ensures c.if-not-shape_ok.false) c.blocks_in-end.ensures _ refl _ _ c.count_runs.ensures _ _ c.in-Blocks.is c.blocks_in-plugged.ensures c.if-plugged-n.true
+returns-then-plugged-n c = laid_other _ _ (flag _ _ _ c.shape_ok.ensures c.if-not-shape_ok.false) c.blocks_in-end.ensures _ refl _ _ c.count_runs.ensures _ _ c.in-Some.is c.blocks_in-plugged.ensures c.if-plugged-n.true
 
 pub returns : goal.returns
-returns c = (refl, refl, laid _ _ (flag _ _ _ c.shape_ok.ensures c.if-not-shape_ok.false) c.blocks_in-end.ensures _ refl _ _ c.count_runs.ensures _ _ c.in-Blocks.is c.blocks_in-plugged.ensures c.if-plugged-n.false)
+returns c = (refl, refl, laid _ _ (flag _ _ _ c.shape_ok.ensures c.if-not-shape_ok.false) c.blocks_in-end.ensures _ refl _ _ c.count_runs.ensures _ _ c.in-Some.is c.blocks_in-plugged.ensures c.if-plugged-n.false)

@@ -7,7 +7,7 @@ pub returns-in_default : goal.returns-in_default
 returns-in_default c = restore_foreign _ _ _ _ c.decode.ensures c.in_default.is
 
 pub returns-in-Refused : goal.returns-in-Refused
-returns-in-Refused c = restore_refused _ _ _ _ c.decode.ensures _ c.in-Is.is _ _ c.restore.ensures _ c.in-Refused.is
+returns-in-Refused c = restore_refused _ _ _ _ c.decode.ensures _ c.in-Some.is _ _ c.restore.ensures _ c.in-Refused.is
 
 pub returns-in-Device : goal.returns-in-Device
-returns-in-Device c = restore_laid _ _ _ _ c.decode.ensures _ c.in-Is.is _ _ c.restore.ensures _ c.in-Device.is _ c.encode.ensures.words_after
+returns-in-Device c = restore_laid _ _ _ _ c.decode.ensures _ c.in-Some.is _ _ c.restore.ensures _ c.in-Device.is _ c.encode.ensures.words_after

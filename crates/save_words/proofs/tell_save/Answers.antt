@@ -10,4 +10,4 @@ pub returns-in_default : goal.returns-in_default
 returns-in_default c = save_foreign _ _ _ c.if-length-lt-LENGTH_WORDS.false _ c.decode.ensures _ c.in_default.is
 
 pub returns : goal.returns
-returns c = save_told _ _ _ c.if-length-lt-LENGTH_WORDS.false _ c.decode.ensures _ c.in-Is.is _ _ _ c.tell_wrote.ensures _ _ c.save-w.ensures
+returns c = save_told _ _ _ c.if-length-lt-LENGTH_WORDS.false _ c.decode.ensures _ c.in-Some.is _ _ _ c.tell_wrote.ensures _ _ c.save-w.ensures

@@ -10,4 +10,4 @@ pub returns-in_default : goal.returns-in_default
 returns-in_default c = length_foreign _ _ _ c.if-length-lt-LENGTH_WORDS.false _ c.decode.ensures c.in_default.is
 
 pub returns : goal.returns
-returns c = length_told _ _ _ c.if-length-lt-LENGTH_WORDS.false _ c.decode.ensures _ c.in-Is.is _ _ _ c.tell_wrote.ensures c.save_length-w.ensures
+returns c = length_told _ _ _ c.if-length-lt-LENGTH_WORDS.false _ c.decode.ensures _ c.in-Some.is _ _ _ c.tell_wrote.ensures c.save_length-w.ensures

@@ -7,7 +7,7 @@ pub returns-in_default : goal.returns-in_default
 returns-in_default c = all_ends _ _ _ c.requires _ _ _ _ _ c.blocks_in-end.ensures _ c.next_set.ensures c.in_default.is _ _ c.plugged_to.ensures c.pending_to-none.ensures c.ended.ensures
 
 pub unplug_one-requires : goal.unplug_one-requires
-unplug_one-requires c = (c.requires, block_inside _ _ _ _ _ _ c.blocks_in-end.ensures c.next_set.ensures c.in-At.is, block_plugged _ _ _ _ c.next_set.ensures c.in-At.is)
+unplug_one-requires c = (c.requires, block_inside _ _ _ _ _ _ c.blocks_in-end.ensures c.next_set.ensures c.in-Some.is, block_plugged _ _ _ _ c.next_set.ensures c.in-Some.is)
 
 pub returns : goal.returns
-returns c = all_goes_on _ _ _ c.requires _ _ _ _ _ c.blocks_in-end.ensures _ c.next_set.ensures _ c.in-At.is c.unplug_one.ensures
+returns c = all_goes_on _ _ _ c.requires _ _ _ _ _ c.blocks_in-end.ensures _ c.next_set.ensures _ c.in-Some.is c.unplug_one.ensures

@@ -1,5 +1,6 @@
 -- SPDX-License-Identifier: Apache-2.0 AND BSD-3-Clause
 -- `words::call_of` meets its contract, kind by kind.
+use Rattle.std.specs.Prelude.{Some}
 use Prim.Native.Nat.{ℕ}
 use mathlib.Core.Path.{◌≡◌, refl}
 use Rattle.std.proofs.Common.{◌≢◌, arith}
@@ -8,12 +9,11 @@ use lib.Dec.{eqb}
 use borrow.Author.Tests.{eqb-true, ne_eqb}
 use Rattle.units.proofs.Tests.{and_left, and_right}
 use Rattle.record.specs.declared.Pending.TheVariants.{Nothing}
-use Rattle.words.specs.declared.Call.TheVariants.{Known}
 use Rattle.words.specs.Record.{pending_of, pending_fits, pending_call}
 use Rattle.words.proofs.call_of.Goals as goal
 
 -- four words that are 0
-nothing : (k a b c : ℕ) → (eqb k 0 && (eqb a 0 && (eqb b 0 && eqb c 0))) ≡ true → Known Nothing ≡ pending_call k a b c
+nothing : (k a b c : ℕ) → (eqb k 0 && (eqb a 0 && (eqb b 0 && eqb c 0))) ≡ true → Some Nothing ≡ pending_call k a b c
 unfolding pending_call pending_fits pending_of
 nothing k a b c h =
     let i = and_right (eqb k 0) _ h in
