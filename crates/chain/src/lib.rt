@@ -5,7 +5,7 @@
 ghost use Rattle.std.specs.Prelude.{◌≡◌};
 ghost use Rattle.chain.specs.Chain.{with_first, with_second, parsed, reason_of, reaches, delivered};
 
-use descriptors::{link_after, link_at, place_of};
+use descriptors::{Descriptor, link_after, link_at, place_of};
 use units::GuestAddr;
 use wire::{VirtioMemReq, VirtioMemResp, read_request, write_response};
 

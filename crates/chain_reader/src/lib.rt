@@ -8,7 +8,7 @@ ghost use Rattle.chain.specs.Chain.{parsed};
 ghost use Rattle.chain_reader.specs.Reader.{reader_index, second_link};
 
 use chain::{Parsed, parse};
-use descriptors::link_at;
+use descriptors::{Descriptor, link_at};
 use units::GuestAddr;
 
 // An index at which no descriptor is.

@@ -1,6 +1,6 @@
 -- SPDX-License-Identifier: Apache-2.0 AND BSD-3-Clause
 -- What making a device ends in (R4): a record, or the number 2 or 1.
-use Rattle.std.specs.Prelude.{ℕ, ◌*◌, Bool, true, false, cond, not, ◌&&◌, ◌||◌, ◌≡◌, ltb, eqb, Option, Some}
+use Rattle.std.specs.Prelude.{ℕ, ◌*◌, Bool, true, false, cond, not, ◌&&◌, ◌||◌, ◌≡◌, ltb, eqb, Option, Some, None}
 use Rattle.units.specs.Numbers.{map_region, alignment_of, capacity_of, MiB}
 use Rattle.wire.specs.Layout.{new_config}
 use Rattle.record.specs.declared.Device.{Device}

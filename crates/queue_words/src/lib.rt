@@ -8,6 +8,7 @@ ghost use Rattle.queue.specs.Queue.{queue_answer_words, queue_number_of};
 ghost use Rattle.queue_words.specs.Words.{queue_length, taken_word, taken_of, queue_words, is_queue};
 ghost use Rattle.queue_words.specs.Words.{decoded_queue_of, ending_words};
 
+use step::Answer;
 use answer_words::{ANSWER_WORDS, tell};
 use queue::Ending;
 use rings::Queue;

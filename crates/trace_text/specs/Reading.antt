@@ -1,6 +1,6 @@
 -- SPDX-License-Identifier: Apache-2.0 AND BSD-3-Clause
 -- What the private functions of `read_line` do, step by step; its own promise does not rest on it.
-use Rattle.std.specs.Prelude.{ℕ, cond, ◌&&◌, List, [], ◌∷◌, leb, eqb, get_or, Option, Some}
+use Rattle.std.specs.Prelude.{ℕ, cond, ◌&&◌, List, [], ◌∷◌, leb, eqb, get_or, Option, Some, None}
 use Rattle.units.specs.declared.GuestAddr.{GuestAddr}
 use Rattle.text.specs.Words.{bytes}
 use Rattle.forms.specs.Scanning.{Scan, numbers, scan_of, is_whole}

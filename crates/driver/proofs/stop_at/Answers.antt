@@ -1,6 +1,6 @@
 -- SPDX-License-Identifier: Apache-2.0 AND BSD-3-Clause
 -- `stop_at` meets its contract.
-use Rattle.std.specs.Prelude.{Option}
+use Rattle.std.specs.Prelude.{Option, ℕ}
 use mathlib.Core.Path.{ap, sym, ◌∙◌}
 use Rattle.driver.specs.Plan.{stop_at}
 use Rattle.driver.proofs.stop_at.Goals as goal
