@@ -24,8 +24,7 @@ use Rattle.record.specs.declared.Pending.{Pending}
 use Rattle.record.specs.declared.Pending.TheVariants.{Nothing, Create, Discard, DiscardOne}
 use Rattle.record.specs.Shape.{shaped_of, start_ok}
 use Rattle.record.specs.Changes.{requested_to}
-use Rattle.resize.specs.declared.Growth.TheVariants.{Asks}
-use Rattle.resize.specs.Resize.{growth_of}
+use Rattle.resize.specs.Resize.{growth_of, creation}
 use Rattle.step.specs.declared.Answer.TheVariants.{Done}
 use Rattle.step.specs.Answers.{refusal, response}
 use Rattle.step.specs.World.{World, Guest, Call, Place, SetRequestedSize, Request, HostAnswer, ReadConfig, WriteConfig, Outcome}
@@ -98,7 +97,7 @@ resized_by {w} a = device_of (requested_to (a.mib * 1048576) w.device) w
 
 -- the growth of the usable size asks for the rows from i to last
 abbrev pub Grows : World → (i last size : ℕ) → Type 0
-Grows w i last size = growth_of (region w) (several w) (usable w) (new_usable w) w.rows ≡ Asks i last size
+Grows w i last size = growth_of (region w) (several w) (usable w) (new_usable w) w.rows ≡ creation i last size
 
 -- K holds of each ending
 pub record Endings (w : World) (K : Call → Outcome → List Event → Type 0) : Type 0 where

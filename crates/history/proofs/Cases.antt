@@ -22,9 +22,8 @@ use Rattle.rows.specs.declared.MapRow.{MapRow}
 use Rattle.record.specs.declared.Device.{Device}
 use Rattle.record.specs.Shape.{shaped_of, is_idle, size_ok, start_ok}
 use Rattle.record.specs.Changes.{requested_to}
-use Rattle.resize.specs.declared.Growth.{Growth}
-use Rattle.resize.specs.declared.Growth.TheVariants.{Asks, Settled}
-use Rattle.resize.specs.Resize.{growth_of}
+use Rattle.resize.specs.declared.Creation.{Creation}
+use Rattle.resize.specs.Resize.{growth_of, creation}
 use Rattle.change.specs.declared.Change.{Change}
 use Rattle.change.specs.declared.Change.TheVariants.{Legal, Outside, WrongState, NoHost}
 use Rattle.change.specs.declared.HostRange.TheVariants.{At as HostAt}
@@ -231,23 +230,23 @@ module _ (P : Outcome → Type 0) (w : World) (req : VirtioMemReq) (status : ℕ
 -- ---- the usable size, placing, the size change, and the config
 module _ (P : Outcome → Type 0) (w : World) where
   pub resized_ways :
-      (growth_of (region w) (several w) (usable w) (new_usable w) w.rows ≡ Settled → P (sizes w))
-      → ((i last size : ℕ) → growth_of (region w) (several w) (usable w) (new_usable w) w.rows ≡ Asks i last size → P (asks_create w i last size))
+      (growth_of (region w) (several w) (usable w) (new_usable w) w.rows ≡ None → P (sizes w))
+      → ((i last size : ℕ) → growth_of (region w) (several w) (usable w) (new_usable w) w.rows ≡ creation i last size → P (asks_create w i last size))
       → P (resized w)
   unfolding resizes
   resized_ways settled asks = go (growth_of (region w) (several w) (usable w) (new_usable w) w.rows) refl
     where
-      go : (x : Growth) → growth_of (region w) (several w) (usable w) (new_usable w) w.rows ≡ x → P (resizes x w)
-      go Settled e = settled e
-      go (Asks i last size) e = asks i last size e
+      go : (x : Option Creation) → growth_of (region w) (several w) (usable w) (new_usable w) w.rows ≡ x → P (resizes x w)
+      go None e = settled e
+      go (Some made) e = asks made.first made.last made.size e
 
   pub resized_cases : P (sizes w)
-      → ((i last size : ℕ) → growth_of (region w) (several w) (usable w) (new_usable w) w.rows ≡ Asks i last size → P (asks_create w i last size))
+      → ((i last size : ℕ) → growth_of (region w) (several w) (usable w) (new_usable w) w.rows ≡ creation i last size → P (asks_create w i last size))
       → P (resized w)
   resized_cases settled asks = resized_ways (λ _. settled) asks
 
   pub placing_cases : P (sizes w)
-      → ((i last size : ℕ) → growth_of (region w) (several w) (usable w) (new_usable w) w.rows ≡ Asks i last size → P (asks_create w i last size))
+      → ((i last size : ℕ) → growth_of (region w) (several w) (usable w) (new_usable w) w.rows ≡ creation i last size → P (asks_create w i last size))
       → (several w ≡ false → P (asks_create w 0 0 (region w)))
       → P (placing w)
   unfolding placing

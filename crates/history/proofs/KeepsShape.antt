@@ -14,8 +14,7 @@ use Rattle.units.proofs.Tests.{by_test, and_left, and_right}
 use Rattle.bitmap.proofs.Laws.{next_at}
 use Rattle.record.specs.declared.Pending.TheVariants.{Nothing, Create, Discard, DiscardOne}
 use Rattle.record.specs.Shape.{region_ok, alignment_ok, size_ok, pending_ok}
-use Rattle.resize.specs.declared.Growth.TheVariants.{Asks}
-use Rattle.resize.specs.Resize.{new_size, growth_of}
+use Rattle.resize.specs.Resize.{new_size, growth_of, creation}
 use Rattle.resize.proofs.Laws.{new_within, new_whole, asking}
 use Rattle.rows.specs.declared.MapRow.{MapRow}
 use Rattle.step.specs.World.{World, Call, Outcome}
@@ -59,7 +58,7 @@ unfolding region_ok
 region_positive region alignment e = ltb-true 0 region (and_left _ _ (and_right (alignment_ok alignment) _ e))
 
 create_ok : (b region : ℕ) (several : Bool) (plugged usable new : ℕ) (rows : List MapRow) (i last size : ℕ) → 0 < region
-    → growth_of region several usable new rows ≡ Asks i last size → pending_ok (Create i last) b region several plugged ≡ true
+    → growth_of region several usable new rows ≡ creation i last size → pending_ok (Create i last) b region several plugged ≡ true
 unfolding pending_ok map_regions
 create_ok b region several plugged usable new rows i last size positive e =
     let a = asking region several usable new rows i last size e in

@@ -1,5 +1,6 @@
 -- SPDX-License-Identifier: Apache-2.0 AND BSD-3-Clause
 -- Every call keeps that the host has memory for the whole usable size.
+use Rattle.std.specs.Prelude.{None}
 use Prim.Native.Nat.{ℕ, ◌+◌, ◌-◌, ◌*◌, ◌≤◌, ◌<◌}
 use mathlib.Core.Path.{◌≡◌, refl, ap}
 use mathlib.Core.Bool.{Bool, true, false}
@@ -22,8 +23,7 @@ use Rattle.record.specs.declared.Pending.TheVariants.{Nothing, Create, Discard, 
 use Rattle.record.specs.Shape.{is_idle}
 use Rattle.record.specs.Changes.{requested_to}
 use Rattle.record.proofs.Laws.{Parts, RowsInside, whole as shaped-when, create_is}
-use Rattle.resize.specs.declared.Growth.TheVariants.{Asks, Settled}
-use Rattle.resize.specs.Resize.{growth_of}
+use Rattle.resize.specs.Resize.{growth_of, creation}
 use Rattle.step.specs.World.{World, Guest, Call, Place, SetRequestedSize, Request, HostAnswer, ReadConfig, WriteConfig, Outcome}
 use Rattle.step.specs.Step.{region, several, usable, new_usable, region_rows, device_of, sizes, asks_create, creates, covered_by, cleared, placed, serve, request, placing, host_answer, step}
 use Rattle.step.proofs.Mapped.{MappedBelow, settled_maps, creation_maps}
@@ -41,7 +41,7 @@ idle_no_creation p q i last e = clash q (ap is_idle e)
 
 -- ---- the usable size is worked out, and nothing had to be created
 sized_memory : (w : World) → InMemory w → is_idle w.device.pending ≡ true → region_rows w ≤ length w.rows → (several w ≡ false → w.device.placed ≡ true)
-    → growth_of (region w) (several w) (usable w) (new_usable w) w.rows ≡ Settled → InMemory (sizes w).world
+    → growth_of (region w) (several w) (usable w) (new_usable w) w.rows ≡ None → InMemory (sizes w).world
 unfolding map_regions
 sized_memory w m quiet enough there settled = by_several (several w) refl
   where
@@ -60,7 +60,7 @@ sized_memory w m quiet enough there settled = by_several (several w) refl
         go false e = λ r _ n z. let one : r < 1 = rw e at n in let first : r ≡ 0 = omega arith in m.single e (there e) (rw first at z)
 
 -- ---- a creation is asked for: the one that is needed, or that of the whole of a single region
-asks_memory : (w : World) (i last size : ℕ) → InMemory w → (several w ≡ true → growth_of (region w) (several w) (usable w) (new_usable w) w.rows ≡ Asks i last size) → InMemory (asks_create w i last size).world
+asks_memory : (w : World) (i last size : ℕ) → InMemory w → (several w ≡ true → growth_of (region w) (several w) (usable w) (new_usable w) w.rows ≡ creation i last size) → InMemory (asks_create w i last size).world
 asks_memory w i last size m grows =
     record {
       early = m.early;

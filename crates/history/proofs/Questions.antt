@@ -1,5 +1,6 @@
 -- SPDX-License-Identifier: Apache-2.0 AND BSD-3-Clause
 -- The host is asked for exactly what is then pending, and for a discard only by an unplug or an unplug-all; so a size change discards nothing.
+use Rattle.std.specs.Prelude.{None}
 use Prim.Native.Nat.{ℕ, ◌+◌, ◌*◌}
 use mathlib.Core.Path.{◌≡◌, refl, ap, sym}
 use mathlib.Core.Bool.{Bool, true, false, cond}
@@ -11,8 +12,7 @@ use Rattle.rows.specs.Rows.{row_at}
 use Rattle.rows.specs.declared.MapRow.{MapRow}
 use Rattle.record.specs.declared.HostCall.{HostCall}
 use Rattle.record.specs.declared.HostCall.TheVariants.{Create as CreateCall, Discard as DiscardCall}
-use Rattle.resize.specs.declared.Growth.TheVariants.{Asks, Settled}
-use Rattle.resize.specs.Resize.{growth_of}
+use Rattle.resize.specs.Resize.{growth_of, creation}
 use Rattle.resize.proofs.Laws.{asking}
 use Rattle.change.specs.declared.HostRange.TheVariants.{At}
 use Rattle.change.specs.Change.{host_of}
@@ -40,13 +40,13 @@ discard_asked w first count offset host call at maps e =
     let q : DiscardCall (record { 0 = offset }) (bytes_of (block_size w) count) (record { 0 = host }) ≡ call = cc in
     record { host = record { 0 = host }; host_is = rw at at maps; call_is = sym (rw at at q) }
 
-creation_asked : (w : World) (i last size : ℕ) (call : HostCall) → creation_due w ≡ Asks i last size
+creation_asked : (w : World) (i last size : ℕ) (call : HostCall) → creation_due w ≡ creation i last size
     → Wants (CreateCall (record { 0 = start w + i * map_region }) size (row_at w.rows i).slot) ≡ Wants call → IsCreation w i last call
 creation_asked w i last size call due e = record { size = size; is_due = due; call_is = cc }
 
 -- the growth of the usable size asks only where there are several regions
-several_due : (several placed : Bool) (region usable new : ℕ) (rows : List MapRow) (i last size : ℕ) → growth_of region several usable new rows ≡ Asks i last size
-    → cond several (growth_of region several usable new rows) (cond placed Settled (Asks 0 0 region)) ≡ Asks i last size
+several_due : (several placed : Bool) (region usable new : ℕ) (rows : List MapRow) (i last size : ℕ) → growth_of region several usable new rows ≡ creation i last size
+    → cond several (growth_of region several usable new rows) (cond placed None (creation 0 0 region)) ≡ creation i last size
 several_due true placed region usable new rows i last size g = g
 several_due false placed region usable new rows i last size g = clash (asking region false usable new rows i last size g).regions refl
 

@@ -8,8 +8,7 @@ use Rattle.rows.specs.Rows.{row_at}
 use Rattle.record.specs.declared.Pending.{Pending}
 use Rattle.record.specs.declared.Pending.TheVariants.{Nothing, Create, Discard, DiscardOne}
 use Rattle.record.specs.Shape.{shaped_of}
-use Rattle.resize.specs.declared.Growth.TheVariants.{Asks}
-use Rattle.resize.specs.Resize.{growth_of}
+use Rattle.resize.specs.Resize.{growth_of, creation}
 use Rattle.step.specs.World.{World}
 use Rattle.step.specs.Step.{block_size, region, several, usable, plugged, new_usable, region_blocks, tables_fit}
 use Rattle.history.specs.History.{UnplugAck, Discarded, NoRequest, open_of, Story, Demand3}
@@ -36,7 +35,7 @@ pub record Memory (region : ℕ) (several : Bool) (usable new : ℕ) (placed : B
   pub below : (r : ℕ) → r * map_region < usable → r < map_regions region several → (row_at rows r).mapped ≡ 0 → ⊥
   pub single : several ≡ false → placed ≡ true → (row_at rows 0).mapped ≡ 0 → ⊥
   -- the creation that is pending is the one that the usable size needs
-  pub asked : (i last : ℕ) → pending ≡ Create i last → several ≡ true → (size : ℕ) × (growth_of region several usable new rows ≡ Asks i last size)
+  pub asked : (i last : ℕ) → pending ≡ Create i last → several ≡ true → (size : ℕ) × (growth_of region several usable new rows ≡ creation i last size)
 
 abbrev pub InMemory : World → Type 0
 InMemory w = Memory (region w) (several w) (usable w) (new_usable w) w.device.placed w.device.pending w.rows

@@ -1,6 +1,6 @@
 -- SPDX-License-Identifier: Apache-2.0 AND BSD-3-Clause
 -- What the host is asked: exactly what is then pending, and a discard only for an unplug or an unplug-all of the guest's. Of every call c from every world w, and of its outcome o.
-use Rattle.std.specs.Prelude.{ℕ, ◌+◌, ◌*◌, ◌≡◌, Bool, true, false, cond, ◌&&◌, ◌||◌, List, eqb}
+use Rattle.std.specs.Prelude.{ℕ, ◌+◌, ◌*◌, ◌≡◌, Bool, true, false, cond, ◌&&◌, ◌||◌, List, eqb, None}
 use Rattle.std.proofs.Math.Option.{Option, some, none}
 use Rattle.units.specs.Numbers.{bytes_of, map_region}
 use Rattle.units.specs.declared.RegionOffset.{RegionOffset}
@@ -14,9 +14,8 @@ use Rattle.record.specs.declared.Pending.{Pending}
 use Rattle.record.specs.declared.Pending.TheVariants.{Nothing, Create, Discard, DiscardOne}
 use Rattle.record.specs.declared.HostCall.{HostCall}
 use Rattle.record.specs.declared.HostCall.TheVariants.{Create as CreateCall, Discard as DiscardCall}
-use Rattle.resize.specs.declared.Growth.{Growth}
-use Rattle.resize.specs.declared.Growth.TheVariants.{Asks, Settled}
-use Rattle.resize.specs.Resize.{growth_of}
+use Rattle.resize.specs.declared.Creation.{Creation}
+use Rattle.resize.specs.Resize.{growth_of, creation}
 use Rattle.change.specs.declared.HostRange.TheVariants.{At}
 use Rattle.change.specs.Change.{host_of}
 use Rattle.step.specs.declared.Answer.{Answer}
@@ -34,14 +33,14 @@ pub record IsDiscard (w : World) (first count : ℕ) (call : HostCall) : Type 0 
   pub call_is : call ≡ DiscardCall (record { 0 = bytes_of (block_size w) first }) (bytes_of (block_size w) count) host
 
 -- the creation that is due, its rows and its size: with several regions as R6.4 to R6.6 say; of a single region the whole, in placing (R5.3)
-abbrev pub creation_due : World → Growth
+abbrev pub creation_due : World → Option Creation
 creation_due w =
-    cond (several w) (growth_of (region w) (several w) (usable w) (new_usable w) w.rows) (cond w.device.placed Settled (Asks 0 0 (region w)))
+    cond (several w) (growth_of (region w) (several w) (usable w) (new_usable w) w.rows) (cond w.device.placed None (creation 0 0 (region w)))
 
 -- R6.6
 pub record IsCreation (w : World) (i last : ℕ) (call : HostCall) : Type 0 where
   pub size : ℕ
-  pub is_due : creation_due w ≡ Asks i last size
+  pub is_due : creation_due w ≡ creation i last size
   pub call_is : call ≡ CreateCall (record { 0 = start w + i * map_region }) size (row_at w.rows i).slot
 
 -- the question that a pending call waits for

@@ -1,5 +1,6 @@
 -- SPDX-License-Identifier: Apache-2.0 AND BSD-3-Clause
 -- How the outcomes of placing and of a size change come about, test by test.
+use Rattle.std.specs.Prelude.{Option, Some, None}
 use Prim.Native.Nat.{ℕ, ◌+◌, ◌*◌, ◌≤◌}
 use mathlib.Core.Path.{◌≡◌}
 use mathlib.Core.Bool.{true, false}
@@ -12,9 +13,8 @@ use Rattle.rows.specs.Rows.{written}
 use Rattle.record.specs.declared.Device.{Device}
 use Rattle.record.specs.Shape.{shaped_of}
 use Rattle.record.proofs.Laws.{shaped_is, span_several}
-use Rattle.resize.specs.declared.Growth.{Growth}
-use Rattle.resize.specs.declared.Growth.TheVariants.{Asks, Settled}
-use Rattle.resize.specs.Resize.{growth_of}
+use Rattle.resize.specs.declared.Creation.{Creation}
+use Rattle.resize.specs.Resize.{growth_of, creation}
 use Rattle.resize.proofs.Laws.{asking}
 use Rattle.step.specs.declared.Answered.{Answered}
 use Rattle.step.specs.World.{World, answered_by}
@@ -24,13 +24,13 @@ use Rattle.step.proofs.Giving.{as_answered}
 
 -- ---- the usable size
 -- where it is worked out, and where a creation is asked for, no table is touched
-pub resizes_gives : (g : Growth) (w : World) (before after : Lent) (s : Answered) → s ≡ answered_by (resizes g (record { device = w.device; blocks = blocks []; rows = w.rows })) → blocks after.bitmap ≡ w.blocks → after.table ≡ written before.table w.rows → after.bytes ≡ [] → Gives (resizes g w) before after s
+pub resizes_gives : (g : Option Creation) (w : World) (before after : Lent) (s : Answered) → s ≡ answered_by (resizes g (record { device = w.device; blocks = blocks []; rows = w.rows })) → blocks after.bitmap ≡ w.blocks → after.table ≡ written before.table w.rows → after.bytes ≡ [] → Gives (resizes g w) before after s
 unfolding resizes
-resizes_gives Settled w before after s e m n b = as_answered _ before after s e (record { marked = m; mapped = n; left = b })
-resizes_gives (Asks i last size) w before after s e m n b = as_answered _ before after s e (record { marked = m; mapped = n; left = b })
+resizes_gives None w before after s e m n b = as_answered _ before after s e (record { marked = m; mapped = n; left = b })
+resizes_gives (Some made) w before after s e m n b = as_answered _ before after s e (record { marked = m; mapped = n; left = b })
 
 -- the map region of a creation starts at or below 2^64 - 1
-pub asked_within : (d : Device) → shaped_of d ≡ true → (usable new : ℕ) (rows : List MapRow) (i last size : ℕ) → growth_of d.config.region_size d.several usable new rows ≡ Asks i last size → d.config.addr.0 + i * map_region ≤ top
+pub asked_within : (d : Device) → shaped_of d ≡ true → (usable new : ℕ) (rows : List MapRow) (i last size : ℕ) → growth_of d.config.region_size d.several usable new rows ≡ creation i last size → d.config.addr.0 + i * map_region ≤ top
 asked_within d e usable new rows i last size g =
     let region = d.config.region_size in
     let s = shaped_is d e in

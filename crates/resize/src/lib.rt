@@ -10,12 +10,12 @@ ghost use Rattle.resize.specs.Resize.{new_size, grown, end_row, creation_size, g
 use rows::first_unmapped;
 use units::{MemTool, map_regions, smaller};
 
-// What the growth of the usable size asks for: rows from the first number to the second in one creation of the third's
-// bytes.
+// The one creation that the growth of the usable size may ask for: its first and its last row, and its bytes.
 #[derive(Clone, Copy)]
-pub enum Growth {
-    Asks(u64, u64, u64),
-    Settled,
+pub struct Creation {
+    pub first: u64,
+    pub last: u64,
+    pub size: u64,
 }
 
 // The smaller of the region and requested + 2 x alignment.
@@ -76,18 +76,22 @@ fn creation_size(region: u64, i: u64, last: u64) -> u64
 }
 
 // What must be created before the usable size may grow to `new` (R6.5).
-pub fn growth_of(region: u64, several: bool, usable: u64, new: u64, table: &[u64]) -> Growth
+pub fn growth_of(region: u64, several: bool, usable: u64, new: u64, table: &[u64]) -> Option<Creation>
     ensures { result ≡ growth_of region several usable new (rows_of table.now) }
 {
     if !several {
-        return Growth::Settled;
+        return None;
     }
     if new <= usable {
-        return Growth::Settled;
+        return None;
     }
     let last = end_row(region, new);
     let Some(i) = first_unmapped(table, end_row(region, usable), last) else {
-        return Growth::Settled;
+        return None;
     };
-    Growth::Asks(i, last, creation_size(region, i, last))
+    Some(Creation {
+        first: i,
+        last: last,
+        size: creation_size(region, i, last),
+    })
 }

@@ -11,8 +11,7 @@ use Rattle.units.proofs.Tests.{by_test}
 use Rattle.rows.specs.Rows.{row_at}
 use Rattle.rows.proofs.Laws.{mapping_at}
 use Rattle.record.proofs.Laws.{Shaped as Facts}
-use Rattle.resize.specs.declared.Growth.TheVariants.{Asks}
-use Rattle.resize.specs.Resize.{growth_of}
+use Rattle.resize.specs.Resize.{growth_of, creation}
 use Rattle.resize.proofs.Laws.{asking}
 use Rattle.change.specs.Change.{host_sum, host_in, host_of}
 use Rattle.step.specs.World.{World}
@@ -22,7 +21,7 @@ use Rattle.history.specs.Good.{InMemory}
 use Rattle.standard.specs.Requests.{OneMapping}
 
 -- a creation that is asked for begins at the end of the usable region or past it
-pub asks_outside : (w : World) (i last size : ℕ) → MappedBelow w → 0 < region_rows w → growth_of (region w) (several w) (usable w) (new_usable w) w.rows ≡ Asks i last size → usable w ≤ i * map_region
+pub asks_outside : (w : World) (i last size : ℕ) → MappedBelow w → 0 < region_rows w → growth_of (region w) (several w) (usable w) (new_usable w) w.rows ≡ creation i last size → usable w ≤ i * map_region
 asks_outside w i last size below rows grows =
     let a = asking (region w) (several w) (usable w) (new_usable w) w.rows i last size grows in
     let some : 0 < map_regions (region w) true = rw a.regions at rows in

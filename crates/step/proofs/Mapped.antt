@@ -1,5 +1,6 @@
 -- SPDX-License-Identifier: Apache-2.0 AND BSD-3-Clause
 -- The usable size once it is worked out, and the rows below it: after a successful answer every one of them is mapped, on tables that nobody altered.
+use Rattle.std.specs.Prelude.{None}
 use Prim.Native.Nat.{ℕ, ◌+◌, ◌-◌, ◌*◌, ◌/◌, ◌%◌, ◌≤◌, ◌<◌, min}
 use mathlib.Core.Path.{◌≡◌}
 use mathlib.Core.Bool.{true}
@@ -15,8 +16,7 @@ use Rattle.rows.specs.Rows.{row_at}
 use Rattle.rows.proofs.Laws.{fill_inside, fill_before}
 use Rattle.record.specs.Shape.{shaped_of}
 use Rattle.record.proofs.Laws.{shaped_is}
-use Rattle.resize.specs.declared.Growth.TheVariants.{Asks, Settled}
-use Rattle.resize.specs.Resize.{growth_of}
+use Rattle.resize.specs.Resize.{growth_of, creation}
 use Rattle.resize.proofs.Laws.{asking, new_exact, settled}
 use Rattle.step.specs.World.{World}
 use Rattle.step.specs.Step.{block_size, region, requested, usable, several, region_rows, new_usable, sizes, creates}
@@ -42,7 +42,7 @@ MappedBelow w = (k : ℕ) → k * map_region < usable w → k < region_rows w �
 
 module _ (w : World) (regions : several w ≡ true) (rows : region_rows w ≤ length w.rows) (below : MappedBelow w) where
   -- nothing had to be created
-  pub settled_maps : growth_of (region w) (several w) (usable w) (new_usable w) w.rows ≡ Settled → MappedBelow (sizes w).world
+  pub settled_maps : growth_of (region w) (several w) (usable w) (new_usable w) w.rows ≡ None → MappedBelow (sizes w).world
   settled_maps e k h n z =
       by_test (ltb (k * map_region) (usable w)) (λ t. below k (ltb-true _ _ t) n z)
       (λ t.
@@ -51,7 +51,7 @@ module _ (w : World) (regions : several w ≡ true) (rows : region_rows w ≤ le
       settled (region w) (usable w) (new_usable w) w.rows (rw regions at e) (omega arith) k (omega arith) (omega arith) (omega arith) z)
 
   -- the host has made the creation that was asked
-  pub creation_maps : (i last size host : ℕ) (bytes : List ℕ) → growth_of (region w) (several w) (usable w) (new_usable w) w.rows ≡ Asks i last size → MappedBelow (creates w i last host bytes).world
+  pub creation_maps : (i last size host : ℕ) (bytes : List ℕ) → growth_of (region w) (several w) (usable w) (new_usable w) w.rows ≡ creation i last size → MappedBelow (creates w i last host bytes).world
   creation_maps i last size host bytes e k h n z =
       let a = asking (region w) (several w) (usable w) (new_usable w) w.rows i last size e in
       let count : k < map_regions (region w) true = rw (← regions) n in

@@ -13,8 +13,7 @@ use Rattle.chain.specs.declared.Parsed.{Parsed}
 use Rattle.chain.specs.declared.Parsed.TheVariants.{Request as Got, Bad}
 use Rattle.chain.specs.Chain.{parsed, reaches}
 use Rattle.record.specs.Shape.{shaped_of, size_ok}
-use Rattle.resize.specs.declared.Growth.{Growth}
-use Rattle.resize.specs.declared.Growth.TheVariants.{Asks, Settled}
+use Rattle.resize.specs.declared.Creation.{Creation}
 use Rattle.change.specs.declared.Range.{Range}
 use Rattle.change.specs.declared.Range.TheVariants.{Inside, Outside as NotInside}
 use Rattle.change.specs.declared.Change.{Change}
@@ -52,10 +51,10 @@ module _ (K : Reply → List ℕ → Type 0) where
   unfolding unless OfReply
   unless_of n w bytes o p = either (eqb n 0) _ _ p (record { of = tt })
 
-  grown : (r : Growth) (w : World) → Of K (resizes r w)
+  grown : (r : Option Creation) (w : World) → Of K (resizes r w)
   unfolding resizes OfReply
-  grown Settled w = record { of = tt }
-  grown (Asks i last size) w = record { of = tt }
+  grown None w = record { of = tt }
+  grown (Some made) w = record { of = tt }
 
 -- of every call, where it is so of every request and every answer of the host: no other has a reply
 pub each_call : (K : Call → Reply → List ℕ → Type 0) (w : World)

@@ -17,8 +17,7 @@ use Rattle.record.specs.declared.Pending.TheVariants.{Nothing, Create, Discard, 
 use Rattle.record.specs.declared.HostCall.TheVariants.{Create as CreateCall, Discard as DiscardCall}
 use Rattle.record.specs.Shape.{shaped_of, is_idle, size_ok, start_ok}
 use Rattle.record.specs.Changes.{pending_to, plugged_to, requested_to, start_to, usable_to, placed_to}
-use Rattle.resize.specs.declared.Growth.{Growth}
-use Rattle.resize.specs.declared.Growth.TheVariants.{Asks, Settled}
+use Rattle.resize.specs.declared.Creation.{Creation}
 use Rattle.resize.specs.Resize.{new_size, grown, growth_of}
 use Rattle.change.specs.declared.Range.{Range}
 use Rattle.change.specs.declared.Range.TheVariants.{Inside, Outside as NotInside}
@@ -329,9 +328,9 @@ request (Got req status) w g = serve w req status.0 g
 
 -- ---- placing, the size change, and the host's answer
 -- a creation is asked for where the growth of the usable size needs one
-unfoldable pub resizes : Growth → World → Outcome
-resizes Settled w = sizes w
-resizes (Asks i last size) w = asks_create w i last size
+unfoldable pub resizes : Option Creation → World → Outcome
+resizes None w = sizes w
+resizes (Some made) w = asks_create w made.first made.last made.size
 
 abbrev pub resized : World → Outcome
 resized w = resizes (growth_of (region w) (several w) (usable w) (new_usable w) w.rows) w

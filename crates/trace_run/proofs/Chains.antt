@@ -26,8 +26,7 @@ use Rattle.descriptors.proofs.Standard.{descriptor_laid}
 use Rattle.record.specs.Shape.{size_ok}
 use Rattle.record.specs.declared.Pending.{Pending}
 use Rattle.record.specs.declared.Pending.TheVariants.{Nothing, Create, Discard, DiscardOne}
-use Rattle.resize.specs.declared.Growth.{Growth}
-use Rattle.resize.specs.declared.Growth.TheVariants.{Asks, Settled}
+use Rattle.resize.specs.declared.Creation.{Creation}
 use Rattle.change.specs.declared.Change.{Change}
 use Rattle.change.specs.declared.Change.TheVariants.{Legal, Outside, WrongState, NoHost}
 use Rattle.step.specs.declared.Answer.{Answer}
@@ -167,10 +166,10 @@ module _ (w : World) where
   next_told None status g = record { line = refl }
   next_told (Some block) status g = one_told _ block status g
 
-  resize_told : (c : Growth) → Told (resizes c w)
+  resize_told : (c : Option Creation) → Told (resizes c w)
   unfolding resizes
-  resize_told Settled = record { line = refl }
-  resize_told (Asks i last size) = record { line = refl }
+  resize_told None = record { line = refl }
+  resize_told (Some made) = record { line = refl }
 
 host_told : (p : Pending) (w : World) (g : Guest) (ok : Bool) (host : ℕ) → Told (host_answer p w g ok host)
 unfolding host_answer

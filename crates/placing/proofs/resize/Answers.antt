@@ -12,10 +12,10 @@ returns-in_default c =
 
 pub ask_creation-requires : goal.ask_creation-requires
 ask_creation-requires c =
-    asked_within c.args.d c.requires _ _ _ _ _ _ (sym c.growth_of-growth.ensures ∙ c.in-Asks.is)
+    asked_within c.args.d c.requires _ _ _ _ _ _ (sym c.growth_of-growth.ensures ∙ c.in-Some.is)
 
 pub returns : goal.returns
 unfolding resizes
 returns c =
-    simp (← c.new_size-new.ensures, ← c.growth_of-growth.ensures, c.in-Asks.is)
+    simp (← c.new_size-new.ensures, ← c.growth_of-growth.ensures, c.in-Some.is)
     c.ask_creation.ensures
