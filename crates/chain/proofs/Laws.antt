@@ -1,6 +1,6 @@
 -- SPDX-License-Identifier: Apache-2.0 AND BSD-3-Clause
 -- Laws on the chain, for callers: what a delivery leaves and what a parse reads.
-use Rattle.std.specs.Prelude.{Option, Some, None}
+use Rattle.std.specs.Prelude.{Option, Some, None, Err, Result}
 use Prim.Native.Nat.{ℕ, ◌+◌, ◌-◌, ◌≤◌}
 use mathlib.Core.Path.{◌≡◌, refl, sym, ap, ◌∙◌}
 use mathlib.Core.Bool.{Bool, true, false, cond, not, ◌&&◌}
@@ -20,9 +20,10 @@ use Rattle.descriptors.specs.declared.Descriptor.{Descriptor}
 use Rattle.descriptors.specs.Standard.{descriptor_at, descriptor_addr, has_next, is_write_only, is_indirect}
 use Rattle.descriptors.specs.Descriptors.{inside, link_at, link_after}
 use Rattle.descriptors.proofs.Laws.{inside_facts, descriptor_part}
-use Rattle.chain.specs.declared.Parsed.{Parsed}
-use Rattle.chain.specs.declared.Parsed.TheVariants.{Request, Bad}
-use Rattle.chain.specs.Chain.{with_second, with_first, parsed, reaches, delivered}
+use Rattle.chain.specs.declared.Asked.{Asked}
+use Rattle.chain.specs.declared.NoRequest.{NoRequest}
+use Rattle.chain.specs.declared.NoRequest.TheVariants.{Missing, FirstWriteOnly, WrongLength, NotInside, NotWritable, TooShort, Indirect}
+use Rattle.chain.specs.Chain.{reason, asked, with_second, with_first, parsed, reaches, delivered}
 
 -- ---- what a parse answers
 
@@ -31,27 +32,27 @@ either P true x y p q = p
 either P false x y p q = q
 
 -- a reason from 21 to 27, or a request that stands somewhere in the memory: what holds of each holds of a parse
-module _ (P : Parsed → Type 0) (bad : (reason : ℕ) → 21 ≤ reason → reason ≤ 27 → P (Bad reason)) where
-  second_cases : (req : VirtioMemReq) (found : Option Descriptor) → ((status : GuestAddr) → P (Request req status)) → P (with_second req found)
+module _ (P : Result Asked NoRequest → Type 0) (bad : (r : NoRequest) → 21 ≤ reason r → reason r ≤ 27 → P (Err r)) where
+  second_cases : (req : VirtioMemReq) (found : Option Descriptor) → ((status : GuestAddr) → P (asked req status)) → P (with_second req found)
   unfolding with_second
-  second_cases req None good = bad 21 (omega arith) (omega arith)
+  second_cases req None good = bad Missing (omega arith) (omega arith)
   second_cases req (Some second) good =
-      either P (is_indirect second) _ _ (bad 27 (omega arith) (omega arith))
-      (either P (not (is_write_only second)) _ _ (bad 25 (omega arith) (omega arith))
-      (either P (ltb second.len 10) _ _ (bad 26 (omega arith) (omega arith)) (good second.addr)))
+      either P (is_indirect second) _ _ (bad Indirect (omega arith) (omega arith))
+      (either P (not (is_write_only second)) _ _ (bad NotWritable (omega arith) (omega arith))
+      (either P (ltb second.len 10) _ _ (bad TooShort (omega arith) (omega arith)) (good second.addr)))
 
-  first_cases : (mem : List ℕ) (base table : ℕ) (found : Option Descriptor) → ((at : ℕ) (status : GuestAddr) → P (Request (request_at mem at) status))
+  first_cases : (mem : List ℕ) (base table : ℕ) (found : Option Descriptor) → ((at : ℕ) (status : GuestAddr) → P (asked (request_at mem at) status))
       → P (with_first mem base table found)
   unfolding with_first
-  first_cases mem base table None good = bad 21 (omega arith) (omega arith)
+  first_cases mem base table None good = bad Missing (omega arith) (omega arith)
   first_cases mem base table (Some first) good =
-      either P (is_indirect first) _ _ (bad 27 (omega arith) (omega arith))
-      (either P (is_write_only first) _ _ (bad 22 (omega arith) (omega arith))
-      (either P (not (eqb first.len 24)) _ _ (bad 23 (omega arith) (omega arith))
-      (either P (not (inside (length mem) base first.addr.0 24)) _ _ (bad 24 (omega arith) (omega arith))
+      either P (is_indirect first) _ _ (bad Indirect (omega arith) (omega arith))
+      (either P (is_write_only first) _ _ (bad FirstWriteOnly (omega arith) (omega arith))
+      (either P (not (eqb first.len 24)) _ _ (bad WrongLength (omega arith) (omega arith))
+      (either P (not (inside (length mem) base first.addr.0 24)) _ _ (bad NotInside (omega arith) (omega arith))
       (second_cases _ (link_after mem base table first) (good _)))))
 
-  pub parsed_cases : (mem : List ℕ) (base table head : ℕ) → ((at : ℕ) (status : GuestAddr) → P (Request (request_at mem at) status))
+  pub parsed_cases : (mem : List ℕ) (base table head : ℕ) → ((at : ℕ) (status : GuestAddr) → P (asked (request_at mem at) status))
       → P (parsed mem base table head)
   unfolding parsed
   parsed_cases mem base table head good = first_cases mem base table (link_at mem base table head) good

@@ -7,7 +7,7 @@ ghost use Rattle.descriptors.specs.Descriptors.{link_at};
 ghost use Rattle.chain.specs.Chain.{parsed};
 ghost use Rattle.chain_reader.specs.Reader.{reader_index, second_link};
 
-use chain::{Parsed, parse};
+use chain::{Asked, NoRequest, parse};
 use descriptors::{Descriptor, link_at};
 use units::GuestAddr;
 
@@ -60,7 +60,7 @@ impl<'a> ChainReader<'a> {
     }
 
     // The request of the chain that starts where the reader stands.
-    pub fn request(self) -> Parsed
+    pub fn request(self) -> Result<Asked, NoRequest>
         ensures { result ≡ parsed self.entry.mem.now self.entry.base.0
             self.entry.descriptors.0 self.entry.index }
     {
@@ -94,7 +94,7 @@ pub fn second_link(mem: &[u8], base: GuestAddr, descriptors: GuestAddr, head: u1
 }
 
 // The request of a chain, by a reader: it is what the device parses.
-pub fn parse_chain(mem: &[u8], base: GuestAddr, descriptors: GuestAddr, head: u16) -> Parsed
+pub fn parse_chain(mem: &[u8], base: GuestAddr, descriptors: GuestAddr, head: u16) -> Result<Asked, NoRequest>
     ensures { result ≡ parsed mem.now base.0 descriptors.0 head }
 {
     ChainReader::new(mem, base, descriptors, head).request()

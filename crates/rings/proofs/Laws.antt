@@ -1,5 +1,6 @@
 -- SPDX-License-Identifier: Apache-2.0 AND BSD-3-Clause
 -- Laws on the rings, for callers: what a report leaves, whatever overlaps, and what indices that wrap come to.
+use Rattle.std.specs.Prelude.{Some, Ok}
 use Prim.Native.Nat.{ℕ, ◌+◌, ◌-◌, ◌*◌, ◌%◌, ◌≤◌, ◌<◌, ◌^◌}
 use mathlib.Core.Path.{◌≡◌, ap, ◌∙◌}
 use mathlib.Core.Bool.{true}
@@ -13,7 +14,6 @@ use Rattle.little_endian.proofs.Laws.{length-little_endian, value_fits, length-p
 use Rattle.descriptors.specs.Descriptors.{inside}
 use Rattle.descriptors.proofs.Laws.{Inside, inside_facts}
 use Rattle.rings.specs.declared.Queue.{Queue}
-use Rattle.rings.specs.declared.Next.TheVariants.{Head}
 use Rattle.rings.specs.Standard.{available_index, available_head, used_element, used_index, used_id, used_length, Apart, Before, Behind}
 use Rattle.rings.specs.Rings.{index_after, ahead_of, rings_inside, next_head, reported}
 
@@ -43,14 +43,14 @@ rings_lie len base q e =
     }
 
 -- a head stands next only in rings that lie inside
-pub head_inside : (mem : List ℕ) (base : ℕ) (q : Queue) (head : ℕ) → next_head mem base q ≡ Head head → rings_inside (length mem) base q ≡ true
+pub head_inside : (mem : List ℕ) (base : ℕ) (q : Queue) (head : ℕ) → next_head mem base q ≡ Ok (Some head) → rings_inside (length mem) base q ≡ true
 unfolding next_head
 head_inside mem base q head e =
     by_test (rings_inside (length mem) base q) (λ t. t)
     (λ t. let f = rw t at e in let z : ◌≡◌ {A = ℕ} 0 1 = cc in absurd (omega arith))
 
 -- and it is what the next entry of the available ring holds
-pub head_reads : (mem : List ℕ) (base : ℕ) (q : Queue) (head : ℕ) → next_head mem base q ≡ Head head → head ≡ available_head mem (q.available.0 - base) (q.next_available % 128)
+pub head_reads : (mem : List ℕ) (base : ℕ) (q : Queue) (head : ℕ) → next_head mem base q ≡ Ok (Some head) → head ≡ available_head mem (q.available.0 - base) (q.next_available % 128)
 unfolding next_head
 head_reads mem base q head e =
     let at = q.available.0 - base in

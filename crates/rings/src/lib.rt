@@ -9,6 +9,7 @@ ghost use Rattle.rings.specs.Rings.{ahead_of, index_after, rings_inside, next_he
 
 use descriptors::place_of;
 use little_endian::{read_u16, write_u16, write_u32};
+use refusal::Refusal;
 use units::GuestAddr;
 
 // The entries of a ring.
@@ -29,14 +30,6 @@ pub struct Queue {
     pub next_available: u16,
     pub next_used: u16,
     pub taken: Option<u16>,
-}
-
-// What the available ring has next.
-#[derive(Clone, Copy)]
-pub enum Next {
-    Head(u16),
-    Empty,
-    Refused(u64),
 }
 
 // How far an index is ahead of another.
@@ -72,24 +65,25 @@ pub fn rings_inside(mem: &[u8], base: GuestAddr, q: Queue) -> bool
     available & used
 }
 
-// The next head: 14, 15, none, or one. Nothing is taken yet.
-pub fn next_head(mem: &[u8], base: GuestAddr, q: Queue) -> Next
+// The next head, if there is one; or 14, 15. Nothing is taken yet.
+pub fn next_head(mem: &[u8], base: GuestAddr, q: Queue) -> Result<Option<u16>, Refusal>
     ensures { result ≡ next_head mem.now base.0 q }
 {
     if !rings_inside(mem, base, q) {
-        return Next::Refused(14);
+        return Err(Refusal::RingOutside);
     }
     let available = (q.available.0 - base.0) as usize;
     let ahead = ahead_of(read_u16(mem, available + 2), q.next_available);
     let over_full = QUEUE_SIZE < ahead;
     if over_full {
-        return Next::Refused(15);
+        return Err(Refusal::RingOverfull);
     }
     if ahead == 0 {
-        return Next::Empty;
+        return Ok(None);
     }
     let entry = (q.next_available % QUEUE_SIZE) as usize;
-    Next::Head(read_u16(mem, available + 4 + 2 * entry))
+    let head = read_u16(mem, available + 4 + 2 * entry);
+    Ok(Some(head))
 }
 
 // Puts a head and its length into the used ring, where the ring is inside: the element first, and then the index.

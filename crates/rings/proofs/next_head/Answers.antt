@@ -47,10 +47,10 @@ overflow_add-available-2 c = let f = (lie (goal.at.overflow_add-available-2 c).E
 pub overflow_add-available-3 : goal.overflow_add-available-3
 overflow_add-available-3 c = let f = (lie (goal.at.overflow_add-available-3 c).Else-not-rings_inside).available_lies in omega arith
 
-pub read_u16-requires-2 : goal.read_u16-requires-2
-read_u16-requires-2 c = let f = (lie (goal.at.read_u16-requires-2 c).Else-not-rings_inside).available_lies in omega arith
+pub read_u16-head-requires : goal.read_u16-head-requires
+read_u16-head-requires c = let f = (lie (goal.at.read_u16-head-requires c).Else-not-rings_inside).available_lies in omega arith
 
 pub returns : goal.returns
 unfolding next_head
 returns c =
-    simp (inside_both (goal.at.returns c).Else-not-rings_inside, ← c.read_u16.ensures, ← c.ahead_of-ahead.ensures, le-ltb _ _ c.if-over_full.false, ne_eqb _ _ c.if-ahead-eq0.false, ← c.read_u16-2.ensures)
+    simp (inside_both (goal.at.returns c).Else-not-rings_inside, ← c.read_u16.ensures, ← c.ahead_of-ahead.ensures, le-ltb _ _ c.if-over_full.false, ne_eqb _ _ c.if-ahead-eq0.false, ← c.read_u16-head.ensures)
