@@ -1,6 +1,6 @@
 -- SPDX-License-Identifier: Apache-2.0 AND BSD-3-Clause
 -- The laws of `specs/Change.antt` that callers cite: what a range that passed its tests is, and what a decision depends on.
-use Rattle.std.specs.Prelude.{Option, Some, None}
+use Rattle.std.specs.Prelude.{Option, Some, None, Ok, Err, Result}
 use Prim.Native.Nat.{ℕ, zero, suc, ◌+◌, ◌-◌, ◌*◌, ◌/◌, ◌%◌, min, ◌≤◌, ◌<◌}
 use mathlib.Core.Path.{◌≡◌, refl, sym, ap, ◌∙◌}
 use mathlib.Core.Bool.{Bool, true, false, cond, not}
@@ -19,13 +19,10 @@ use Rattle.bitmap.proofs.Laws.{range_end, one_set}
 use Rattle.rows.specs.declared.MapRow.{MapRow}
 use Rattle.rows.specs.Rows.{row_at, mapping_of}
 use Rattle.rows.proofs.Laws.{mapping_same}
-use Rattle.change.specs.declared.Range.{Range}
-use Rattle.change.specs.declared.Range.TheVariants.{Inside, Outside as NotInside}
-use Rattle.change.specs.declared.HostRange.{HostRange}
-use Rattle.change.specs.declared.HostRange.TheVariants.{At, CrossesBorder, Unmapped, SumPasses}
-use Rattle.change.specs.declared.Part.TheVariants.{PastUsable}
-use Rattle.change.specs.declared.Change.TheVariants.{Legal, Outside}
-use Rattle.change.specs.Change.{inside_of, range_of, host_sum, host_in, row_of, host_of, legal_at, change_in, change_of, state_in, state_of}
+use Rattle.change.specs.declared.Change.{Change}
+use Rattle.change.specs.declared.Reason.{Reason}
+use Rattle.change.specs.declared.Reason.TheVariants.{PastUsable}
+use Rattle.change.specs.Change.{inside_of, range_of, host_sum, host_in, row_of, host_of, legal, legal_at, change_in, change_of, state_in, state_of}
 
 -- ---- the blocks of a range that exist, where they end at block n
 pub range_cut : (n : ℕ) (bs : List Bool) (f c : ℕ) → range (take n bs) f c ≡ range bs f (min c (n - f))
@@ -50,7 +47,7 @@ pub record InRange (b start usable addr count offset : ℕ) : Type 0 where
   pub offset_is : offset ≡ addr - start
   pub in_usable : offset + bytes_of b count ≤ usable
 
-pub inside_is : (b start usable addr count : ℕ) (o : RegionOffset) → range_of b start usable addr count ≡ Inside o → InRange b start usable addr count o.0
+pub inside_is : (b start usable addr count : ℕ) (o : RegionOffset) → range_of b start usable addr count ≡ Ok o → InRange b start usable addr count o.0
 unfolding range_of inside_of
 inside_is b start usable addr count o e =
     let p1 = cut (not (eqb (addr % b) 0)) (λ q. let z : ◌≡◌ {A = ℕ} 0 1 = cc in omega arith) e in
@@ -75,7 +72,7 @@ inside_is b start usable addr count o e =
     }
 
 -- and a range that is all this lies inside
-pub inside_when : (b start usable addr count offset : ℕ) → 0 < b → InRange b start usable addr count offset → range_of b start usable addr count ≡ Inside (record { 0 = offset })
+pub inside_when : (b start usable addr count offset : ℕ) → 0 < b → InRange b start usable addr count offset → range_of b start usable addr count ≡ Ok (record { 0 = offset })
 unfolding range_of inside_of
 inside_when b start usable addr count offset h r =
     let positive : 0 < bytes_of b count = mul-pos r.some h in
@@ -88,13 +85,13 @@ pub record Hosted (several : Bool) (offset size host : ℕ) : Type 0 where
   pub host_fits : host + size ≤ top
 
 -- a host sum that fits, and the address that it gives
-pub sum_is : (base offset size : ℕ) (host : HostAddr) → host_sum base offset size ≡ At host → (base + offset + size ≤ top) × (host ≡ record { 0 = base + offset })
+pub sum_is : (base offset size : ℕ) (host : HostAddr) → host_sum base offset size ≡ Ok host → (base + offset + size ≤ top) × (host ≡ record { 0 = base + offset })
 unfolding host_sum
 sum_is base offset size host e =
     let p = cut (ltb top (base + offset + size)) (λ q. let z : ◌≡◌ {A = ℕ} 0 1 = cc in omega arith) e in
     (ltb-false top (base + offset + size) p.0, cc p.1)
 
-mapping_fits : (m : Option HostAddr) (offset size : ℕ) (host : HostAddr) → host_in m offset size ≡ At host → host.0 + size ≤ top
+mapping_fits : (m : Option HostAddr) (offset size : ℕ) (host : HostAddr) → host_in m offset size ≡ Ok host → host.0 + size ≤ top
 unfolding host_in
 mapping_fits (Some base) offset size host e =
     let p = sum_is base.0 offset size host e in
@@ -103,14 +100,14 @@ mapping_fits (Some base) offset size host e =
 mapping_fits None offset size host e = let z : ◌≡◌ {A = ℕ} 0 1 = cc in absurd (omega arith)
 
 -- with several regions the range is of one map region, and its row has it
-pub in_map_region : (rows : List MapRow) (offset size : ℕ) (host : HostAddr) → host_of true rows offset size ≡ At host
-    → (offset % map_region + size ≤ map_region) × (host_in (mapping_of rows (offset / map_region)) (offset % map_region) size ≡ At host)
+pub in_map_region : (rows : List MapRow) (offset size : ℕ) (host : HostAddr) → host_of true rows offset size ≡ Ok host
+    → (offset % map_region + size ≤ map_region) × (host_in (mapping_of rows (offset / map_region)) (offset % map_region) size ≡ Ok host)
 unfolding host_of
 in_map_region rows offset size host e =
     let p = cut (ltb map_region (offset % map_region + size)) (λ q. let z : ◌≡◌ {A = ℕ} 0 1 = cc in omega arith) e in
     (ltb-false map_region (offset % map_region + size) p.0, p.1)
 
-pub host_is : (several : Bool) (rows : List MapRow) (offset size : ℕ) (host : HostAddr) → host_of several rows offset size ≡ At host → Hosted several offset size host.0
+pub host_is : (several : Bool) (rows : List MapRow) (offset size : ℕ) (host : HostAddr) → host_of several rows offset size ≡ Ok host → Hosted several offset size host.0
 unfolding host_of
 host_is true rows offset size host e =
     let p = in_map_region rows offset size host e in
@@ -126,24 +123,35 @@ pub record IsLegal (b start usable : ℕ) (several : Bool) (addr count : ℕ) (w
   pub in_range : InRange b start usable addr count offset.0
   pub first_is : first ≡ blocks_in b offset.0
   pub not-wanted : all_are blocks first count (not wanted) ≡ true
-  pub host_at : host_of several rows offset.0 (bytes_of b count) ≡ At host
+  pub host_at : host_of several rows offset.0 (bytes_of b count) ≡ Ok host
   pub hosted : Hosted several offset.0 (bytes_of b count) host.0
 
-legal_at_lem : (b : ℕ) (o : RegionOffset) (h : HostRange) (first : ℕ) (offset : RegionOffset) (host : HostAddr) → legal_at b o.0 h ≡ Legal first offset host → (first ≡ blocks_in b o.0) × (o ≡ offset) × (h ≡ At host)
-unfolding legal_at
-legal_at_lem b o (At x) first offset host e = (cc, cc, cc)
-legal_at_lem b o CrossesBorder first offset host e = let z : ◌≡◌ {A = ℕ} 0 1 = cc in absurd (omega arith)
-legal_at_lem b o Unmapped first offset host e = let z : ◌≡◌ {A = ℕ} 0 1 = cc in absurd (omega arith)
-legal_at_lem b o SumPasses first offset host e = let z : ◌≡◌ {A = ℕ} 0 1 = cc in absurd (omega arith)
+-- a change is its three parts
+first_in : Result Change Reason → ℕ
+first_in (Ok change) = change.first
+first_in (Err reason) = 0
+
+offset_in : Result Change Reason → RegionOffset
+offset_in (Ok change) = change.offset
+offset_in (Err reason) = record { 0 = 0 }
+
+host_found : Result Change Reason → HostAddr
+host_found (Ok change) = change.host
+host_found (Err reason) = record { 0 = 0 }
+
+legal_at_lem : (b : ℕ) (o : RegionOffset) (h : Result HostAddr Reason) (first : ℕ) (offset : RegionOffset) (host : HostAddr) → legal_at b o.0 h ≡ legal first offset host → (first ≡ blocks_in b o.0) × (o ≡ offset) × (h ≡ Ok host)
+unfolding legal_at first_in offset_in host_found
+legal_at_lem b o (Ok x) first offset host e = (sym (ap first_in e), ap offset_in e, ap Ok (ap host_found e))
+legal_at_lem b o (Err reason) first offset host e = let z : ◌≡◌ {A = ℕ} 0 1 = cc in absurd (omega arith)
 
 module _ (b start usable : ℕ) (several : Bool) (addr count : ℕ) (wanted : Bool) (blocks : List Bool) (rows : List MapRow) (first : ℕ) (offset : RegionOffset) (host : HostAddr) where
-  legal_in : (r : Range) → range_of b start usable addr count ≡ r → change_in r b several count wanted blocks rows ≡ Legal first offset host → IsLegal b start usable several addr count wanted blocks rows first offset host
+  legal_in : (r : Result RegionOffset Reason) → range_of b start usable addr count ≡ r → change_in r b several count wanted blocks rows ≡ legal first offset host → IsLegal b start usable several addr count wanted blocks rows first offset host
   unfolding change_in
-  legal_in (Inside o) q e =
+  legal_in (Ok o) q e =
       by_test (all_are blocks (blocks_in b o.0) count (not wanted))
       (λ t.
       let p = legal_at_lem b o (host_of several rows o.0 (bytes_of b count)) first offset host (rw t at e) in
-      let h : host_of several rows offset.0 (bytes_of b count) ≡ At host = rw p.1 at p.2 in
+      let h : host_of several rows offset.0 (bytes_of b count) ≡ Ok host = rw p.1 at p.2 in
       record {
         in_range = inside_is b start usable addr count offset (rw p.1 at q);
         first_is = rw p.1 at p.0;
@@ -152,14 +160,14 @@ module _ (b start usable : ℕ) (several : Bool) (addr count : ℕ) (wanted : Bo
         hosted = host_is several rows offset.0 (bytes_of b count) host h;
       })
       (λ t. let w = rw t at e in let z : ◌≡◌ {A = ℕ} 0 1 = cc in absurd (omega arith))
-  legal_in (NotInside part) q e = let z : ◌≡◌ {A = ℕ} 0 1 = cc in absurd (omega arith)
+  legal_in (Err reason) q e = let z : ◌≡◌ {A = ℕ} 0 1 = cc in absurd (omega arith)
 
-  pub legal_is : change_of b start usable several addr count wanted blocks rows ≡ Legal first offset host → IsLegal b start usable several addr count wanted blocks rows first offset host
+  pub legal_is : change_of b start usable several addr count wanted blocks rows ≡ legal first offset host → IsLegal b start usable several addr count wanted blocks rows first offset host
   legal_is e = legal_in (range_of b start usable addr count) refl e
 
 -- and a change that is all this is legal
 pub legal_when : (b start usable : ℕ) (several : Bool) (addr count : ℕ) (wanted : Bool) (blocks : List Bool) (rows : List MapRow) (first : ℕ) (offset : RegionOffset) (host : HostAddr) → 0 < b
-    → IsLegal b start usable several addr count wanted blocks rows first offset host → change_of b start usable several addr count wanted blocks rows ≡ Legal first offset host
+    → IsLegal b start usable several addr count wanted blocks rows first offset host → change_of b start usable several addr count wanted blocks rows ≡ legal first offset host
 unfolding change_in legal_at
 legal_when b start usable several addr count wanted blocks rows first offset host h l =
     simp (inside_when b start usable addr count offset.0 h l.in_range, ← l.first_is, l.not-wanted, l.host_at)
@@ -208,7 +216,7 @@ block_below b size block m k =
 
 -- a plugged block of the region, taken alone: of (b) and (c) the usable size is left
 pub one_plugged : (b start usable : ℕ) (several : Bool) (block : ℕ) (bs : List Bool) (rows : List MapRow) → 0 < b → start % b ≡ 0 → usable % b ≡ 0 → start + bytes_of b (suc block) ≤ top → start + usable ≤ top → block_at bs block ≡ true
-    → change_of b start usable several (start + bytes_of b block) 1 false bs rows ≡ cond (leb usable (bytes_of b block)) (Outside PastUsable) (legal_at b (bytes_of b block) (host_of several rows (bytes_of b block) b))
+    → change_of b start usable several (start + bytes_of b block) 1 false bs rows ≡ cond (leb usable (bytes_of b block)) (Err PastUsable) (legal_at b (bytes_of b block) (host_of several rows (bytes_of b block) b))
 unfolding change_in range_of inside_of
 one_plugged b start usable several block bs rows h s u t v set =
     let offset = bytes_of b block in
@@ -229,12 +237,12 @@ unfolding host_of
 host_same several rs ss offset size e = rw (mapping_same rs ss (row_of several offset) e)
 
 module _ (b start usable : ℕ) (several : Bool) (addr count : ℕ) (wanted : Bool) (bs cs : List Bool) (rs ss : List MapRow)
-    (same_blocks : (o : RegionOffset) → range_of b start usable addr count ≡ Inside o → range bs (blocks_in b o.0) count ≡ range cs (blocks_in b o.0) count)
-    (same_row : (o : RegionOffset) → range_of b start usable addr count ≡ Inside o → row_at rs (row_of several o.0) ≡ row_at ss (row_of several o.0)) where
-  same_in : (r : Range) → range_of b start usable addr count ≡ r → change_in r b several count wanted bs rs ≡ change_in r b several count wanted cs ss
+    (same_blocks : (o : RegionOffset) → range_of b start usable addr count ≡ Ok o → range bs (blocks_in b o.0) count ≡ range cs (blocks_in b o.0) count)
+    (same_row : (o : RegionOffset) → range_of b start usable addr count ≡ Ok o → row_at rs (row_of several o.0) ≡ row_at ss (row_of several o.0)) where
+  same_in : (r : Result RegionOffset Reason) → range_of b start usable addr count ≡ r → change_in r b several count wanted bs rs ≡ change_in r b several count wanted cs ss
   unfolding change_in
-  same_in (Inside o) q = rw (same_blocks o q, host_same several rs ss o.0 (bytes_of b count) (same_row o q))
-  same_in (NotInside part) q = refl
+  same_in (Ok o) q = rw (same_blocks o q, host_same several rs ss o.0 (bytes_of b count) (same_row o q))
+  same_in (Err reason) q = refl
 
   pub change_same : change_of b start usable several addr count wanted bs rs ≡ change_of b start usable several addr count wanted cs ss
   change_same = same_in (range_of b start usable addr count) refl

@@ -1,6 +1,6 @@
 -- SPDX-License-Identifier: Apache-2.0 AND BSD-3-Clause
 -- A legal change in two parts, and two legal parts in one (10/12), over any block size.
-use Rattle.std.specs.Prelude.{Option, Some, None}
+use Rattle.std.specs.Prelude.{Option, Some, None, Ok}
 use Prim.Native.Nat.{ℕ, ◌+◌, ◌/◌, ◌%◌, ◌≤◌, ◌<◌}
 use mathlib.Core.Path.{◌≡◌, refl, sym, ap, ◌∙◌}
 use mathlib.Core.Bool.{Bool, true, false, not}
@@ -16,44 +16,43 @@ use Rattle.bitmap.specs.Blocks.{all_are, fill}
 use Rattle.bitmap.proofs.Laws.{all_split, fill_after}
 use Rattle.rows.specs.declared.MapRow.{MapRow}
 use Rattle.rows.specs.Rows.{mapping_of}
-use Rattle.change.specs.declared.HostRange.TheVariants.{At}
 use Rattle.change.specs.Change.{host_sum, host_in, host_of}
 use Rattle.change.proofs.Laws.{sum_is, in_map_region, host_is, IsLegal}
 
 -- ---- (d): s bytes and the t bytes behind them
-sum_when : (base offset size : ℕ) → base + offset + size ≤ top → host_sum base offset size ≡ At (record { 0 = base + offset })
+sum_when : (base offset size : ℕ) → base + offset + size ≤ top → host_sum base offset size ≡ Ok (record { 0 = base + offset })
 unfolding host_sum
 sum_when base offset size h = rw (le-ltb top (base + offset + size) h)
 
 -- in one mapping
 module _ (offset s t : ℕ) (host : HostAddr) where
-  in_first : (m : Option HostAddr) → host_in m offset (s + t) ≡ At host → host_in m offset s ≡ At host
+  in_first : (m : Option HostAddr) → host_in m offset (s + t) ≡ Ok host → host_in m offset s ≡ Ok host
   unfolding host_in
   in_first (Some base) e =
       let p = sum_is base.0 offset (s + t) host e in
-      sum_when base.0 offset s (omega (arith, p.0)) ∙ ap At (sym p.1)
+      sum_when base.0 offset s (omega (arith, p.0)) ∙ ap Ok (sym p.1)
   in_first None e = let z : ◌≡◌ {A = ℕ} 0 1 = cc in absurd (omega arith)
 
-  in_second : (m : Option HostAddr) → host_in m offset (s + t) ≡ At host → host_in m (offset + s) t ≡ At (record { 0 = host.0 + s })
+  in_second : (m : Option HostAddr) → host_in m offset (s + t) ≡ Ok host → host_in m (offset + s) t ≡ Ok (record { 0 = host.0 + s })
   unfolding host_in
   in_second (Some base) e =
       let p = sum_is base.0 offset (s + t) host e in
       let h : host.0 ≡ base.0 + offset = ap (λ (x : HostAddr). x.0) p.1 in
       let w : base.0 + (offset + s) ≡ host.0 + s = omega arith in
-      sum_when base.0 (offset + s) t (omega (arith, p.0)) ∙ ap (λ n. At (record { 0 = n })) w
+      sum_when base.0 (offset + s) t (omega (arith, p.0)) ∙ ap (λ n. Ok (record { 0 = n })) w
   in_second None e = let z : ◌≡◌ {A = ℕ} 0 1 = cc in absurd (omega arith)
 
-  in_joined : (m : Option HostAddr) (behind : HostAddr) → host_in m offset s ≡ At host → host_in m (offset + s) t ≡ At behind → host_in m offset (s + t) ≡ At host
+  in_joined : (m : Option HostAddr) (behind : HostAddr) → host_in m offset s ≡ Ok host → host_in m (offset + s) t ≡ Ok behind → host_in m offset (s + t) ≡ Ok host
   unfolding host_in
   in_joined (Some base) behind e f =
       let p = sum_is base.0 offset s host e in
       let q = sum_is base.0 (offset + s) t behind f in
-      sum_when base.0 offset (s + t) (omega (arith, q.0)) ∙ ap At (sym p.1)
+      sum_when base.0 offset (s + t) (omega (arith, q.0)) ∙ ap Ok (sym p.1)
   in_joined None behind e f = let z : ◌≡◌ {A = ℕ} 0 1 = cc in absurd (omega arith)
 
 -- in the map table
 module _ (rows : List MapRow) (offset size : ℕ) (host : HostAddr) where
-  within_region : offset % map_region + size ≤ map_region → host_in (mapping_of rows (offset / map_region)) (offset % map_region) size ≡ At host → host_of true rows offset size ≡ At host
+  within_region : offset % map_region + size ≤ map_region → host_in (mapping_of rows (offset / map_region)) (offset % map_region) size ≡ Ok host → host_of true rows offset size ≡ Ok host
   unfolding host_of
   within_region h e = rw (le-ltb map_region (offset % map_region + size) h) e
 
@@ -62,14 +61,14 @@ module _ (rows : List MapRow) (offset s t : ℕ) (host : HostAddr) where
   same_region : offset % map_region + s < map_region → ((offset + s) / map_region ≡ offset / map_region) × ((offset + s) % map_region ≡ offset % map_region + s)
   same_region h = (omega arith, omega arith)
 
-  pub host_first : (several : Bool) → host_of several rows offset (s + t) ≡ At host → host_of several rows offset s ≡ At host
+  pub host_first : (several : Bool) → host_of several rows offset (s + t) ≡ Ok host → host_of several rows offset s ≡ Ok host
   unfolding host_of
   host_first true e =
       let p = in_map_region rows offset (s + t) host e in
       within_region rows offset s host (omega (arith, p.0)) (in_first (offset % map_region) s t host _ p.1)
   host_first false e = in_first offset s t host _ e
 
-  pub host_second : (several : Bool) → 0 < t → host_of several rows offset (s + t) ≡ At host → host_of several rows (offset + s) t ≡ At (record { 0 = host.0 + s })
+  pub host_second : (several : Bool) → 0 < t → host_of several rows offset (s + t) ≡ Ok host → host_of several rows (offset + s) t ≡ Ok (record { 0 = host.0 + s })
   unfolding host_of
   host_second true more e =
       let p = in_map_region rows offset (s + t) host e in
@@ -77,7 +76,7 @@ module _ (rows : List MapRow) (offset s t : ℕ) (host : HostAddr) where
       within_region rows (offset + s) t _ (omega (arith, p.0)) (rw (r.0, r.1) (in_second (offset % map_region) s t host _ p.1))
   host_second false more e = in_second offset s t host _ e
 
-  pub host_joined : (several : Bool) (behind : HostAddr) → (several ≡ true → (offset + s) % map_region ≡ 0 → ⊥) → host_of several rows offset s ≡ At host → host_of several rows (offset + s) t ≡ At behind → host_of several rows offset (s + t) ≡ At host
+  pub host_joined : (several : Bool) (behind : HostAddr) → (several ≡ true → (offset + s) % map_region ≡ 0 → ⊥) → host_of several rows offset s ≡ Ok host → host_of several rows (offset + s) t ≡ Ok behind → host_of several rows offset (s + t) ≡ Ok host
   unfolding host_of
   host_joined true behind seam e f =
       let p = in_map_region rows offset s host e in
@@ -142,7 +141,7 @@ module _ (b start usable : ℕ) (several : Bool) (addr k m : ℕ) (wanted : Bool
       let e = bytes in
       let o : offset'.0 ≡ offset.0 + bytes_of b k = omega (arith, r.from_start, r.offset_is, r'.offset_is) in
       let f : second ≡ first + k = l'.first_is ∙ ap (blocks_in b) o ∙ add-mul-div_right offset.0 k positive ∙ ap (λ n. n + k) (sym l.first_is) in
-      let h : host_of several rows offset.0 (bytes_of b (k + m)) ≡ At host = rw e (host_joined rows offset.0 (bytes_of b k) (bytes_of b m) host several host' seam l.host_at (rw o at l'.host_at)) in
+      let h : host_of several rows offset.0 (bytes_of b (k + m)) ≡ Ok host = rw e (host_joined rows offset.0 (bytes_of b k) (bytes_of b m) host several host' seam l.host_at (rw o at l'.host_at)) in
       let n : all_are bs (first + k) m (not wanted) ≡ true = rw (f, fill_after bs first k wanted (first + k) m (omega arith)) at l'.not-wanted in
       record {
         in_range = record { aligned = r.aligned; some = omega (arith, r.some); below_top = omega (arith, r'.below_top); from_start = r.from_start; offset_is = r.offset_is; in_usable = omega (arith, r'.in_usable) };

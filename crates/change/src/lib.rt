@@ -7,11 +7,8 @@ ghost use Rattle.std.specs.Prelude.{◌≡◌, ◌-◌, ◌<◌, min};
 ghost use Rattle.units.specs.Numbers.{blocks_in};
 ghost use Rattle.bitmap.specs.Blocks.{blocks, range};
 ghost use Rattle.rows.specs.Rows.{rows_of};
-ghost use Rattle.change.specs.declared.Part.{Part};
-ghost use Rattle.change.specs.declared.Range.TheVariants.{Outside as NotInside};
-ghost use Rattle.change.specs.declared.Change.TheVariants.{Outside};
 ghost use Rattle.change.specs.Change.{inside_of, range_of, host_sum, host_in, host_of, change_of, state_in, state_of};
-ghost use Rattle.change.specs.Why.{part_why, host_why, range_why, change_why};
+ghost use Rattle.change.specs.Why.{why, why_number};
 
 use bitmap::all_in_state;
 use rows::mapping_of;
@@ -19,111 +16,81 @@ use units::{
     GuestAddr, HostAddr, MemTool, RegionOffset, is_multiple, saturating_sub, smaller, sum_within,
 };
 
-// The parts of test (b) (R10.4), in their order: which of them a range failed first.
-#[derive(Clone, Copy)]
-pub enum Part {
+// Why a response is an ERROR (R10.17): which of the tests (b), (c) and (d) failed first, or that the host could not
+// discard.
+#[derive(Clone, Copy, Debug, PartialEq, Eq)]
+pub enum Reason {
+    // Test (b), part by part (R10.4).
     Alignment,
     ZeroBlocks,
     Overflow,
     BelowStart,
     PastUsable,
     EndPastUsable,
-}
-
-// Where a range lies, or why it is not inside.
-#[derive(Clone, Copy)]
-pub enum Range {
-    Inside(RegionOffset),
-    Outside(Part),
-}
-
-// Where the host has a range, or which part of test (d) (R10.6) it failed first.
-#[derive(Clone, Copy)]
-pub enum HostRange {
-    At(HostAddr),
+    // Test (c) (R10.5).
+    WrongState,
+    // Test (d), part by part (R10.6).
     CrossesBorder,
     Unmapped,
     SumPasses,
+    // The host's answer to a discard (R10.10, R10.13).
+    FailedDiscard,
 }
 
-// A legal change with its first block, its offset and its host address, or the first of the tests (b), (c), (d) that it
-// failed.
+impl Reason {
+    // The reason's number, 1 to 11.
+    pub fn number(self) -> u64
+        ensures { result ≡ why self }
+    {
+        match self {
+            Reason::Alignment => 1,
+            Reason::ZeroBlocks => 2,
+            Reason::Overflow => 3,
+            Reason::BelowStart => 4,
+            Reason::PastUsable => 5,
+            Reason::EndPastUsable => 6,
+            Reason::WrongState => 7,
+            Reason::CrossesBorder => 8,
+            Reason::Unmapped => 9,
+            Reason::SumPasses => 10,
+            Reason::FailedDiscard => 11,
+        }
+    }
+}
+
+// The number of a reason, and 0 where there is none.
+pub fn why_number(why: Option<Reason>) -> u64
+    ensures { result ≡ why_number why }
+{
+    match why {
+        Some(reason) => reason.number(),
+        None => 0,
+    }
+}
+
+// A change that passed the tests (b), (c) and (d): its first block, its offset and its host address.
 #[derive(Clone, Copy)]
-pub enum Change {
-    Legal(u64, RegionOffset, HostAddr),
-    Outside(Part),
-    WrongState,
-    NoHost(HostRange),
-}
-
-// Which ERROR it is (R10.17), or 0 where the test was passed.
-impl Part {
-    fn why(self) -> u64
-        ensures { result ≡ part_why self }
-    {
-        match self {
-            Part::Alignment => 1,
-            Part::ZeroBlocks => 2,
-            Part::Overflow => 3,
-            Part::BelowStart => 4,
-            Part::PastUsable => 5,
-            Part::EndPastUsable => 6,
-        }
-    }
-}
-
-impl HostRange {
-    pub fn why(self) -> u64
-        ensures { result ≡ host_why self }
-    {
-        match self {
-            HostRange::At(_) => 0,
-            HostRange::CrossesBorder => 8,
-            HostRange::Unmapped => 9,
-            HostRange::SumPasses => 10,
-        }
-    }
-}
-
-impl Range {
-    pub fn why(self) -> u64
-        ensures { result ≡ range_why self }
-    {
-        match self {
-            Range::Inside(_) => 0,
-            Range::Outside(part) => part.why(),
-        }
-    }
-}
-
-impl Change {
-    pub fn why(self) -> u64
-        ensures { result ≡ change_why self }
-    {
-        match self {
-            Change::Legal(_, _, _) => 0,
-            Change::Outside(part) => part.why(),
-            Change::WrongState => 7,
-            Change::NoHost(host) => host.why(),
-        }
-    }
+pub struct Change {
+    pub first: u64,
+    pub offset: RegionOffset,
+    pub host: HostAddr,
 }
 
 // Whether a range lies inside start to start + usable. From `start` on, offsets are compared: they need no sum.
-fn inside_of(start: GuestAddr, usable: u64, addr: GuestAddr, size: u64) -> Range
+fn inside_of(start: GuestAddr, usable: u64, addr: GuestAddr, size: u64) -> Result<RegionOffset, Reason>
     ensures { result ≡ inside_of start.0 usable addr.0 size }
 {
     if addr.0 < start.0 {
-        return Range::Outside(Part::BelowStart);
+        return Err(Reason::BelowStart);
     }
     let offset = addr.offset_from(start);
     if usable <= offset.0 {
-        return Range::Outside(Part::PastUsable);
+        return Err(Reason::PastUsable);
     }
     if usable - offset.0 < size {
-        return Range::Outside(Part::EndPastUsable);
+        return Err(Reason::EndPastUsable);
     }
-    Range::Inside(offset)
+    Ok(offset)
 }
 
 // Test (b), part by part.
@@ -133,60 +100,50 @@ pub fn range_of(
     block_size: u32,
     addr: GuestAddr,
     nb_blocks: u16,
-) -> Range
+) -> Result<RegionOffset, Reason>
     ensures { result ≡ range_of block_size start.0 usable addr.0 nb_blocks }
 {
     let aligned = is_multiple(addr.0, block_size as u64);
     if !aligned {
-        return Range::Outside(Part::Alignment);
+        return Err(Reason::Alignment);
     }
     let no_blocks = nb_blocks == 0;
     if no_blocks {
-        return Range::Outside(Part::ZeroBlocks);
+        return Err(Reason::ZeroBlocks);
     }
     let size = MemTool::bytes_of(nb_blocks, block_size);
     if !sum_within(addr.0, size, u64::MAX) {
-        return Range::Outside(Part::Overflow);
+        return Err(Reason::Overflow);
     }
     inside_of(start, usable, addr, size)
 }
 
-// The change of a range that is not inside: what it failed is handed on. It is asked of no other.
-fn outside(range: Range) -> Change
-    ensures { (part : Part) → range ≡ NotInside part → result ≡ Outside part }
-{
-    match range {
-        Range::Outside(part) => Change::Outside(part),
-        Range::Inside(_) => Change::WrongState,
-    }
-}
-
 // A range at an offset from what is mapped at `host`.
-fn host_sum(host: HostAddr, offset: RegionOffset, size: u64) -> HostRange
+fn host_sum(host: HostAddr, offset: RegionOffset, size: u64) -> Result<HostAddr, Reason>
     ensures { result ≡ host_sum host.0 offset.0 size }
 {
     if !sum_within(host.0, offset.0, u64::MAX) {
-        return HostRange::SumPasses;
+        return Err(Reason::SumPasses);
     }
     let at = host.0 + offset.0;
     if !sum_within(at, size, u64::MAX) {
-        return HostRange::SumPasses;
+        return Err(Reason::SumPasses);
     }
-    HostRange::At(HostAddr(at))
+    Ok(HostAddr(at))
 }
 
 // A range at an offset from where a row is mapped.
-fn host_in(mapping: Option<HostAddr>, offset: RegionOffset, size: u64) -> HostRange
+fn host_in(mapping: Option<HostAddr>, offset: RegionOffset, size: u64) -> Result<HostAddr, Reason>
     ensures { result ≡ host_in mapping offset.0 size }
 {
     let Some(host) = mapping else {
-        return HostRange::Unmapped;
+        return Err(Reason::Unmapped);
     };
     host_sum(host, offset, size)
 }
 
 // Test (d), part by part.
-pub fn host_of(several: bool, table: &[u64], offset: RegionOffset, size: u64) -> HostRange
+pub fn host_of(several: bool, table: &[u64], offset: RegionOffset, size: u64) -> Result<HostAddr, Reason>
     ensures { result ≡ host_of several (rows_of table.now) offset.0 size }
 {
     if !several {
@@ -194,7 +151,7 @@ pub fn host_of(several: bool, table: &[u64], offset: RegionOffset, size: u64) ->
     }
     let within = offset.in_map_region();
     if !sum_within(within.0, size, MemTool::MAP_REGION_SIZE) {
-        return HostRange::CrossesBorder;
+        return Err(Reason::CrossesBorder);
     }
     host_in(mapping_of(table, offset.map_region()), within, size)
 }
@@ -210,28 +167,22 @@ pub fn change_of(
     plug: bool,
     bitmap: &[u8],
     table: &[u64],
-) -> Change
+) -> Result<Change, Reason>
     ensures { result ≡ change_of block_size start.0 usable several addr.0 nb_blocks plug
         (blocks bitmap.now) (rows_of table.now) }
 {
-    let range = range_of(start, usable, block_size, addr, nb_blocks);
-    let Range::Inside(offset) = range else {
-        return outside(range);
-    };
+    let offset = range_of(start, usable, block_size, addr, nb_blocks)?;
     let first = MemTool::blocks_in(offset.0, block_size as u64);
     if !all_in_state(bitmap, first as usize, nb_blocks as usize, !plug) {
-        return Change::WrongState;
+        return Err(Reason::WrongState);
     }
-    let host = host_of(
-        several,
-        table,
-        offset,
-        MemTool::bytes_of(nb_blocks, block_size),
-    );
-    let HostRange::At(at) = host else {
-        return Change::NoHost(host);
-    };
-    Change::Legal(first, offset, at)
+    let size = MemTool::bytes_of(nb_blocks, block_size);
+    let host = host_of(several, table, offset, size)?;
+    Ok(Change {
+        first: first,
+        offset: offset,
+        host: host,
+    })
 }
 
 // The state of blocks: plugged 0, unplugged 1, mixed 2 (R7.4).
