@@ -1,6 +1,6 @@
 -- SPDX-License-Identifier: Apache-2.0 AND BSD-3-Clause
 -- Request 2/12: no answer to a request hangs on what stands behind the table's end. A table with more rows, whatever they say, gives the same outcome.
-use Rattle.std.specs.Prelude.{Option, Some, None}
+use Rattle.std.specs.Prelude.{Option, Some, None, Ok, Err, Result}
 use Prim.Native.Nat.{ℕ, ◌+◌}
 use mathlib.Core.Path.{◌≡◌, refl}
 use mathlib.Core.Bool.{Bool, true, false}
@@ -12,15 +12,15 @@ use Rattle.units.specs.Numbers.{bytes_of}
 use Rattle.units.proofs.Tests.{by_test}
 use Rattle.bitmap.specs.Blocks.{next_set}
 use Rattle.wire.specs.declared.VirtioMemReq.{VirtioMemReq}
-use Rattle.chain.specs.declared.Parsed.{Parsed}
-use Rattle.chain.specs.declared.Parsed.TheVariants.{Request as Got, Bad}
+use Rattle.chain.specs.declared.Asked.{Asked}
+use Rattle.chain.specs.declared.NoRequest.{NoRequest}
 use Rattle.chain.specs.Chain.{parsed}
 use Rattle.rows.specs.declared.MapRow.{MapRow}
 use Rattle.record.specs.declared.Pending.{Pending}
 use Rattle.record.specs.declared.Pending.TheVariants.{Nothing, Create, Discard, DiscardOne}
 use Rattle.record.specs.Shape.{shaped_of}
 use Rattle.change.specs.declared.Change.{Change}
-use Rattle.change.specs.declared.Change.TheVariants.{Legal, Outside, WrongState, NoHost}
+use Rattle.change.specs.declared.Reason.{Reason}
 use Rattle.change.specs.Change.{row_of}
 use Rattle.change.proofs.Laws.{change_same}
 use Rattle.step.specs.World.{World, Guest, Outcome, Request, HostAnswer}
@@ -54,32 +54,26 @@ module _ (w : World) (shape : shaped_of w.device ≡ true) (fit : tables_fit w.d
       by_test (ltb (requested w) (plugged w + bytes_of (block_size w) count)) (λ t. rw t)
       (λ t. rw (t, same_change addr count true) (go (changing w addr count true)))
     where
-      go : (c : Change) → plug_as c (longer more w) count status g ≡ longer_after more (plug_as c w count status g)
-      go (Legal first offset host) = refl
-      go (Outside part) = refl
-      go WrongState = refl
-      go (NoHost part) = refl
+      go : (c : Result Change Reason) → plug_as c (longer more w) count status g ≡ longer_after more (plug_as c w count status g)
+      go (Ok change) = refl
+      go (Err why) = refl
 
   pub unplug_behind : (addr count : ℕ) → unplug_as (changing (longer more w) addr count false) (longer more w) count status g ≡ longer_after more (unplug_as (changing w addr count false) w count status g)
   unfolding unplug_as
   unplug_behind addr count = rw (same_change addr count false) (go (changing w addr count false))
     where
-      go : (c : Change) → unplug_as c (longer more w) count status g ≡ longer_after more (unplug_as c w count status g)
-      go (Legal first offset host) = by_test (ltb (plugged w) (bytes_of (block_size w) count)) (λ t. rw t) (λ t. rw t)
-      go (Outside part) = refl
-      go WrongState = refl
-      go (NoHost part) = refl
+      go : (c : Result Change Reason) → unplug_as c (longer more w) count status g ≡ longer_after more (unplug_as c w count status g)
+      go (Ok change) = by_test (ltb (plugged w) (bytes_of (block_size w) count)) (λ t. rw t) (λ t. rw t)
+      go (Err why) = refl
 
   -- from its first block on, and from each that follows
   pub unplug_all_behind : (from : ℕ) → unplug_all (longer more w) from status g ≡ longer_after more (unplug_all w from status g)
   unfolding next_as one_as
   unplug_all_behind from = next (next_set w.blocks from (region_blocks w))
     where
-      go : (block : ℕ) (c : Change) → one_as c (longer more w) block status g ≡ longer_after more (one_as c w block status g)
-      go block (Legal first offset host) = refl
-      go block (Outside part) = refl
-      go block WrongState = refl
-      go block (NoHost part) = refl
+      go : (block : ℕ) (c : Result Change Reason) → one_as c (longer more w) block status g ≡ longer_after more (one_as c w block status g)
+      go block (Ok change) = refl
+      go block (Err why) = refl
 
       next : (f : Option ℕ) → next_as f (longer more w) status g ≡ longer_after more (next_as f w status g)
       next None = refl
@@ -101,19 +95,19 @@ module _ (w : World) (more : List MapRow) (g : Guest) where
   more_fit = fits_longer w.device blocks (length w.rows) (length (w.rows ++ more)) (omega (arith, length-append w.rows more))
 
   -- a request that is not refused: a plug, an unplug, the first block of an unplug-all
-  pub request_behind : ready_refusal w.device blocks (length w.rows) ≡ 0 → (table head : ℕ) → step (longer more w) (Request g table head) ≡ longer_after more (step w (Request g table head))
+  pub request_behind : ready_refusal w.device blocks (length w.rows) ≡ Ok tt → (table head : ℕ) → step (longer more w) (Request g table head) ≡ longer_after more (step w (Request g table head))
   unfolding step unless request
   request_behind ready table head =
       let r = ready_is w.device blocks (length w.rows) ready in
       let r' = ready_when w.device blocks (length (w.rows ++ more)) (record { shaped = r.shaped; idle = r.idle; is_placed = r.is_placed; fits = more_fit r.fits }) in
       rw (ready, r') (go r (parsed g.mem g.base table head))
     where
-      go : Ready w.device blocks (length w.rows) → (p : Parsed) → request p (longer more w) g ≡ longer_after more (request p w g)
-      go r (Bad reason) = refl
-      go r (Got req status) = serve_behind w r.shaped r.fits more status.0 g req
+      go : Ready w.device blocks (length w.rows) → (p : Result Asked NoRequest) → request p (longer more w) g ≡ longer_after more (request p w g)
+      go r (Err reason) = refl
+      go r (Ok asked) = serve_behind w r.shaped r.fits more asked.status.0 g asked.request
 
   -- the host's answer to a discard that is not refused: the end of an unplug, and each block of an unplug-all that follows
-  pub answer_behind : pending_refusal w.device blocks (length w.rows) ≡ 0 → is_discard w.device.pending ≡ true → (ok : Bool) (host : ℕ) → step (longer more w) (HostAnswer g ok host) ≡ longer_after more (step w (HostAnswer g ok host))
+  pub answer_behind : pending_refusal w.device blocks (length w.rows) ≡ Ok tt → is_discard w.device.pending ≡ true → (ok : Bool) (host : ℕ) → step (longer more w) (HostAnswer g ok host) ≡ longer_after more (step w (HostAnswer g ok host))
   unfolding step unless host_answer is_discard
   answer_behind pending discard ok host =
       let p = waits_is w.device blocks (length w.rows) pending in

@@ -7,18 +7,21 @@ use native.Mathlib.Omega.{arith}
 use lib.Dec.{leb}
 use borrow.Author.Tests.{leb-true, le-leb}
 use Rattle.units.proofs.Tests.{and_left, and_right}
+use Rattle.std.specs.Prelude.{Result, Ok, Err, ⊤}
+use Rattle.refusal.specs.declared.Refusal.{Refusal}
+use Rattle.refusal.specs.declared.Refusal.TheVariants.{NotPlaced, CallPending, NothingPending, TooShort, NoShape}
 use Rattle.record.specs.declared.Device.{Device}
 use Rattle.record.specs.Shape.{shaped_of, is_idle}
 use Rattle.step.specs.Step.{tables_fit, ready_refusal, unplaced_refusal, pending_refusal}
 
--- past a test that gives refusal k where it fails, and past one that gives it where it holds
-past : (t : Bool) (n k : ℕ) → 0 < k → cond (not t) k n ≡ 0 → (t ≡ true) × (n ≡ 0)
-past true n k h e = (refl, e)
-past false n k h e = absurd (omega arith)
+-- past a test that refuses with k where it fails, and past one that gives it where it holds
+past : (t : Bool) (x : Result ⊤ Refusal) (k : Refusal) → cond (not t) (Err k) x ≡ Ok tt → (t ≡ true) × (x ≡ Ok tt)
+past true x k e = (refl, e)
+past false x k e = let z : ◌≡◌ {A = ℕ} 0 1 = cc in absurd (omega arith)
 
-past_not : (t : Bool) (n k : ℕ) → 0 < k → cond t k n ≡ 0 → (t ≡ false) × (n ≡ 0)
-past_not true n k h e = absurd (omega arith)
-past_not false n k h e = (refl, e)
+past_not : (t : Bool) (x : Result ⊤ Refusal) (k : Refusal) → cond t (Err k) x ≡ Ok tt → (t ≡ false) × (x ≡ Ok tt)
+past_not true x k e = let z : ◌≡◌ {A = ℕ} 0 1 = cc in absurd (omega arith)
+past_not false x k e = (refl, e)
 
 -- a request and a size change
 pub record Ready (d : Device) (blocks rows : ℕ) : Type 0 where
@@ -34,35 +37,35 @@ pub record Waits (d : Device) (blocks rows : ℕ) : Type 0 where
   pub fits : tables_fit d blocks rows ≡ true
 
 module _ (d : Device) (blocks rows : ℕ) where
-  pub ready_is : ready_refusal d blocks rows ≡ 0 → Ready d blocks rows
+  pub ready_is : ready_refusal d blocks rows ≡ Ok tt → Ready d blocks rows
   unfolding ready_refusal
   ready_is e =
-      let shaped = past (shaped_of d) _ 12 (omega arith) e in
-      let idle = past (is_idle d.pending) _ 7 (omega arith) shaped.1 in
-      let placed = past d.placed _ 5 (omega arith) idle.1 in
-      let fits = past (tables_fit d blocks rows) 0 11 (omega arith) placed.1 in
+      let shaped = past (shaped_of d) _ NoShape e in
+      let idle = past (is_idle d.pending) _ CallPending shaped.1 in
+      let placed = past d.placed _ NotPlaced idle.1 in
+      let fits = past (tables_fit d blocks rows) (Ok tt) TooShort placed.1 in
       record { shaped = shaped.0; idle = idle.0; is_placed = placed.0; fits = fits.0 }
 
-  pub ready_when : Ready d blocks rows → ready_refusal d blocks rows ≡ 0
+  pub ready_when : Ready d blocks rows → ready_refusal d blocks rows ≡ Ok tt
   unfolding ready_refusal
   ready_when r = rw (r.fits, r.shaped, r.idle, r.is_placed)
 
-  pub waits_is : pending_refusal d blocks rows ≡ 0 → Waits d blocks rows
+  pub waits_is : pending_refusal d blocks rows ≡ Ok tt → Waits d blocks rows
   unfolding pending_refusal
   waits_is e =
-      let shaped = past (shaped_of d) _ 12 (omega arith) e in
-      let waits = past_not (is_idle d.pending) _ 8 (omega arith) shaped.1 in
-      let fits = past (tables_fit d blocks rows) 0 11 (omega arith) waits.1 in
+      let shaped = past (shaped_of d) _ NoShape e in
+      let waits = past_not (is_idle d.pending) _ NothingPending shaped.1 in
+      let fits = past (tables_fit d blocks rows) (Ok tt) TooShort waits.1 in
       record { shaped = shaped.0; not_idle = waits.0; fits = fits.0 }
 
-  pub waits_when : Waits d blocks rows → pending_refusal d blocks rows ≡ 0
+  pub waits_when : Waits d blocks rows → pending_refusal d blocks rows ≡ Ok tt
   unfolding pending_refusal
   waits_when p = rw (p.fits, p.shaped, p.not_idle)
 
   -- placing
-  pub unplaced_shaped : unplaced_refusal d blocks rows ≡ 0 → shaped_of d ≡ true
+  pub unplaced_shaped : unplaced_refusal d blocks rows ≡ Ok tt → shaped_of d ≡ true
   unfolding unplaced_refusal
-  unplaced_shaped e = (past (shaped_of d) _ 12 (omega arith) e).0
+  unplaced_shaped e = (past (shaped_of d) _ NoShape e).0
 
   -- a longer map table fits too
   pub fits_longer : (rows' : ℕ) → rows ≤ rows' → tables_fit d blocks rows ≡ true → tables_fit d blocks rows' ≡ true

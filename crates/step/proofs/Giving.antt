@@ -3,7 +3,8 @@
 use Prim.Native.Nat.{ℕ}
 use mathlib.Core.Path.{◌≡◌, refl, ap, sym}
 use mathlib.Core.List.{List, []}
-use borrow.Author.Tests.{eq-eqb, ne_eqb}
+use Rattle.std.specs.Prelude.{Result, Ok, Err, ⊤}
+use Rattle.refusal.specs.declared.Refusal.{Refusal}
 use Rattle.bitmap.specs.Blocks.{blocks}
 use Rattle.rows.specs.Rows.{rows_of}
 use Rattle.rows.proofs.Words.{whole}
@@ -63,17 +64,17 @@ as_answered o before after s e m =
 
 -- ---- the refusals
 module _ (d : Device) (l : Lent) where
-  pub refused_gives : (n : ℕ) (o : Outcome) (s : Answered) → o ≡ refused n (on d l) l.bytes → s ≡ record { device = d; answer = Refused n } → Gives o l l s
-  refused_gives n o s e a =
+  pub refused_gives : (r : Refusal) (o : Outcome) (s : Answered) → o ≡ refused r (on d l) l.bytes → s ≡ record { device = d; answer = Refused r } → Gives o l l s
+  refused_gives r o s e a =
       rw (e, a)
       (record { answered = refl; told = refl; recorded = refl; leaves = record { marked = refl; mapped = sym (whole l.table); left = refl } })
 
   -- the call is refused by its first tests
-  pub stops : (n : ℕ) (o : Outcome) (s : Answered) → (n ≡ 0 → ⊥) → s ≡ record { device = d; answer = Refused n } → Gives (unless n (on d l) l.bytes o) l l s
+  pub stops : (x : Result ⊤ Refusal) (r : Refusal) (o : Outcome) (s : Answered) → x ≡ Err r → s ≡ record { device = d; answer = Refused r } → Gives (unless x (on d l) l.bytes o) l l s
   unfolding unless
-  stops n o s h a = refused_gives n _ s (rw (ne_eqb n 0 h)) a
+  stops x r o s e a = refused_gives r _ s (rw e) a
 
 -- or it goes on
-pub goes_on : (n : ℕ) (w : World) (bytes : List ℕ) (o : Outcome) (before after : Lent) (s : Answered) → n ≡ 0 → Gives o before after s → Gives (unless n w bytes o) before after s
+pub goes_on : (x : Result ⊤ Refusal) (w : World) (bytes : List ℕ) (o : Outcome) (before after : Lent) (s : Answered) → x ≡ Ok tt → Gives o before after s → Gives (unless x w bytes o) before after s
 unfolding unless
-goes_on n w bytes o before after s h m = rw (eq-eqb n 0 h) m
+goes_on x w bytes o before after s e m = rw e m

@@ -1,5 +1,6 @@
 -- SPDX-License-Identifier: Apache-2.0 AND BSD-3-Clause
 -- Request 2/12: the row that test (d) looks at is in the table, so that (d) never looks past the table's end, where nothing is mapped (`row_at`).
+use Rattle.std.specs.Prelude.{Ok}
 use Prim.Native.Nat.{ℕ, ◌+◌, ◌*◌, ◌<◌}
 use mathlib.Core.Path.{◌≡◌}
 use mathlib.Core.Bool.{Bool, true, false}
@@ -14,7 +15,6 @@ use Rattle.bitmap.proofs.Laws.{fill_length}
 use Rattle.wire.specs.declared.VirtioMemReq.{VirtioMemReq}
 use Rattle.record.specs.Shape.{shaped_of}
 use Rattle.record.proofs.Laws.{shaped_is, block_less_keeps}
-use Rattle.change.specs.declared.Range.TheVariants.{Inside}
 use Rattle.change.specs.Change.{range_of, row_of}
 use Rattle.change.proofs.Laws.{inside_is}
 use Rattle.step.specs.World.{World}
@@ -23,7 +23,7 @@ use Rattle.step.proofs.Entry.{ready_is, waits_is}
 
 -- ---- a range that passed (b) has its row in the table
 abbrev pub RowInTable : World → (addr count : ℕ) → Type 0
-RowInTable w addr count = (o : RegionOffset) → range_of (block_size w) (start w) (usable w) addr count ≡ Inside o → row_of (several w) o.0 < length w.rows
+RowInTable w addr count = (o : RegionOffset) → range_of (block_size w) (start w) (usable w) addr count ≡ Ok o → row_of (several w) o.0 < length w.rows
 
 -- of offsets below the region, each lies in one of its map regions
 row_counted : (region offset : ℕ) (several : Bool) → offset < region → row_of several offset < map_regions region several
@@ -44,7 +44,7 @@ row_in_table w shape fit addr count o e =
     omega (arith, row_counted (region w) o.0 (several w) below, rows)
 
 -- ---- at the entries
-module _ (w : World) (ready : ready_refusal w.device (length w.blocks) (length w.rows) ≡ 0) where
+module _ (w : World) (ready : ready_refusal w.device (length w.blocks) (length w.rows) ≡ Ok tt) where
   in_table : (addr count : ℕ) → RowInTable w addr count
   in_table = let r = ready_is _ _ _ ready in row_in_table w r.shaped r.fits
 
@@ -57,7 +57,7 @@ module _ (w : World) (ready : ready_refusal w.device (length w.blocks) (length w
   first_row block = in_table (start w + bytes_of (block_size w) block) 1
 
 -- a block of it that was discarded leaves the shape and the lengths
-module _ (w : World) (pending : pending_refusal w.device (length w.blocks) (length w.rows) ≡ 0) (done : ℕ) where
+module _ (w : World) (pending : pending_refusal w.device (length w.blocks) (length w.rows) ≡ Ok tt) (done : ℕ) where
   pub cleared_shaped : shaped_of (cleared w done).device ≡ true
   cleared_shaped = block_less_keeps w.device (waits_is _ _ _ pending).shaped
 

@@ -1,18 +1,20 @@
 -- SPDX-License-Identifier: Apache-2.0 AND BSD-3-Clause
 -- What a call may change of the record: a request the plugged size and the pending call; a host's answer those, the usable size and whether the device is placed.
-use Rattle.std.specs.Prelude.{Option, Some, None}
+use Rattle.std.specs.Prelude.{Option, Some, None, Ok, Err, Result, ⊤}
 use Prim.Native.Nat.{ℕ, ◌+◌}
 use mathlib.Core.Path.{◌≡◌, refl, ap}
 use mathlib.Core.Bool.{Bool, true, false, cond}
+use mathlib.Core.List.{List}
 use lib.Dec.{ltb, eqb}
+use Rattle.refusal.specs.declared.Refusal.{Refusal}
 use lib.ListN.{length}
 use Rattle.units.specs.Numbers.{top, bytes_of}
 use Rattle.wire.specs.declared.VirtioMemReq.{VirtioMemReq}
-use Rattle.chain.specs.declared.Parsed.{Parsed}
-use Rattle.chain.specs.declared.Parsed.TheVariants.{Request as Got, Bad}
+use Rattle.chain.specs.declared.Asked.{Asked}
+use Rattle.chain.specs.declared.NoRequest.{NoRequest}
 use Rattle.chain.specs.Chain.{parsed}
 use Rattle.change.specs.declared.Change.{Change}
-use Rattle.change.specs.declared.Change.TheVariants.{Legal, Outside, WrongState, NoHost}
+use Rattle.change.specs.declared.Reason.{Reason}
 use Rattle.record.specs.declared.Device.{Device}
 use Rattle.record.specs.declared.Pending.{Pending}
 use Rattle.record.specs.declared.Pending.TheVariants.{Nothing, Create, Discard, DiscardOne}
@@ -36,28 +38,28 @@ either : (f : Device → Device) (before : World) (t : Bool) (x y : Outcome) →
 either f before true x y p q = p
 either f before false x y p q = q
 
+-- a call that is refused keeps all of it
+unless_keeps : (f : Device → Device) (w : World) (x : Result ⊤ Refusal) (bytes : List ℕ) (o : Outcome) → Keeps f w o → Keeps f w (unless x w bytes o)
+unfolding unless
+unless_keeps f w (Ok admitted) bytes o k = k
+unless_keeps f w (Err refusal) bytes o k = record { same = refl }
+
 module _ (g : Guest) (before w : World) (h : request_kept w.device ≡ request_kept before.device) where
-  plug_keeps : (ch : Change) (count status : ℕ) → Keeps request_kept before (plug_as ch w count status g)
+  plug_keeps : (ch : Result Change Reason) (count status : ℕ) → Keeps request_kept before (plug_as ch w count status g)
   unfolding plug_as
-  plug_keeps (Legal first offset host) count status = record { same = h }
-  plug_keeps (Outside part) count status = record { same = h }
-  plug_keeps WrongState count status = record { same = h }
-  plug_keeps (NoHost part) count status = record { same = h }
+  plug_keeps (Ok change) count status = record { same = h }
+  plug_keeps (Err why) count status = record { same = h }
 
-  unplug_keeps : (ch : Change) (count status : ℕ) → Keeps request_kept before (unplug_as ch w count status g)
+  unplug_keeps : (ch : Result Change Reason) (count status : ℕ) → Keeps request_kept before (unplug_as ch w count status g)
   unfolding unplug_as
-  unplug_keeps (Legal first offset host) count status =
+  unplug_keeps (Ok change) count status =
       either request_kept before (ltb (plugged w) (bytes_of (block_size w) count)) _ _ (record { same = h }) (record { same = h })
-  unplug_keeps (Outside part) count status = record { same = h }
-  unplug_keeps WrongState count status = record { same = h }
-  unplug_keeps (NoHost part) count status = record { same = h }
+  unplug_keeps (Err why) count status = record { same = h }
 
-  one_keeps : (ch : Change) (block status : ℕ) → Keeps request_kept before (one_as ch w block status g)
+  one_keeps : (ch : Result Change Reason) (block status : ℕ) → Keeps request_kept before (one_as ch w block status g)
   unfolding one_as
-  one_keeps (Legal first offset host) block status = record { same = h }
-  one_keeps (Outside part) block status = record { same = h }
-  one_keeps WrongState block status = record { same = h }
-  one_keeps (NoHost part) block status = record { same = h }
+  one_keeps (Ok change) block status = record { same = h }
+  one_keeps (Err why) block status = record { same = h }
 
   next_keeps : (f : Option ℕ) (status : ℕ) → Keeps request_kept before (next_as f w status g)
   unfolding next_as
@@ -75,10 +77,10 @@ module _ (g : Guest) (before w : World) (h : request_kept w.device ≡ request_k
       (either request_kept before (eqb type 2) _ _ (next_keeps _ status)
       (either request_kept before (eqb type 3) _ _ (record { same = h }) (record { same = h }))))
 
-  request_keeps : (p : Parsed) → Keeps request_kept before (request p w g)
+  request_keeps : (p : Result Asked NoRequest) → Keeps request_kept before (request p w g)
   unfolding request
-  request_keeps (Bad reason) = record { same = h }
-  request_keeps (Got req status) = serve_keeps req status.0
+  request_keeps (Err reason) = record { same = h }
+  request_keeps (Ok asked) = serve_keeps asked.request asked.status.0
 
 -- what a request keeps, an answer keeps
 weaker : (before : World) (o : Outcome) → Keeps request_kept before o → Keeps answer_kept before o
@@ -99,21 +101,19 @@ answer_keeps before g (DiscardOne block status) ok host =
 -- a request changes the plugged size and the pending call at most
 pub request_changes : (w : World) (g : Guest) (table head : ℕ) → let d = (step w (Request g table head)).world.device in
     d ≡ pending_to d.pending (plugged_to d.config.plugged_size w.device)
-unfolding step unless
+unfolding step
 request_changes w g table head =
     let d = (step w (Request g table head)).world.device in
-    let k = either request_kept w (eqb (ready_refusal w.device (length w.blocks) (length w.rows)) 0) _ _
-    (request_keeps g w w refl (parsed g.mem g.base table head))
-    (record { same = refl }) in
+    let k = unless_keeps request_kept w (ready_refusal w.device (length w.blocks) (length w.rows)) g.mem _
+    (request_keeps g w w refl (parsed g.mem g.base table head)) in
     ap (λ (e : Device). pending_to d.pending (plugged_to d.config.plugged_size e)) k.same
 
 -- a host's answer the usable size and whether the device is placed too
 pub answer_changes : (w : World) (g : Guest) (ok : Bool) (host : ℕ) → let d = (step w (HostAnswer g ok host)).world.device in
     d ≡ pending_to d.pending (placed_to d.placed (plugged_to d.config.plugged_size (usable_to d.config.usable_region_size w.device)))
-unfolding step unless
+unfolding step
 answer_changes w g ok host =
     let d = (step w (HostAnswer g ok host)).world.device in
-    let k = either answer_kept w (eqb (pending_refusal w.device (length w.blocks) (length w.rows)) 0) _ _
-    (answer_keeps w g w.device.pending ok host)
-    (record { same = refl }) in
+    let k = unless_keeps answer_kept w (pending_refusal w.device (length w.blocks) (length w.rows)) g.mem _
+    (answer_keeps w g w.device.pending ok host) in
     ap (λ (e : Device). pending_to d.pending (placed_to d.placed (plugged_to d.config.plugged_size (usable_to d.config.usable_region_size e)))) k.same

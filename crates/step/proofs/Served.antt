@@ -1,6 +1,6 @@
 -- SPDX-License-Identifier: Apache-2.0 AND BSD-3-Clause
 -- What holds of every response: a used length is 10 or 0, and an ERROR has its reason (R10.18). One walk over the requests shows each.
-use Rattle.std.specs.Prelude.{Option, Some, None}
+use Rattle.std.specs.Prelude.{Option, Some, None, Ok, Err, Result, ⊤}
 use Prim.Native.Nat.{ℕ, ◌+◌, ◌*◌}
 use mathlib.Core.Path.{◌≡◌, refl}
 use mathlib.Core.Bool.{Bool, true, false, cond, not}
@@ -9,17 +9,19 @@ use native.Mathlib.Omega.{arith}
 use lib.Dec.{ltb, eqb}
 use Rattle.units.specs.Numbers.{top, bytes_of, MiB}
 use Rattle.wire.specs.declared.VirtioMemReq.{VirtioMemReq}
-use Rattle.chain.specs.declared.Parsed.{Parsed}
-use Rattle.chain.specs.declared.Parsed.TheVariants.{Request as Got, Bad}
+use Rattle.chain.specs.declared.Asked.{Asked}
+use Rattle.chain.specs.declared.NoRequest.{NoRequest}
 use Rattle.chain.specs.Chain.{parsed, reaches}
 use Rattle.record.specs.Shape.{shaped_of, size_ok}
 use Rattle.resize.specs.declared.Creation.{Creation}
-use Rattle.change.specs.declared.Range.{Range}
-use Rattle.change.specs.declared.Range.TheVariants.{Inside, Outside as NotInside}
+use Rattle.units.specs.declared.RegionOffset.{RegionOffset}
 use Rattle.change.specs.declared.Change.{Change}
-use Rattle.change.specs.declared.Change.TheVariants.{Legal, Outside, WrongState, NoHost}
-use Rattle.change.specs.Why.{range_why, failed_discard, Reasoned}
-use Rattle.change.proofs.Why.{Failed, part_reasoned, change_failed}
+use Rattle.change.specs.declared.Reason.{Reason}
+use Rattle.std.specs.Result.{result_err}
+use Rattle.refusal.specs.declared.Refusal.{Refusal}
+use Rattle.change.specs.declared.Reason.TheVariants.{FailedDiscard}
+use Rattle.change.specs.Why.{why_number, Reasoned}
+use Rattle.change.proofs.Why.{Failed, change_failed, reasoned as why_reasoned}
 use Rattle.record.specs.declared.Pending.{Pending}
 use Rattle.record.specs.declared.Pending.TheVariants.{Nothing, Create, Discard, DiscardOne}
 use Rattle.step.specs.declared.Verdict.{Verdict}
@@ -39,7 +41,7 @@ pub record Known (P : Verdict → Type 0) (W : World → Type 0) : Type 0 where
   pub nacks : P nack
   pub states : (w : World) → W w → (addr count : ℕ) → P (state_verdict w addr count)
   pub changes : (w : World) → W w → (addr count : ℕ) (wanted : Bool) → Failed (λ why. P (error why)) (changing w addr count wanted)
-  pub discards : P (error failed_discard)
+  pub discards : P (error FailedDiscard)
   pub clears : (w : World) (block : ℕ) → W w → W (cleared w block)
 
 module _ (K : Reply → List ℕ → Type 0) where
@@ -47,9 +49,10 @@ module _ (K : Reply → List ℕ → Type 0) where
   either true x y p q = p
   either false x y p q = q
 
-  unless_of : (n : ℕ) (w : World) (bytes : List ℕ) (o : Outcome) → Of K o → Of K (unless n w bytes o)
+  unless_of : (x : Result ⊤ Refusal) (w : World) (bytes : List ℕ) (o : Outcome) → Of K o → Of K (unless x w bytes o)
   unfolding unless OfReply
-  unless_of n w bytes o p = either (eqb n 0) _ _ p (record { of = tt })
+  unless_of (Ok admitted) w bytes o p = p
+  unless_of (Err refusal) w bytes o p = record { of = tt }
 
   grown : (r : Option Creation) (w : World) → Of K (resizes r w)
   unfolding resizes OfReply
@@ -76,26 +79,20 @@ abbrev pub SaysAt : (P : Verdict → Type 0) (K : Reply → List ℕ → Type 0)
 SaysAt P K g status = (v : Verdict) (w : World) → P v → Of K (served v status w g)
 
 module _ (P : Verdict → Type 0) (W : World → Type 0) (k : Known P W) (K : Reply → List ℕ → Type 0) (g : Guest) (status : ℕ) (says : SaysAt P K g status) where
-  plug_of_lem : (ch : Change) → Failed (λ why. P (error why)) ch → (w : World) (count : ℕ) → Of K (plug_as ch w count status g)
+  plug_of_lem : (ch : Result Change Reason) → Failed (λ why. P (error why)) ch → (w : World) (count : ℕ) → Of K (plug_as ch w count status g)
   unfolding plug_as Failed
-  plug_of_lem (Legal first offset host) f w count = says _ _ k.acks
-  plug_of_lem (Outside part) f w count = says _ _ f
-  plug_of_lem WrongState f w count = says _ _ f
-  plug_of_lem (NoHost host) f w count = says _ _ f
+  plug_of_lem (Ok change) f w count = says _ _ k.acks
+  plug_of_lem (Err why) f w count = says _ _ f
 
-  unplug_of : (ch : Change) → Failed (λ why. P (error why)) ch → (w : World) (count : ℕ) → Of K (unplug_as ch w count status g)
+  unplug_of : (ch : Result Change Reason) → Failed (λ why. P (error why)) ch → (w : World) (count : ℕ) → Of K (unplug_as ch w count status g)
   unfolding unplug_as OfReply Failed
-  unplug_of (Legal first offset host) f w count = either K (ltb (plugged w) (bytes_of (block_size w) count)) _ _ (record { of = tt }) (record { of = tt })
-  unplug_of (Outside part) f w count = says _ _ f
-  unplug_of WrongState f w count = says _ _ f
-  unplug_of (NoHost host) f w count = says _ _ f
+  unplug_of (Ok change) f w count = either K (ltb (plugged w) (bytes_of (block_size w) count)) _ _ (record { of = tt }) (record { of = tt })
+  unplug_of (Err why) f w count = says _ _ f
 
-  one_of : (ch : Change) → Failed (λ why. P (error why)) ch → (w : World) (block : ℕ) → Of K (one_as ch w block status g)
+  one_of : (ch : Result Change Reason) → Failed (λ why. P (error why)) ch → (w : World) (block : ℕ) → Of K (one_as ch w block status g)
   unfolding one_as OfReply Failed
-  one_of (Legal first offset host) f w block = record { of = tt }
-  one_of (Outside part) f w block = says _ _ f
-  one_of WrongState f w block = says _ _ f
-  one_of (NoHost host) f w block = says _ _ f
+  one_of (Ok change) f w block = record { of = tt }
+  one_of (Err why) f w block = says _ _ f
 
   next_of : (f : Option ℕ) (w : World) → W w → Of K (next_as f w status g)
   unfolding next_as
@@ -128,10 +125,10 @@ create_of K w g i last ok host =
 
 -- what holds at every status address holds of every call
 module _ (P : Verdict → Type 0) (W : World → Type 0) (k : Known P W) (K : Reply → List ℕ → Type 0) (says : (g : Guest) (status : ℕ) → SaysAt P K g status) where
-  request_of_lem : (w : World) → W w → (g : Guest) (p : Parsed) → Of K (request p w g)
+  request_of_lem : (w : World) → W w → (g : Guest) (p : Result Asked NoRequest) → Of K (request p w g)
   unfolding request OfReply
-  request_of_lem w u g (Bad reason) = record { of = tt }
-  request_of_lem w u g (Got req status) = serve_of P W k K g status.0 (says g status.0) w u req
+  request_of_lem w u g (Err reason) = record { of = tt }
+  request_of_lem w u g (Ok asked) = serve_of P W k K g asked.status.0 (says g asked.status.0) w u asked.request
 
   answer_of_lem : (w : World) → W w → (g : Guest) (p : Pending) (ok : Bool) (host : ℕ) → Of K (host_answer p w g ok host)
   unfolding host_answer OfReply
@@ -156,12 +153,12 @@ abbrev AnyWorld : World → Type 0
 AnyWorld w = Prim.Unit {0}
 
 abbrev ReasonedVerdict : Verdict → Type 0
-ReasonedVerdict v = Reasoned v.response.resp_type v.why
+ReasonedVerdict v = Reasoned v.response.resp_type (why_number v.why)
 
-state_reasoned : (r : Range) → Reasoned (state_type r) (range_why r)
-unfolding state_type range_why
-state_reasoned (Inside offset) = record { exactly = refl; most = omega arith }
-state_reasoned (NotInside part) = part_reasoned part
+state_reasoned : (r : Result RegionOffset Reason) → Reasoned (state_type r) (why_number (result_err r))
+unfolding state_type
+state_reasoned (Ok offset) = record { exactly = refl; most = omega arith }
+state_reasoned (Err why) = why_reasoned why
 
 reasoned : Known ReasonedVerdict AnyWorld
 reasoned =
@@ -169,7 +166,7 @@ reasoned =
       acks = record { exactly = refl; most = omega arith };
       nacks = record { exactly = refl; most = omega arith };
       states = λ w u addr count. state_reasoned _;
-      changes = λ w u addr count wanted. change_failed (block_size w) (start w) (usable w) (several w) addr count wanted w.blocks w.rows;
+      changes = λ w u addr count wanted. change_failed (changing w addr count wanted);
       discards = record { exactly = refl; most = omega arith };
       clears = λ w block u. tt;
     }

@@ -1,13 +1,14 @@
 -- SPDX-License-Identifier: Apache-2.0 AND BSD-3-Clause
 -- What each call does, in the order of the rules' tests (R2): `step` from a World and a Call to an Outcome. Every ending is a named leaf, and every decision a tree of tests over leaves.
-use Rattle.std.specs.Prelude.{ℕ, ◌+◌, ◌-◌, ◌*◌, ◌≡◌, Bool, true, false, cond, not, ◌&&◌, List, [], leb, ltb, eqb, length, drop, Option, Some, None}
+use Rattle.std.specs.Prelude.{ℕ, ◌+◌, ◌-◌, ◌*◌, ◌≡◌, Bool, true, false, cond, not, ◌&&◌, List, [], leb, ltb, eqb, length, drop, Option, Some, None, Result, Ok, Err, ⊤}
 use Rattle.units.specs.Numbers.{top, bytes_of, blocks_in, map_region, map_regions, MiB}
 use Rattle.bitmap.specs.Blocks.{fill, next_set}
 use Rattle.wire.specs.declared.VirtioMemReq.{VirtioMemReq}
 use Rattle.little_endian.specs.Bytes.{put}
 use Rattle.wire.specs.Layout.{config_bytes}
-use Rattle.chain.specs.declared.Parsed.{Parsed}
-use Rattle.chain.specs.declared.Parsed.TheVariants.{Request as Got, Bad}
+use Rattle.chain.specs.declared.Asked.{Asked}
+use Rattle.chain.specs.declared.NoRequest.{NoRequest}
+use Rattle.chain.specs.declared.NoRequest.TheVariants.{UnknownType}
 use Rattle.chain.specs.Chain.{parsed, reaches, delivered}
 use Rattle.rows.specs.declared.MapRow.{MapRow}
 use Rattle.rows.specs.Rows.{row_at, rows_filled, rows_laid}
@@ -19,12 +20,14 @@ use Rattle.record.specs.Shape.{shaped_of, is_idle, size_ok, start_ok}
 use Rattle.record.specs.Changes.{pending_to, plugged_to, requested_to, start_to, usable_to, placed_to}
 use Rattle.resize.specs.declared.Creation.{Creation}
 use Rattle.resize.specs.Resize.{new_size, grown, growth_of}
-use Rattle.change.specs.declared.Range.{Range}
-use Rattle.change.specs.declared.Range.TheVariants.{Inside, Outside as NotInside}
+use Rattle.units.specs.declared.RegionOffset.{RegionOffset}
 use Rattle.change.specs.declared.Change.{Change}
-use Rattle.change.specs.declared.Change.TheVariants.{Legal, Outside, WrongState, NoHost}
+use Rattle.change.specs.declared.Reason.{Reason}
+use Rattle.change.specs.declared.Reason.TheVariants.{FailedDiscard}
 use Rattle.change.specs.Change.{range_of, change_of, state_of}
-use Rattle.change.specs.Why.{part_why, host_why, range_why, wrong_state, failed_discard}
+use Rattle.refusal.specs.declared.Refusal.{Refusal}
+use Rattle.refusal.specs.declared.Refusal.TheVariants.{WrongSize, WrongRange, WrongStart, NotPlaced, AlreadyPlaced, CallPending, NothingPending, HostPastTop, CreationFailed, TooShort, NoShape}
+use Rattle.std.specs.Result.{result_err}
 use Rattle.step.specs.declared.Verdict.{Verdict}
 use Rattle.step.specs.declared.Answer.TheVariants.{Refused, Wants, Sized, Unserved, Done}
 use Rattle.step.specs.Answers.{served_with}
@@ -71,26 +74,26 @@ pub record Untouched (w w' : World) : Type 0 where
 
 -- ---- the endings
 -- R2.8: a refusal changes nothing
-abbrev pub refused : ℕ → World → List ℕ → Outcome
-refused n w bytes = record { world = w; answer = Refused n; bytes = bytes }
+abbrev pub refused : Refusal → World → List ℕ → Outcome
+refused refusal w bytes = record { world = w; answer = Refused refusal; bytes = bytes }
 
 -- R9.7: used length 0 with its reason, and nothing written
-abbrev pub unserved : ℕ → World → Guest → Outcome
+abbrev pub unserved : NoRequest → World → Guest → Outcome
 unserved reason w g = record { world = w; answer = Unserved reason; bytes = g.mem }
 
 -- what a request comes to: the response, and why it is an ERROR (R10.17)
-abbrev pub verdict : (type state why : ℕ) → Verdict
+abbrev pub verdict : (type state : ℕ) (why : Option Reason) → Verdict
 verdict type state why = record { response = record { resp_type = type; state = state }; why = why }
 
 -- R7.4: ACK 0, NACK 1, ERROR 3; R10.2: with state 0
 abbrev pub ack : Verdict
-ack = verdict 0 0 0
+ack = verdict 0 0 None
 
 abbrev pub nack : Verdict
-nack = verdict 1 0 0
+nack = verdict 1 0 None
 
-abbrev pub error : (why : ℕ) → Verdict
-error why = verdict 3 0 why
+abbrev pub error : Reason → Verdict
+error why = verdict 3 0 (Some why)
 
 -- R9.10; the guest reads the response alone
 abbrev pub served : Verdict → (status : ℕ) → World → Guest → Outcome
@@ -133,7 +136,7 @@ unplugs w first count status g =
     g
 
 -- R10.10, R10.13: ERROR, and nothing has changed but that nothing is pending
-abbrev pub stops : (why : ℕ) → World → (status : ℕ) → Guest → Outcome
+abbrev pub stops : Reason → World → (status : ℕ) → Guest → Outcome
 stops why w status g = served (error why) status (device_of (pending_to Nothing w.device) w) g
 
 -- R10.11: an unplug-all asks for one block
@@ -201,7 +204,7 @@ creates w i last host bytes =
 -- R1.10; R2.9, R2.10: what was written before the question stands, and nothing else has changed
 abbrev pub create_fails : World → List ℕ → Outcome
 create_fails w bytes =
-    record { world = device_of (pending_to Nothing w.device) w; answer = Refused 10; bytes = bytes }
+    record { world = device_of (pending_to Nothing w.device) w; answer = Refused CreationFailed; bytes = bytes }
 
 -- R5.2
 abbrev pub placed : World → (start : ℕ) (slots : List ℕ) → List Bool → List MapRow → World
@@ -212,7 +215,7 @@ placed w at slots bs rows =
       rows = rows_laid rows slots;
     }
 
--- ---- the refusals, in their order: the first number that is given, or 0
+-- ---- the refusals, in their order: the first that is given, or none
 -- R1.11
 unfoldable pub tables_fit : Device → (blocks rows : ℕ) → Bool
 tables_fit d blocks rows =
@@ -220,50 +223,49 @@ tables_fit d blocks rows =
     && leb (map_regions d.config.region_size d.several) rows
 
 -- R2.3, R2.4: a request and a size change: 12, 7 (R1.7), 5 (R1.5), 11
-unfoldable pub ready_refusal : Device → (blocks rows : ℕ) → ℕ
+unfoldable pub ready_refusal : Device → (blocks rows : ℕ) → Result ⊤ Refusal
 ready_refusal d blocks rows =
-    cond (not (shaped_of d)) 12
-    (cond (not (is_idle d.pending)) 7
-    (cond (not d.placed) 5
-    (cond (not (tables_fit d blocks rows)) 11 0)))
+    cond (not (shaped_of d)) (Err NoShape)
+    (cond (not (is_idle d.pending)) (Err CallPending)
+    (cond (not d.placed) (Err NotPlaced)
+    (cond (not (tables_fit d blocks rows)) (Err TooShort) (Ok tt))))
 
 -- R2.2: placing: 12, 7, 6 (R1.6), 11
-unfoldable pub unplaced_refusal : Device → (blocks rows : ℕ) → ℕ
+unfoldable pub unplaced_refusal : Device → (blocks rows : ℕ) → Result ⊤ Refusal
 unplaced_refusal d blocks rows =
-    cond (not (shaped_of d)) 12
-    (cond (not (is_idle d.pending)) 7
-    (cond d.placed 6
-    (cond (not (tables_fit d blocks rows)) 11 0)))
+    cond (not (shaped_of d)) (Err NoShape)
+    (cond (not (is_idle d.pending)) (Err CallPending)
+    (cond d.placed (Err AlreadyPlaced)
+    (cond (not (tables_fit d blocks rows)) (Err TooShort) (Ok tt))))
 
 -- R2.5: a host answer: 12, 8 (R1.8), 11
-unfoldable pub pending_refusal : Device → (blocks rows : ℕ) → ℕ
+unfoldable pub pending_refusal : Device → (blocks rows : ℕ) → Result ⊤ Refusal
 pending_refusal d blocks rows =
-    cond (not (shaped_of d)) 12
-    (cond (is_idle d.pending) 8
-    (cond (not (tables_fit d blocks rows)) 11 0))
+    cond (not (shaped_of d)) (Err NoShape)
+    (cond (is_idle d.pending) (Err NothingPending)
+    (cond (not (tables_fit d blocks rows)) (Err TooShort) (Ok tt)))
 
 -- placing's own, of so many slots: 3 and 4
-unfoldable pub range_refusal : Device → (start size slots : ℕ) → ℕ
+unfoldable pub range_refusal : Device → (start size slots : ℕ) → Result ⊤ Refusal
 range_refusal d start size slots =
     let region = d.config.region_size in
-    cond (not (eqb slots (map_regions region d.several) && eqb size region)) 3
-    (cond (not (start_ok start region d.several d.alignment)) 4 0)
+    cond (not (eqb slots (map_regions region d.several) && eqb size region)) (Err WrongRange)
+    (cond (not (start_ok start region d.several d.alignment)) (Err WrongStart) (Ok tt))
 
 -- the outcome, unless the call is refused
-unfoldable pub unless : (n : ℕ) → World → List ℕ → Outcome → Outcome
-unless n w bytes o = cond (eqb n 0) o (refused n w bytes)
+unfoldable pub unless : Result ⊤ Refusal → World → List ℕ → Outcome → Outcome
+unless (Ok admitted) w bytes o = o
+unless (Err refusal) w bytes o = refused refusal w bytes
 
 -- ---- plug, unplug, unplug-all, state
 -- tests (b) to (d) of a range
-abbrev pub changing : World → (addr count : ℕ) (wanted : Bool) → Change
+abbrev pub changing : World → (addr count : ℕ) (wanted : Bool) → Result Change Reason
 changing w addr count wanted =
     change_of (block_size w) (start w) (usable w) (several w) addr count wanted w.blocks w.rows
 
-unfoldable pub plug_as : Change → World → (count status : ℕ) → Guest → Outcome
-plug_as (Legal first offset host) w count status g = plugs w first count status g
-plug_as (Outside part) w count status g = served (error (part_why part)) status w g
-plug_as WrongState w count status g = served (error wrong_state) status w g
-plug_as (NoHost host) w count status g = served (error (host_why host)) status w g
+unfoldable pub plug_as : Result Change Reason → World → (count status : ℕ) → Guest → Outcome
+plug_as (Ok change) w count status g = plugs w change.first count status g
+plug_as (Err why) w count status g = served (error why) status w g
 
 -- R10.2; R10.3: test (a), then (b) to (d)
 unfoldable pub plug : World → (addr count status : ℕ) → Guest → Outcome
@@ -272,23 +274,19 @@ plug w addr count status g =
     (plug_as (changing w addr count true) w count status g)
 
 -- R10.9; R2.7: the 12 of an unplug larger than the plugged size comes last
-unfoldable pub unplug_as : Change → World → (count status : ℕ) → Guest → Outcome
-unplug_as (Legal first offset host) w count status g =
-    cond (ltb (plugged w) (bytes_of (block_size w) count)) (refused 12 w g.mem)
-    (asks_discard w first count offset.0 host.0 status g)
-unplug_as (Outside part) w count status g = served (error (part_why part)) status w g
-unplug_as WrongState w count status g = served (error wrong_state) status w g
-unplug_as (NoHost host) w count status g = served (error (host_why host)) status w g
+unfoldable pub unplug_as : Result Change Reason → World → (count status : ℕ) → Guest → Outcome
+unplug_as (Ok change) w count status g =
+    cond (ltb (plugged w) (bytes_of (block_size w) count)) (refused NoShape w g.mem)
+    (asks_discard w change.first count change.offset.0 change.host.0 status g)
+unplug_as (Err why) w count status g = served (error why) status w g
 
 abbrev pub unplug : World → (addr count status : ℕ) → Guest → Outcome
 unplug w addr count status g = unplug_as (changing w addr count false) w count status g
 
 -- R10.11, R10.13: each as an unplug of one block
-unfoldable pub one_as : Change → World → (block status : ℕ) → Guest → Outcome
-one_as (Legal first offset host) w block status g = asks_one w block offset.0 host.0 status g
-one_as (Outside part) w block status g = stops (part_why part) w status g
-one_as WrongState w block status g = stops wrong_state w status g
-one_as (NoHost host) w block status g = stops (host_why host) w status g
+unfoldable pub one_as : Result Change Reason → World → (block status : ℕ) → Guest → Outcome
+one_as (Ok change) w block status g = asks_one w block change.offset.0 change.host.0 status g
+one_as (Err why) w block status g = stops why w status g
 
 abbrev pub unplug_one : World → (block status : ℕ) → Guest → Outcome
 unplug_one w block status g = one_as (changing w (start w + bytes_of (block_size w) block) 1 false) w block status g
@@ -302,15 +300,15 @@ abbrev pub unplug_all : World → (from status : ℕ) → Guest → Outcome
 unplug_all w from status g = next_as (next_set w.blocks from (region_blocks w)) w status g
 
 -- R10.15
-unfoldable pub state_type : Range → ℕ
-state_type (Inside offset) = 0
-state_type (NotInside part) = 3
+unfoldable pub state_type : Result RegionOffset Reason → ℕ
+state_type (Ok offset) = 0
+state_type (Err why) = 3
 
 -- R10.15, R10.16: the state is worked out in either case
 abbrev pub state_verdict : World → (addr count : ℕ) → Verdict
 state_verdict w addr count =
     let range = range_of (block_size w) (start w) (usable w) addr count in
-    verdict (state_type range) (state_of (block_size w) (start w) (region w) addr count w.blocks) (range_why range)
+    verdict (state_type range) (state_of (block_size w) (start w) (region w) addr count w.blocks) (result_err range)
 
 -- R7.4; R9.8: type 4 or more
 unfoldable pub serve : World → VirtioMemReq → (status : ℕ) → Guest → Outcome
@@ -319,12 +317,12 @@ serve w req status g =
     (cond (eqb req.req_type 1) (unplug w req.addr.0 req.nb_blocks status g)
     (cond (eqb req.req_type 2) (unplug_all w 0 status g)
     (cond (eqb req.req_type 3) (served (state_verdict w req.addr.0 req.nb_blocks) status w g)
-    (unserved 0 w g))))
+    (unserved UnknownType w g))))
 
 -- R9.9: the request and the status address, read once
-unfoldable pub request : Parsed → World → Guest → Outcome
-request (Bad reason) w g = unserved reason w g
-request (Got req status) w g = serve w req status.0 g
+unfoldable pub request : Result Asked NoRequest → World → Guest → Outcome
+request (Err reason) w g = unserved reason w g
+request (Ok asked) w g = serve w asked.request asked.status.0 g
 
 -- ---- placing, the size change, and the host's answer
 -- a creation is asked for where the growth of the usable size needs one
@@ -347,7 +345,7 @@ place w at size slots bs rows =
 -- R6.3; R1.1
 unfoldable pub set_requested_size : World → (mib : ℕ) → Outcome
 set_requested_size w mib =
-    cond (not (size_ok (block_size w) (mib * MiB) (region w))) (refused 1 w [])
+    cond (not (size_ok (block_size w) (mib * MiB) (region w))) (refused WrongSize w [])
     (resized (device_of (requested_to (mib * MiB) w.device) w))
 
 -- R1.9: what a creation covers
@@ -356,26 +354,26 @@ covered_by w i last = cond (several w) ((last + 1 - i) * map_region) (region w)
 
 -- R2.5, R11.3, R11.4: by what is pending; a creation then gives 9 or 10, and a discard ends its request or goes on
 unfoldable pub host_answer : Pending → World → Guest → (ok : Bool) (host : ℕ) → Outcome
-host_answer Nothing w g ok host = refused 8 w g.mem
+host_answer Nothing w g ok host = refused NothingPending w g.mem
 host_answer (Create i last) w g ok host =
     cond ok
-    (cond (ltb top (host + covered_by w i last)) (refused 9 w g.mem) (creates w i last host g.mem))
+    (cond (ltb top (host + covered_by w i last)) (refused HostPastTop w g.mem) (creates w i last host g.mem))
     (create_fails w g.mem)
 host_answer (Discard first count status) w g ok host =
-    cond ok (unplugs w first count status.0 g) (stops failed_discard w status.0 g)
+    cond ok (unplugs w first count status.0 g) (stops FailedDiscard w status.0 g)
 host_answer (DiscardOne block status) w g ok host =
-    cond ok (unplug_all (cleared w block) (block + 1) status.0 g) (stops failed_discard w status.0 g)
+    cond ok (unplug_all (cleared w block) (block + 1) status.0 g) (stops FailedDiscard w status.0 g)
 
 -- ---- the config
 -- R7.6, R7.7; R2.6: 12 only
 unfoldable pub read_config : World → (offset : ℕ) → List ℕ → Outcome
 read_config w offset buffer =
-    cond (not (shaped_of w.device)) (refused 12 w buffer)
+    cond (not (shaped_of w.device)) (refused NoShape w buffer)
     (record { world = w; answer = Done; bytes = put buffer 0 (drop offset (config_bytes w.device.config)) })
 
 unfoldable pub write_config : World → List ℕ → Outcome
 write_config w buffer =
-    cond (not (shaped_of w.device)) (refused 12 w buffer) (record { world = w; answer = Done; bytes = buffer })
+    cond (not (shaped_of w.device)) (refused NoShape w buffer) (record { world = w; answer = Done; bytes = buffer })
 
 -- ---- every call
 unfoldable pub step : World → Call → Outcome

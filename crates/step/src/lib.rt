@@ -6,21 +6,72 @@
 ghost use Rattle.std.specs.Prelude.{◌≡◌, cond, ◌+◌, ◌*◌, ◌/◌, []};
 ghost use Rattle.units.specs.Numbers.{blocks_in};
 ghost use Rattle.rows.specs.Rows.{rows_in};
-ghost use Rattle.step.specs.Step.{tables_fit, ready_refusal, unplaced_refusal, pending_refusal, sized_of, served};
+ghost use Rattle.step.specs.Step.{tables_fit, ready_refusal, unplaced_refusal, pending_refusal, sized_of};
+ghost use Rattle.step.specs.Step.{served, ack, nack, error};
 ghost use Rattle.step.specs.Promise.{lent, Does};
 
-use chain::deliver;
+use chain::{NoRequest, deliver};
+use change::Reason;
 use record::{Device, HostCall, is_idle, shaped};
+use refusal::Refusal;
 use resize::{grown_size, new_size};
 use rows::ROW_WORDS;
 use units::{GuestAddr, MemTool, map_regions};
 use wire::VirtioMemResp;
 
-// What a request comes to: its response and, where that is ERROR, the reason (R10.17), else 0.
+// The types of a response (R7.4).
+const ACK: u16 = 0;
+
+const NACK: u16 = 1;
+
+const ERROR: u16 = 3;
+
+// What a request comes to: its response and, where that is ERROR, the reason (R10.17).
 #[derive(Clone, Copy)]
 pub struct Verdict {
     pub response: VirtioMemResp,
-    pub why: u64,
+    pub why: Option<Reason>,
+}
+
+impl Verdict {
+    // ACK, with state 0 (R10.2).
+    pub fn ack() -> Verdict
+        ensures { result ≡ ack }
+    {
+        Verdict {
+            response: VirtioMemResp {
+                resp_type: ACK,
+                state: 0,
+            },
+            why: None,
+        }
+    }
+
+    // NACK, with state 0.
+    pub fn nack() -> Verdict
+        ensures { result ≡ nack }
+    {
+        Verdict {
+            response: VirtioMemResp {
+                resp_type: NACK,
+                state: 0,
+            },
+            why: None,
+        }
+    }
+
+    // ERROR, with state 0 and its reason.
+    pub fn error(why: Reason) -> Verdict
+        ensures { result ≡ error why }
+    {
+        Verdict {
+            response: VirtioMemResp {
+                resp_type: ERROR,
+                state: 0,
+            },
+            why: Some(why),
+        }
+    }
 }
 
 // The end of a request: its response, also where it could not be delivered, the used length, and why it is an ERROR.
@@ -28,20 +79,20 @@ pub struct Verdict {
 pub struct Reply {
     pub response: VirtioMemResp,
     pub used: u32,
-    pub why: u64,
+    pub why: Option<Reason>,
 }
 
 // The answer of a call.
 #[derive(Clone, Copy)]
 pub enum Answer {
-    // Refused with a number (R1); 10, creation failed, too.
-    Refused(u64),
+    // Refused (R1); 10, creation failed, too.
+    Refused(Refusal),
     // The host is asked, and the call goes on with its answer.
     Wants(HostCall),
     // Done: the usable size is worked out.
     Sized,
-    // A chain that is no request, used with length 0: its reason, 21 to 27, or 0 for an unknown type.
-    Unserved(u64),
+    // A chain that is no request, or one of an unknown type, used with length 0.
+    Unserved(NoRequest),
     // A request that has ended.
     Served(Reply),
     // A config read or write.
@@ -77,61 +128,61 @@ pub fn tables_fit(d: Device, bytes: usize, words: usize) -> bool
     (needed <= bytes as u64) & (rows * ROW_WORDS <= words as u64)
 }
 
-// Why a request or a size change is refused, or 0.
-pub fn ready_refusal(d: Device, bytes: usize, words: usize) -> u64
+// Whether a request or a size change is admitted: 12, 7, 5, 11 (R2.3, R2.4).
+pub fn ready_refusal(d: Device, bytes: usize, words: usize) -> Result<(), Refusal>
     ensures { result ≡ ready_refusal d (8 * bytes) (rows_in words) }
 {
     if !shaped(d) {
-        return 12;
+        return Err(Refusal::NoShape);
     }
     let pending = d.pending;
     if !is_idle(pending) {
-        return 7;
+        return Err(Refusal::CallPending);
     }
     if !d.placed {
-        return 5;
+        return Err(Refusal::NotPlaced);
     }
     if !tables_fit(d, bytes, words) {
-        return 11;
+        return Err(Refusal::TooShort);
     }
-    0
+    Ok(())
 }
 
-// Why placing is refused before its own tests, or 0.
-pub fn unplaced_refusal(d: Device, bytes: usize, words: usize) -> u64
+// Whether placing is admitted to its own tests: 12, 7, 6, 11 (R2.2).
+pub fn unplaced_refusal(d: Device, bytes: usize, words: usize) -> Result<(), Refusal>
     ensures { result ≡ unplaced_refusal d (8 * bytes) (rows_in words) }
 {
     if !shaped(d) {
-        return 12;
+        return Err(Refusal::NoShape);
     }
     let pending = d.pending;
     if !is_idle(pending) {
-        return 7;
+        return Err(Refusal::CallPending);
     }
     if d.placed {
-        return 6;
+        return Err(Refusal::AlreadyPlaced);
     }
     if !tables_fit(d, bytes, words) {
-        return 11;
+        return Err(Refusal::TooShort);
     }
-    0
+    Ok(())
 }
 
-// Why a host answer is refused before it is looked at, or 0.
-pub fn pending_refusal(d: Device, bytes: usize, words: usize) -> u64
+// Whether a host answer is looked at: 12, 8, 11 (R2.5).
+pub fn pending_refusal(d: Device, bytes: usize, words: usize) -> Result<(), Refusal>
     ensures { result ≡ pending_refusal d (8 * bytes) (rows_in words) }
 {
     if !shaped(d) {
-        return 12;
+        return Err(Refusal::NoShape);
     }
     let pending = d.pending;
     if is_idle(pending) {
-        return 8;
+        return Err(Refusal::NothingPending);
     }
     if !tables_fit(d, bytes, words) {
-        return 11;
+        return Err(Refusal::TooShort);
     }
-    0
+    Ok(())
 }
 
 // The record with its usable size worked out, and placed.
@@ -182,11 +233,11 @@ pub fn respond(
 }
 
 // A call that is refused changes nothing.
-pub fn refuse(d: Device, number: u64) -> Answered
-    ensures { result ≡ record { device = d; answer = Answer.Refused number } }
+pub fn refuse(d: Device, refusal: Refusal) -> Answered
+    ensures { result ≡ record { device = d; answer = Answer.Refused refusal } }
 {
     Answered {
         device: d,
-        answer: Answer::Refused(number),
+        answer: Answer::Refused(refusal),
     }
 }
