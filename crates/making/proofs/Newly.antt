@@ -1,6 +1,6 @@
 -- SPDX-License-Identifier: Apache-2.0 AND BSD-3-Clause
 -- What holds of a device that was just made: here every history begins.
-use Rattle.std.specs.Prelude.{Option}
+use Rattle.std.specs.Prelude.{Option, Ok, Err}
 use Prim.Native.Nat.{ℕ, ◌+◌, ◌-◌, ◌*◌, ◌%◌, ◌^◌, ◌≤◌, ◌<◌}
 use mathlib.Core.Path.{◌≡◌, refl}
 use mathlib.Core.Bool.{Bool, true, false, not, ◌&&◌}
@@ -14,7 +14,8 @@ use Rattle.record.specs.declared.Device.{Device}
 use Rattle.record.specs.declared.Pending.TheVariants.{Nothing}
 use Rattle.record.specs.Shape.{alignment_ok, region_ok, size_ok, span_of, start_ok, several_ok, pending_ok, shaped_of}
 use Rattle.record.proofs.Laws.{by_alignment, spans, size_ok_lem, whole}
-use Rattle.making.specs.declared.Made.TheVariants.{Device as MadeDevice, Refused}
+use Rattle.refusal.specs.declared.Refusal.{Refusal}
+use Rattle.refusal.specs.declared.Refusal.TheVariants.{WrongSize, CapacityTooLarge}
 use Rattle.making.specs.Made.{new_device, made}
 use Rattle.making.proofs.Asked.{Asked, asked_is}
 
@@ -108,21 +109,21 @@ new_is capacity l h requested a e q several node =
       unplugged = refl;
     }
 
-pub made_new : (capacity requested : ℕ) (several : Bool) (node : Option ℕ) (boot : ℕ) (d : Device) → made capacity requested several node boot ≡ MadeDevice d → New d
+pub made_new : (capacity requested : ℕ) (several : Bool) (node : Option ℕ) (boot : ℕ) (d : Device) → made capacity requested several node boot ≡ Ok d → New d
 unfolding made
 made_new capacity requested several node boot d e =
     let a = alignment_of boot in
     let region = capacity_of capacity a in
-    by_test (ltb 1048576 capacity) (λ t. never 2 (rw t at e))
-    (λ t. by_test (eqb capacity 0) (λ u. never 1 (rw (t, u) at e))
-    (λ u. by_test (not (size_ok 4194304 (requested * 1048576) region)) (λ v. never 1 (simp (t, u, v) at e))
+    by_test (ltb 1048576 capacity) (λ t. never CapacityTooLarge (rw t at e))
+    (λ t. by_test (eqb capacity 0) (λ u. never WrongSize (rw (t, u) at e))
+    (λ u. by_test (not (size_ok 4194304 (requested * 1048576) region)) (λ v. never WrongSize (simp (t, u, v) at e))
     (λ v.
-    let f : MadeDevice (new_device region (requested * 1048576) a several node) ≡ MadeDevice d = simp (t, u, v) at e in
+    let f : Ok (new_device region (requested * 1048576) a several node) ≡ Ok d = simp (t, u, v) at e in
     let same : new_device region (requested * 1048576) a several node ≡ d = cc in
     rw same at (new_is capacity (positive (eqb-false capacity 0 u)) (ltb-false 1048576 capacity t) (requested * 1048576) a (alignment_ok_lem boot) (asked_is 4194304 (requested * 1048576) region _ refl v) several node))))
   where
-    never : (n : ℕ) → Refused n ≡ MadeDevice d → New d
-    never n q = let z : ◌≡◌ {A = ℕ} 0 1 = cc in absurd (omega arith)
+    never : (r : Refusal) → Err r ≡ Ok d → New d
+    never r q = let z : ◌≡◌ {A = ℕ} 0 1 = cc in absurd (omega arith)
 
     positive : (capacity ≡ 0 → ⊥) → 0 < capacity
     positive h = omega arith

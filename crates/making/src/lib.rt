@@ -5,40 +5,15 @@
 ghost use Rattle.std.specs.Prelude.{◌≡◌, not, ◌*◌, ◌≤◌};
 ghost use Rattle.units.specs.Numbers.{capacity_of, MiB, GiB};
 ghost use Rattle.record.specs.Shape.{size_ok};
-ghost use Rattle.making.specs.Made.{node_number, is_given, new_device, made, MadeAs};
+ghost use Rattle.making.specs.Made.{new_device, made, MadeAs};
 
 use record::{Device, Pending, features};
+use refusal::Refusal;
 use units::{MemTool, alignment_of, is_multiple, next_multiple_of, product_within};
 use wire::VirtioMemConfig;
 
 // The largest capacity: 1 TiB.
 const MAX_CAPACITY_MIB: u64 = 1048576;
-
-// A device that was made, or the number of the refusal.
-#[derive(Clone, Copy)]
-pub enum Made {
-    Device(Device),
-    Refused(u64),
-}
-
-// The node's number, 0 if none is given.
-fn node_number(node: Option<u16>) -> u16
-    ensures { result ≡ node_number node }
-{
-    match node {
-        None => 0,
-        Some(n) => n,
-    }
-}
-
-fn is_given(node: Option<u16>) -> bool
-    ensures { result ≡ is_given node }
-{
-    match node {
-        None => false,
-        Some(_) => true,
-    }
-}
 
 // The region of a capacity.
 fn region_of(capacity_mib: u64, alignment: u64) -> u64
@@ -58,17 +33,17 @@ pub fn requested_refused(mib: u64, region: u64, block_size: u64) -> bool
     !is_multiple(mib * MemTool::MIB, block_size)
 }
 
-// The record of a new device.
+// The record of a new device. Without a node its number is 0 (R4.6).
 fn new_device(region: u64, requested: u64, alignment: u64, several: bool, node: Option<u16>) -> Device
     ensures { result ≡ new_device region requested alignment several node }
 {
-    let config = VirtioMemConfig::new(MemTool::BLOCK_SIZE, node_number(node), region, requested);
+    let config = VirtioMemConfig::new(MemTool::BLOCK_SIZE, node.unwrap_or(0), region, requested);
     let pending = Pending::Nothing;
     Device {
         config: config,
         alignment: alignment,
         several: several & (MemTool::MAP_REGION_SIZE < region),
-        avail_features: features(is_given(node)),
+        avail_features: features(node.is_some()),
         placed: false,
         pending: pending,
     }
@@ -79,29 +54,23 @@ fn new_device(region: u64, requested: u64, alignment: u64, several: bool, node: 
 pub struct Mem {}
 
 impl Mem {
-    // Makes a device from sizes in MiB, whose bytes may pass 2^64 - 1.
-    pub fn new(capacity_mib: u64, requested_mib: u64, several: bool, node: Option<u16>, boot: u64) -> Made
+    // Makes a device from sizes in MiB, whose bytes may pass 2^64 - 1. 2, 1 (R2.1).
+    pub fn new(capacity_mib: u64, requested_mib: u64, several: bool, node: Option<u16>, boot: u64) -> Result<Device, Refusal>
         ensures { MadeAs (made capacity_mib requested_mib several node boot) result }
     {
         let too_large = MAX_CAPACITY_MIB < capacity_mib;
         if too_large {
-            return Made::Refused(2);
+            return Err(Refusal::CapacityTooLarge);
         }
         if capacity_mib == 0 {
-            return Made::Refused(1);
+            return Err(Refusal::WrongSize);
         }
         let alignment = alignment_of(boot);
         let region = region_of(capacity_mib, alignment);
         if requested_refused(requested_mib, region, MemTool::BLOCK_SIZE) {
-            return Made::Refused(1);
+            return Err(Refusal::WrongSize);
         }
-        let device = new_device(
-            region,
-            requested_mib * MemTool::MIB,
-            alignment,
-            several,
-            node,
-        );
-        Made::Device(device)
+        let requested = requested_mib * MemTool::MIB;
+        Ok(new_device(region, requested, alignment, several, node))
     }
 }

@@ -3,4 +3,4 @@
 use Rattle.making.proofs.new_device.Goals as goal
 
 pub returns : goal.returns
-returns c = simp (c.features.ensures, c.is_given.ensures, c.new-config.ensures, c.node_number.ensures)
+returns c = simp (c.features.ensures, c.is_some.ensures, c.new-config.ensures, c.unwrap_or.ensures)

@@ -1,18 +1,20 @@
 -- SPDX-License-Identifier: Apache-2.0 AND BSD-3-Clause
 -- `making::Mem::new` meets its contract: 2 before 1, and only then a record.
+use Rattle.std.specs.Prelude.{Result}
 use Prim.Native.Nat.{◌*◌}
 use mathlib.Core.Path.{◌≡◌, ap}
 use native.Mathlib.Omega.{arith}
 use borrow.Author.Tests.{lt-ltb, le-ltb, eq-eqb, ne_eqb}
 use Rattle.record.proofs.Laws.{aligned}
-use Rattle.making.specs.declared.Made.{Made}
+use Rattle.record.specs.declared.Device.{Device}
+use Rattle.refusal.specs.declared.Refusal.{Refusal}
 use Rattle.making.specs.Made.{made, made_number, MadeAs}
 use Rattle.making.proofs.Asked.{asked_is}
 use Rattle.making.proofs.Newly.{alignment_ok_lem}
 use Rattle.making.proofs.Mem.new.Goals as goal
 
 -- the number goes with the device or the refusal
-as_made : {m r : Made} → r ≡ m → MadeAs m r
+as_made : {m r : Result Device Refusal} → r ≡ m → MadeAs m r
 as_made e = record { same = e; numbered = ap made_number e }
 
 pub returns-then-too_large : goal.returns-then-too_large
@@ -35,8 +37,8 @@ returns-then-requested_refused c =
     (simp
     (le-ltb 1048576 c.args.capacity_mib (omega arith), ne_eqb _ 0 c.if-capacity_mib-eq0.false, ← c.alignment_of-alignment.ensures, ← c.region_of-region.ensures, ← c.requested_refused.ensures, c.if-requested_refused.true))
 
-pub overflow_mul-requested_mib : goal.overflow_mul-requested_mib
-overflow_mul-requested_mib c =
+pub overflow_mul-requested : goal.overflow_mul-requested
+overflow_mul-requested c =
     omega (arith, (asked_is 4194304 (c.args.requested_mib * 1048576) _ _ c.requested_refused.ensures c.if-requested_refused.false).within)
 
 pub returns : goal.returns
@@ -44,4 +46,4 @@ unfolding made
 returns c =
     as_made
     (simp
-    (le-ltb 1048576 c.args.capacity_mib (omega arith), ne_eqb _ 0 c.if-capacity_mib-eq0.false, ← c.alignment_of-alignment.ensures, ← c.region_of-region.ensures, ← c.requested_refused.ensures, c.if-requested_refused.false, c.new_device-device.ensures))
+    (le-ltb 1048576 c.args.capacity_mib (omega arith), ne_eqb _ 0 c.if-capacity_mib-eq0.false, ← c.alignment_of-alignment.ensures, ← c.region_of-region.ensures, ← c.requested_refused.ensures, c.if-requested_refused.false, c.new_device.ensures))
