@@ -9,33 +9,24 @@ ghost use Rattle.record.specs.Shape.{shaped_of};
 ghost use Rattle.record.specs.Changes.{pending_to, plugged_to};
 ghost use Rattle.step.specs.declared.Answer.TheVariants.{Wants};
 ghost use Rattle.step.specs.World.{no_guest, world_of};
-ghost use Rattle.step.specs.Step.{served, plug as plug_of, unplug as unplug_of, unplug_one, unplug_all};
-ghost use Rattle.step.specs.Step.{serve as serve_of, stops, state_type, state_verdict, creates, covered_by};
-ghost use Rattle.step.specs.Step.{host_answer, verdict as verdict_of};
+ghost use Rattle.step.specs.Step.{plug as plug_of, unplug as unplug_of, unplug_one, unplug_all, serve as serve_of};
+ghost use Rattle.step.specs.Step.{stops, state_verdict, creates, covered_by, host_answer};
 ghost use Rattle.step.specs.Promise.{lent, Gives, Steps, Does, request_on, answer_on};
 ghost use Rattle.units.specs.Numbers.{blocks_in};
 ghost use Rattle.bitmap.specs.Blocks.{blocks, block_at};
 
 use bitmap::{next_set, set_range};
-use chain::{Parsed, parse};
-use change::{Change, HostRange, Range, change_of, host_of, range_of, state_of};
+use chain::{Asked, NoRequest, parse};
+use change::{Reason, change_of, host_of, range_of, state_of};
 use record::{Device, HostCall, Pending};
+use refusal::Refusal;
 use rows::fill;
 use step::{Answer, Answered, Verdict, pending_refusal, ready_refusal, refuse, respond, sized};
 use units::{GuestAddr, HostAddr, MemTool, RegionOffset, saturating_sub, sum_within};
-use wire::{VirtioMemConfig, VirtioMemReq, VirtioMemResp};
+use wire::{RequestType, VirtioMemConfig};
 
-// The types of a response.
-const ACK: u16 = 0;
-
-const NACK: u16 = 1;
-
-const ERROR: u16 = 3;
-
-// Why a response is an ERROR (R10.17), where it is decided here and not by the tests of `change`.
-const PAST_USABLE: u64 = 5;
-
-const FAILED_DISCARD: u64 = 11;
+// Why a response is an ERROR where the host could not discard (R10.17).
+const FAILED_DISCARD: Reason = Reason::FailedDiscard;
 
 // The record with another plugged size.
 fn plugged_to(d: Device, plugged: u64) -> Device
@@ -61,44 +52,14 @@ fn pending_to(d: Device, pending: Pending) -> Device
     }
 }
 
-// Ends a request with a response whose state is 0.
-fn ended(
-    d: Device,
-    mem: &mut [u8],
-    base: GuestAddr,
-    status: GuestAddr,
-    resp_type: u16,
-    why: u64,
-) -> Answered
-    ensures { Does (served (verdict_of resp_type 0 why) status.0) d base
-        (lent [] [] mem.old)
-        (lent [] [] mem.new) result }
-{
-    let response = VirtioMemResp {
-        resp_type: resp_type,
-        state: 0,
-    };
-    let verdict = Verdict {
-        response: response,
-        why: why,
-    };
-    respond(d, mem, base, status, verdict)
-}
-
 // Ends an unplug or an unplug-all with ERROR: nothing has changed but that nothing is pending.
-fn stopped(d: Device, mem: &mut [u8], base: GuestAddr, status: GuestAddr, why: u64) -> Answered
+fn stopped(d: Device, mem: &mut [u8], base: GuestAddr, status: GuestAddr, why: Reason) -> Answered
     ensures { Does (λ w. stops why w status.0) d base
         (lent [] [] mem.old)
         (lent [] [] mem.new) result }
 {
-    ended(
-        pending_to(d, Pending::Nothing),
-        mem,
-        base,
-        status,
-        ERROR,
-        why,
-    )
+    let stopped = pending_to(d, Pending::Nothing);
+    respond(stopped, mem, base, status, Verdict::error(why))
 }
 
 // A plug: NACK before every test of the range.
@@ -108,24 +69,25 @@ fn plug(
     table: &[u64],
     mem: &mut [u8],
     base: GuestAddr,
-    addr: GuestAddr,
-    nb_blocks: u16,
-    status: GuestAddr,
+    asks: Asked,
 ) -> Answered
     requires { shaped_of d ≡ true }
-    ensures { Does (λ w. plug_of w addr.0 nb_blocks status.0) d base
+    ensures { Does (λ w. plug_of w asks.request.addr.0 asks.request.nb_blocks asks.status.0) d base
         (lent bitmap.old table.now mem.old)
         (lent bitmap.new table.now mem.new) result }
 {
+    let addr = asks.request.addr;
+    let nb_blocks = asks.request.nb_blocks;
+    let status = asks.status;
     let plugged = d.config.plugged_size;
     let block_size = d.config.block_size as u32;
     let size = MemTool::bytes_of(nb_blocks, block_size);
     if !sum_within(plugged, size, d.config.requested_size) {
-        return ended(d, mem, base, status, NACK, 0);
+        return respond(d, mem, base, status, Verdict::nack());
     }
     let start = d.config.addr;
     let usable = d.config.usable_region_size;
-    let change = change_of(
+    let tested = change_of(
         start,
         usable,
         block_size,
@@ -136,11 +98,13 @@ fn plug(
         &bitmap[..],
         table,
     );
-    let Change::Legal(first, _, _) = change else {
-        return ended(d, mem, base, status, ERROR, change.why());
+    let change = match tested {
+        Ok(change) => change,
+        Err(why) => return respond(d, mem, base, status, Verdict::error(why)),
     };
-    set_range(bitmap, first as usize, nb_blocks as usize, true);
-    ended(plugged_to(d, plugged + size), mem, base, status, ACK, 0)
+    set_range(bitmap, change.first as usize, nb_blocks as usize, true);
+    let grown = plugged_to(d, plugged + size);
+    respond(grown, mem, base, status, Verdict::ack())
 }
 
 // Asks the host for a discard: the answer ends what is pending then.
@@ -166,34 +130,36 @@ fn unplug(
     table: &[u64],
     mem: &mut [u8],
     base: GuestAddr,
-    addr: GuestAddr,
-    nb_blocks: u16,
-    status: GuestAddr,
+    asks: Asked,
 ) -> Answered
     requires { shaped_of d ≡ true }
-    ensures { Does (λ w. unplug_of w addr.0 nb_blocks status.0) d base
+    ensures { Does (λ w. unplug_of w asks.request.addr.0 asks.request.nb_blocks asks.status.0) d base
         (lent bitmap.now table.now mem.old)
         (lent bitmap.now table.now mem.new) result }
 {
+    let addr = asks.request.addr;
+    let nb_blocks = asks.request.nb_blocks;
+    let status = asks.status;
     let start = d.config.addr;
     let usable = d.config.usable_region_size;
     let block_size = d.config.block_size as u32;
-    let change = change_of(
+    let tested = change_of(
         start, usable, block_size, d.several, addr, nb_blocks, false, bitmap, table,
     );
-    let Change::Legal(first, offset, host) = change else {
-        return ended(d, mem, base, status, ERROR, change.why());
+    let change = match tested {
+        Ok(change) => change,
+        Err(why) => return respond(d, mem, base, status, Verdict::error(why)),
     };
     let size = MemTool::bytes_of(nb_blocks, block_size);
     if d.config.plugged_size < size {
-        return refuse(d, 12);
+        return refuse(d, Refusal::NoShape);
     }
     let pending = Pending::Discard {
-        first: first,
+        first: change.first,
         count: nb_blocks as u64,
         status: status,
     };
-    asked(d, pending, offset, size, host)
+    asked(d, pending, change.offset, size, change.host)
 }
 
 // One plugged block of an unplug-all, which asks without a look at the plugged size. It is whole and in the region, so
@@ -216,11 +182,11 @@ fn unplug_one(
     let block_size = d.config.block_size;
     let offset = RegionOffset(block * block_size);
     if d.config.usable_region_size <= offset.0 {
-        return stopped(d, mem, base, status, PAST_USABLE);
+        return stopped(d, mem, base, status, Reason::PastUsable);
     }
-    let found = host_of(d.several, table, offset, block_size);
-    let HostRange::At(host) = found else {
-        return stopped(d, mem, base, status, found.why());
+    let host = match host_of(d.several, table, offset, block_size) {
+        Ok(host) => host,
+        Err(why) => return stopped(d, mem, base, status, why),
     };
     let pending = Pending::DiscardOne {
         block: block,
@@ -247,19 +213,9 @@ fn unplug_all(
     let end = MemTool::blocks_in(d.config.region_size, d.config.block_size);
     let Some(block) = next_set(bitmap, from as usize, end as usize) else {
         let none = pending_to(plugged_to(d, 0), Pending::Nothing);
-        return ended(none, mem, base, status, ACK, 0);
+        return respond(none, mem, base, status, Verdict::ack());
     };
     unplug_one(d, bitmap, table, mem, base, block as u64, status)
-}
-
-// The type of a state request's response.
-fn state_type(range: Range) -> u16
-    ensures { result ≡ state_type range }
-{
-    let Range::Inside(_) = range else {
-        return ERROR;
-    };
-    ACK
 }
 
 // What a state request comes to.
@@ -271,14 +227,10 @@ fn state(d: Device, bitmap: &[u8], addr: GuestAddr, nb_blocks: u16) -> Verdict
     let usable = d.config.usable_region_size;
     let region = d.config.region_size;
     let block_size = d.config.block_size as u32;
-    let range = range_of(start, usable, block_size, addr, nb_blocks);
-    let response = VirtioMemResp {
-        resp_type: state_type(range),
-        state: state_of(start, region, block_size, addr, nb_blocks, bitmap),
-    };
-    Verdict {
-        response: response,
-        why: range.why(),
+    let state = state_of(start, region, block_size, addr, nb_blocks, bitmap);
+    match range_of(start, usable, block_size, addr, nb_blocks) {
+        Ok(_) => Verdict::ack().with_state(state),
+        Err(why) => Verdict::error(why).with_state(state),
     }
 }
 
@@ -289,26 +241,29 @@ fn serve(
     table: &[u64],
     mem: &mut [u8],
     base: GuestAddr,
-    req: VirtioMemReq,
-    status: GuestAddr,
+    asks: Asked,
 ) -> Answered
     requires { shaped_of d ≡ true }
-    ensures { Does (λ w. serve_of w req status.0) d base
+    ensures { Does (λ w. serve_of w asks.request asks.status.0) d base
         (lent bitmap.old table.now mem.old)
         (lent bitmap.new table.now mem.new) result }
 {
-    let addr = req.addr;
-    let nb_blocks = req.nb_blocks;
-    let req_type = req.req_type;
-    match req_type {
-        0 => plug(d, bitmap, table, mem, base, addr, nb_blocks, status),
-        1 => unplug(d, &bitmap[..], table, mem, base, addr, nb_blocks, status),
-        2 => unplug_all(d, &bitmap[..], table, mem, base, 0, status),
-        3 => respond(d, mem, base, status, state(d, &bitmap[..], addr, nb_blocks)),
-        _ => Answered {
+    let req = asks.request;
+    let status = asks.status;
+    let Ok(req_type) = RequestType::try_from(req.req_type) else {
+        return Answered {
             device: d,
-            answer: Answer::Unserved(0),
-        },
+            answer: Answer::Unserved(NoRequest::UnknownType),
+        };
+    };
+    match req_type {
+        RequestType::Plug => plug(d, bitmap, table, mem, base, asks),
+        RequestType::Unplug => unplug(d, &bitmap[..], table, mem, base, asks),
+        RequestType::UnplugAll => unplug_all(d, &bitmap[..], table, mem, base, 0, status),
+        RequestType::State => {
+            let verdict = state(d, &bitmap[..], req.addr, req.nb_blocks);
+            respond(d, mem, base, status, verdict)
+        }
     }
 }
 
@@ -326,18 +281,16 @@ pub fn request(
         (lent bitmap.old table.now mem.old)
         (lent bitmap.new table.now mem.new) result }
 {
-    let number = ready_refusal(d, bitmap.len(), table.len());
-    if number != 0 {
-        return refuse(d, number);
+    if let Err(refusal) = ready_refusal(d, bitmap.len(), table.len()) {
+        return refuse(d, refusal);
     }
-    let parsed = parse(&mem[..], base, descriptors, head);
-    let Parsed::Request(req, status) = parsed else {
-        return Answered {
+    match parse(&mem[..], base, descriptors, head) {
+        Ok(asks) => serve(d, bitmap, table, mem, base, asks),
+        Err(reason) => Answered {
             device: d,
-            answer: Answer::Unserved(parsed.reason()),
-        };
-    };
-    serve(d, bitmap, table, mem, base, req, status)
+            answer: Answer::Unserved(reason),
+        },
+    }
 }
 
 // The host's answer to the discard of an unplug.
@@ -363,7 +316,7 @@ fn unplug_answered(
     let left = d.config.plugged_size - count * d.config.block_size;
     set_range(bitmap, first as usize, count as usize, false);
     let unplugged = pending_to(plugged_to(d, left), Pending::Nothing);
-    ended(unplugged, mem, base, status, ACK, 0)
+    respond(unplugged, mem, base, status, Verdict::ack())
 }
 
 // The host's answer to the discard of one block of an unplug-all: the block is cleared and its size taken off at once,
@@ -432,10 +385,10 @@ fn creation_answered(
         (lent [] table.new []) result }
 {
     if !ok {
-        return refuse(pending_to(d, Pending::Nothing), 10);
+        return refuse(pending_to(d, Pending::Nothing), Refusal::CreationFailed);
     }
     if !sum_within(host.0, covered_by(d, first, last), u64::MAX) {
-        return refuse(d, 9);
+        return refuse(d, Refusal::HostPastTop);
     }
     created(d, table, first, last, host)
 }
@@ -454,13 +407,12 @@ pub fn host_answer(
         (lent bitmap.old table.old mem.old)
         (lent bitmap.new table.new mem.new) result }
 {
-    let number = pending_refusal(d, bitmap.len(), table.len());
-    if number != 0 {
-        return refuse(d, number);
+    if let Err(refusal) = pending_refusal(d, bitmap.len(), table.len()) {
+        return refuse(d, refusal);
     }
     let pending = d.pending;
     match pending {
-        Pending::Nothing => refuse(d, 8),
+        Pending::Nothing => refuse(d, Refusal::NothingPending),
         Pending::Create { first, last } => creation_answered(d, table, first, last, ok, host),
         Pending::Discard {
             first,

@@ -7,7 +7,7 @@ ghost use Rattle.std.specs.Prelude.{◌≡◌, cond, ◌+◌, ◌*◌, ◌/◌, 
 ghost use Rattle.units.specs.Numbers.{blocks_in};
 ghost use Rattle.rows.specs.Rows.{rows_in};
 ghost use Rattle.step.specs.Step.{tables_fit, ready_refusal, unplaced_refusal, pending_refusal, sized_of};
-ghost use Rattle.step.specs.Step.{served, ack, nack, error};
+ghost use Rattle.step.specs.Step.{served, verdict, ack, nack, error};
 ghost use Rattle.step.specs.Promise.{lent, Does};
 
 use chain::{NoRequest, deliver};
@@ -70,6 +70,18 @@ impl Verdict {
                 state: 0,
             },
             why: Some(why),
+        }
+    }
+
+    // The same with a state, as a state request is answered (R10.15).
+    pub fn with_state(self, state: u16) -> Verdict
+        ensures { result ≡ verdict self.response.resp_type state self.why }
+    {
+        let mut response = self.response;
+        response.state = state;
+        Verdict {
+            response: response,
+            why: self.why,
         }
     }
 }

@@ -2,3 +2,4 @@
 -- The definitions of this crate, in the order in which to read them.
 pub mod Layout
 pub mod Standard
+pub mod Types

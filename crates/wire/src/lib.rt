@@ -4,6 +4,7 @@
 
 ghost use Rattle.std.specs.Prelude.{◌≡◌, ◌+◌, ◌%◌, ◌≤◌, ◌<◌, length, drop};
 ghost use Rattle.little_endian.specs.Bytes.{little_endian, put};
+ghost use Rattle.wire.specs.Types.{Types};
 ghost use Rattle.wire.specs.Layout.{request_at, response_bytes, config_fields, config_bytes, new_config};
 
 use little_endian::{copy, from, places, read_u16, read_u64, write_u16, write_u64};
@@ -15,6 +16,35 @@ pub struct VirtioMemReq {
     pub req_type: u16,
     pub addr: GuestAddr,
     pub nb_blocks: u16,
+}
+
+// What a request asks for, by its number (R7.4).
+#[derive(Clone, Copy, Debug, PartialEq, Eq)]
+pub enum RequestType {
+    Plug = 0,
+    Unplug = 1,
+    UnplugAll = 2,
+    State = 3,
+}
+
+// A type that no device knows (R9.8).
+#[derive(Clone, Copy, Debug, PartialEq, Eq)]
+pub struct UnknownType(pub u16);
+
+impl TryFrom<u16> for RequestType {
+    type Error = UnknownType;
+
+    ghost try_from_gives = { Types };
+
+    fn try_from(number: u16) -> Result<RequestType, UnknownType> {
+        match number {
+            0 => Ok(RequestType::Plug),
+            1 => Ok(RequestType::Unplug),
+            2 => Ok(RequestType::UnplugAll),
+            3 => Ok(RequestType::State),
+            _ => Err(UnknownType(number)),
+        }
+    }
 }
 
 // What the guest is answered.
