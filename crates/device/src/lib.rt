@@ -14,10 +14,13 @@
 ghost use Rattle.std.specs.Prelude.{[]};
 ghost use Rattle.step.specs.Promise.{lent, read_on, write_on, Steps};
 
-pub use making::{Made, Mem};
+pub use chain::NoRequest;
+pub use change::Reason;
+pub use making::Mem;
 pub use placing::{place, set_requested_size};
 use record::shaped;
 pub use record::{Device, HostCall};
+pub use refusal::Refusal;
 pub use serving::{host_answer, request};
 use step::refuse;
 pub use step::{Answer, Answered, Reply};
@@ -29,7 +32,7 @@ pub fn read_config(d: Device, offset: u64, data: &mut [u8]) -> Answered
     ensures { Steps d (read_on offset) (lent [] [] «data».old) (lent [] [] «data».new) result }
 {
     if !shaped(d) {
-        return refuse(d, 12);
+        return refuse(d, Refusal::NoShape);
     }
     let config = d.config;
     wire::read_config(config, offset, data);
@@ -44,7 +47,7 @@ pub fn write_config(d: Device, offset: u64, data: &[u8]) -> Answered
     ensures { Steps d (write_on offset) (lent [] [] «data».now) (lent [] [] «data».now) result }
 {
     if !shaped(d) {
-        return refuse(d, 12);
+        return refuse(d, Refusal::NoShape);
     }
     Answered {
         device: d,

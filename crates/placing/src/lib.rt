@@ -12,7 +12,8 @@ ghost use Rattle.step.specs.Promise.{lent, place_on, resize_on, Steps};
 use bitmap::set_range;
 use making::requested_refused;
 use record::{Device, HostCall, Pending, start_ok};
-use resize::{Growth, growth_of, new_size};
+use refusal::Refusal;
+use resize::{growth_of, new_size};
 use rows::{lay, slot_of};
 use step::{Answer, Answered, ready_refusal, refuse, sized, unplaced_refusal};
 use units::{GuestAddr, MemTool, RegionOffset, map_regions};
@@ -57,13 +58,13 @@ fn resize(d: Device, table: &[u64]) -> Answered
         config.block_size,
     );
     let growth = growth_of(region, d.several, config.usable_region_size, new, table);
-    let Growth::Asks(first, last, size) = growth else {
+    let Some(creation) = growth else {
         return Answered {
             device: sized(d),
             answer: Answer::Sized,
         };
     };
-    ask_creation(d, table, first, last, size)
+    ask_creation(d, table, creation.first, creation.last, creation.size)
 }
 
 // Changes the requested size, and the usable size with it.
@@ -72,12 +73,11 @@ pub fn set_requested_size(d: Device, bitmap: &[u8], table: &[u64], requested_mib
         (lent bitmap.now table.now [])
         (lent bitmap.now table.now []) result }
 {
-    let number = ready_refusal(d, bitmap.len(), table.len());
-    if number != 0 {
-        return refuse(d, number);
+    if let Err(refusal) = ready_refusal(d, bitmap.len(), table.len()) {
+        return refuse(d, refusal);
     }
     if requested_refused(requested_mib, d.config.region_size, d.config.block_size) {
-        return refuse(d, 1);
+        return refuse(d, Refusal::WrongSize);
     }
     let requested = requested_mib * MemTool::MIB;
     let mut asked = d;
@@ -85,21 +85,21 @@ pub fn set_requested_size(d: Device, bitmap: &[u8], table: &[u64], requested_mib
     resize(asked, table)
 }
 
-// Why placing is refused by its own tests: 3, 4, or 0.
+// Whether placing passes its own tests: 3, 4.
 #[tactic(auto, unfolding(step::specs::Step::range_refusal))]
-fn range_refusal(d: Device, start: GuestAddr, size: u64, slots: u64) -> u64
+fn range_refusal(d: Device, start: GuestAddr, size: u64, slots: u64) -> Result<(), Refusal>
     ensures { result ≡ range_refusal d start.0 size slots }
 {
     let region = d.config.region_size;
     let several = d.several;
     let right_range = (slots == map_regions(region, several)) & (size == region);
     if !right_range {
-        return 3;
+        return Err(Refusal::WrongRange);
     }
     if start_ok(start, region, several, d.alignment) {
-        0
+        Ok(())
     } else {
-        4
+        Err(Refusal::WrongStart)
     }
 }
 
@@ -127,13 +127,11 @@ pub fn place(
         (lent bitmap.old table.old [])
         (lent bitmap.new table.new []) result }
 {
-    let number = unplaced_refusal(d, bitmap.len(), table.len());
-    if number != 0 {
-        return refuse(d, number);
+    if let Err(refusal) = unplaced_refusal(d, bitmap.len(), table.len()) {
+        return refuse(d, refusal);
     }
-    let refused = range_refusal(d, start, size, slots.len() as u64);
-    if refused != 0 {
-        return refuse(d, refused);
+    if let Err(refusal) = range_refusal(d, start, size, slots.len() as u64) {
+        return refuse(d, refusal);
     }
     let blocks = MemTool::blocks_in(d.config.region_size, d.config.block_size);
     set_range(bitmap, 0, blocks as usize, false);

@@ -14,6 +14,7 @@ use Rattle.rows.specs.Rows.{written}
 use Rattle.record.specs.declared.Device.{Device}
 use Rattle.record.specs.declared.Pending.TheVariants.{Nothing, Create}
 use Rattle.record.specs.Changes.{pending_to}
+use Rattle.refusal.specs.declared.Refusal.TheVariants.{HostPastTop, CreationFailed}
 use Rattle.step.specs.declared.Answer.TheVariants.{Refused}
 use Rattle.step.specs.declared.Answered.{Answered}
 use Rattle.step.specs.Answers.{answer_words}
@@ -23,12 +24,12 @@ use Rattle.step.specs.Promise.{lent, Gives}
 use Rattle.step.proofs.Giving.{answers}
 
 module _ (d : Device) (tb : List ℕ) (ok : Bool) (host i last : ℕ) (s : Answered) where
-  pub failed : (d' : Device) → d' ≡ pending_to Nothing d → ok ≡ false → s ≡ record { device = d'; answer = Refused 10 } → Gives (host_answer (Create i last) (world_of d [] tb) no_guest ok host) (lent [] tb []) (lent [] tb []) s
+  pub failed : (d' : Device) → d' ≡ pending_to Nothing d → ok ≡ false → s ≡ record { device = d'; answer = Refused CreationFailed } → Gives (host_answer (Create i last) (world_of d [] tb) no_guest ok host) (lent [] tb []) (lent [] tb []) s
   unfolding host_answer
   failed d' e t is = rw t (answers _ _ (rw e at is) refl refl)
 
   module _ (t : ok ≡ true) (n : ℕ) (r : Bool) (e : n ≡ covered_by (world_of d [] []) i last) (f : r ≡ leb (host + n) top) where
-    pub past : r ≡ false → s ≡ record { device = d; answer = Refused 9 } → Gives (host_answer (Create i last) (world_of d [] tb) no_guest ok host) (lent [] tb []) (lent [] tb []) s
+    pub past : r ≡ false → s ≡ record { device = d; answer = Refused HostPastTop } → Gives (host_answer (Create i last) (world_of d [] tb) no_guest ok host) (lent [] tb []) (lent [] tb []) s
     unfolding host_answer
     past q is =
         let over : ltb top (host + n) ≡ true = lt-ltb top (host + n) (leb-false (host + n) top (sym f ∙ q)) in

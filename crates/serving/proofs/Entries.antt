@@ -1,11 +1,11 @@
 -- SPDX-License-Identifier: Apache-2.0 AND BSD-3-Clause
 -- What the calls come to: the refusals before them, a request by its chain, and the host's answer to a discard.
+use Rattle.std.specs.Prelude.{Ok, Err, Result, ⊤}
 use Prim.Native.Nat.{ℕ, ◌+◌, ◌-◌, ◌*◌}
 use mathlib.Core.Path.{◌≡◌, refl, ap, ◌∙◌}
 use mathlib.Core.Bool.{Bool, true, false}
 use mathlib.Core.List.{List}
 use lib.ListN.{length}
-use borrow.Author.Tests.{eq-eqb, ne_eqb}
 use Rattle.units.specs.Numbers.{bytes_of}
 use Rattle.bitmap.specs.Blocks.{blocks, Filled}
 use Rattle.bitmap.proofs.Laws.{blocks-length}
@@ -13,10 +13,12 @@ use Rattle.units.specs.declared.GuestAddr.{GuestAddr}
 use Rattle.rows.specs.Rows.{rows_of, rows_in}
 use Rattle.rows.proofs.Words.{count}
 use Rattle.wire.specs.declared.VirtioMemReq.{VirtioMemReq}
-use Rattle.chain.specs.declared.Parsed.{Parsed}
-use Rattle.chain.specs.declared.Parsed.TheVariants.{Request as Got, Bad}
-use Rattle.chain.specs.Chain.{parsed, reason_of}
-use Rattle.change.specs.Why.{failed_discard}
+use Rattle.chain.specs.declared.Asked.{Asked}
+use Rattle.chain.specs.declared.NoRequest.{NoRequest}
+use Rattle.chain.specs.Chain.{parsed}
+use Rattle.change.specs.declared.Reason.TheVariants.{FailedDiscard}
+use Rattle.refusal.specs.declared.Refusal.{Refusal}
+use Rattle.refusal.specs.declared.Refusal.TheVariants.{NothingPending}
 use Rattle.record.specs.declared.Device.{Device}
 use Rattle.record.specs.declared.Pending.{Pending}
 use Rattle.record.specs.declared.Pending.TheVariants.{Nothing, Discard, DiscardOne}
@@ -29,50 +31,41 @@ use Rattle.step.specs.Promise.{lent, Gives}
 use Rattle.step.specs.Step.{unserved, host_answer, serve, request, step, unless, ready_refusal, pending_refusal, ack, error, refused as refused_with, unplug_all}
 use Rattle.step.proofs.Giving.{Responded, serves, relent}
 
--- where `let .. else` found no request
-abbrev NotRequest : Parsed → Type 0
-NotRequest p = (req : VirtioMemReq) (status : GuestAddr) → p ≡ Got req status → ⊥
-
--- a chain that is no request
-bad_is : (p : Parsed) → NotRequest p → (reason : ℕ) → reason ≡ reason_of p → (w : World) (g : Guest) → request p w g ≡ unserved reason w g
-unfolding request
-bad_is (Got req status) k reason e w g = absurd (k req status refl)
-bad_is (Bad n) k reason e w g = rw e
-
-module _ (d : Device) (bitmap table : List ℕ) (number : ℕ) where
-  module _ (number_is : number ≡ ready_refusal d (8 * length bitmap) (rows_in (length table))) where
-    same_ready : ready_refusal d (length (blocks bitmap)) (length (rows_of table)) ≡ number
-    same_ready = rw (blocks-length bitmap, count table, ← number_is)
+module _ (d : Device) (bitmap table : List ℕ) (admitted : Result ⊤ Refusal) where
+  module _ (admitted_is : admitted ≡ ready_refusal d (8 * length bitmap) (rows_in (length table))) where
+    same_ready : ready_refusal d (length (blocks bitmap)) (length (rows_of table)) ≡ admitted
+    same_ready = rw (blocks-length bitmap, count table, ← admitted_is)
 
     module _ (g : Guest) (at head : ℕ) where
-      pub request_refused : (number ≡ 0 → ⊥) → step (world_of d bitmap table) (Request g at head) ≡ refused_with number (world_of d bitmap table) g.mem
+      pub request_refused : (refusal : Refusal) → admitted ≡ Err refusal → step (world_of d bitmap table) (Request g at head) ≡ refused_with refusal (world_of d bitmap table) g.mem
       unfolding step unless
-      request_refused h = rw (same_ready, ne_eqb number 0 h)
+      request_refused refusal h = rw (same_ready, h)
 
-      module _ (h : number ≡ 0) (p : Parsed) (e : p ≡ parsed g.mem g.base at head) where
+      module _ (h : admitted ≡ Ok tt) (p : Result Asked NoRequest) (e : p ≡ parsed g.mem g.base at head) where
         request_ready : step (world_of d bitmap table) (Request g at head) ≡ request p (world_of d bitmap table) g
         unfolding step unless
-        request_ready = rw (same_ready, eq-eqb number 0 h, ← e)
+        request_ready = rw (same_ready, h, ← e)
 
-        pub request_bad : NotRequest p → (reason : ℕ) → reason ≡ reason_of p → step (world_of d bitmap table) (Request g at head) ≡ unserved reason (world_of d bitmap table) g
-        request_bad k reason r = request_ready ∙ bad_is p k reason r (world_of d bitmap table) g
-
-        pub request_got : (req : VirtioMemReq) (status : GuestAddr) → p ≡ Got req status → step (world_of d bitmap table) (Request g at head) ≡ serve (world_of d bitmap table) req status.0 g
+        pub request_bad : (reason : NoRequest) → p ≡ Err reason → step (world_of d bitmap table) (Request g at head) ≡ unserved reason (world_of d bitmap table) g
         unfolding request
-        request_got req status q = request_ready ∙ rw q
+        request_bad reason r = request_ready ∙ rw r
 
-  module _ (number_is : number ≡ pending_refusal d (8 * length bitmap) (rows_in (length table))) where
-    same_pending : pending_refusal d (length (blocks bitmap)) (length (rows_of table)) ≡ number
-    same_pending = rw (blocks-length bitmap, count table, ← number_is)
+        pub request_got : (asks : Asked) → p ≡ Ok asks → step (world_of d bitmap table) (Request g at head) ≡ serve (world_of d bitmap table) asks.request asks.status.0 g
+        unfolding request
+        request_got asks q = request_ready ∙ rw q
+
+  module _ (admitted_is : admitted ≡ pending_refusal d (8 * length bitmap) (rows_in (length table))) where
+    same_pending : pending_refusal d (length (blocks bitmap)) (length (rows_of table)) ≡ admitted
+    same_pending = rw (blocks-length bitmap, count table, ← admitted_is)
 
     module _ (g : Guest) (ok : Bool) (host : ℕ) where
-      pub answer_refused : (number ≡ 0 → ⊥) → step (world_of d bitmap table) (HostAnswer g ok host) ≡ refused_with number (world_of d bitmap table) g.mem
+      pub answer_refused : (refusal : Refusal) → admitted ≡ Err refusal → step (world_of d bitmap table) (HostAnswer g ok host) ≡ refused_with refusal (world_of d bitmap table) g.mem
       unfolding step unless
-      answer_refused h = rw (same_pending, ne_eqb number 0 h)
+      answer_refused refusal h = rw (same_pending, h)
 
-      pub answer_ready : number ≡ 0 → step (world_of d bitmap table) (HostAnswer g ok host) ≡ host_answer d.pending (world_of d bitmap table) g ok host
+      pub answer_ready : admitted ≡ Ok tt → step (world_of d bitmap table) (HostAnswer g ok host) ≡ host_answer d.pending (world_of d bitmap table) g ok host
       unfolding step unless
-      answer_ready h = rw (same_pending, eq-eqb number 0 h)
+      answer_ready h = rw (same_pending, h)
 
 -- ---- the host's answer, by its pending case
 module _ (w : World) (g : Guest) (ok : Bool) where
@@ -90,7 +83,7 @@ module _ (w : World) (g : Guest) (ok : Bool) where
   any_host_one block status host = refl
 
   -- with nothing pending, which the refusals leave out
-  pub none_pending : (host : ℕ) → host_answer Nothing w g ok host ≡ refused_with 8 w g.mem
+  pub none_pending : (host : ℕ) → host_answer Nothing w g ok host ≡ refused_with NothingPending w g.mem
   unfolding host_answer
   none_pending host = refl
 
@@ -99,7 +92,7 @@ pub less_shaped : (d d' d'' : Device) (n : ℕ) → shaped_of d ≡ true → n �
 less_shaped d d' d'' n shape less same same' = rw (same', same, less) (block_less_keeps d shape)
 
 module _ (d : Device) (bitmap table : List ℕ) (shape : shaped_of d ≡ true) (g : Guest) (s : Answered) {bytes : List ℕ} (ok : Bool) (status : GuestAddr) where
-  pub unplug_fails : (first count : ℕ) → ok ≡ false → Responded g status.0 (error failed_discard) (pending_to Nothing d) s bytes → Gives (host_answer (Discard first count status) (world_of d bitmap table) g ok 0) (lent bitmap table g.mem) (lent bitmap table bytes) s
+  pub unplug_fails : (first count : ℕ) → ok ≡ false → Responded g status.0 (error FailedDiscard) (pending_to Nothing d) s bytes → Gives (host_answer (Discard first count status) (world_of d bitmap table) g ok 0) (lent bitmap table g.mem) (lent bitmap table bytes) s
   unfolding host_answer
   unplug_fails first count t p = rw t (serves g status.0 _ bitmap p refl refl)
 
@@ -108,7 +101,7 @@ module _ (d : Device) (bitmap table : List ℕ) (shape : shaped_of d ≡ true) (
   unplug_done first count t bitmap' filled d' d'' same same' p =
       rw t (serves g status.0 _ bitmap' (rw (same', same) at p) filled.as_blocks refl)
 
-  pub one_fails : (block : ℕ) → ok ≡ false → Responded g status.0 (error failed_discard) (pending_to Nothing d) s bytes → Gives (host_answer (DiscardOne block status) (world_of d bitmap table) g ok 0) (lent bitmap table g.mem) (lent bitmap table bytes) s
+  pub one_fails : (block : ℕ) → ok ≡ false → Responded g status.0 (error FailedDiscard) (pending_to Nothing d) s bytes → Gives (host_answer (DiscardOne block status) (world_of d bitmap table) g ok 0) (lent bitmap table g.mem) (lent bitmap table bytes) s
   unfolding host_answer
   one_fails block t p = rw t (serves g status.0 _ bitmap p refl refl)
 

@@ -1,6 +1,6 @@
 -- SPDX-License-Identifier: Apache-2.0 AND BSD-3-Clause
 -- What the ways through a request come to: each lemma takes what the code knows on a way and shows the leaf of `Step.antt` there.
-use Rattle.std.specs.Prelude.{Option, Some, None}
+use Rattle.std.specs.Prelude.{Option, Some, None, Ok, Err, Result}
 use Prim.Native.Nat.{ℕ, suc, ◌+◌, ◌≤◌, ◌<◌}
 use mathlib.Core.Path.{◌≡◌, refl, sym, ap, ◌∙◌}
 use mathlib.Core.Bool.{Bool, true, false, cond}
@@ -16,14 +16,16 @@ use Rattle.bitmap.proofs.Laws.{next_at}
 use Rattle.rows.specs.Rows.{rows_of}
 use Rattle.rows.proofs.Words.{count}
 use Rattle.change.specs.declared.Change.{Change}
-use Rattle.change.specs.declared.Change.TheVariants.{Legal, Outside, WrongState, NoHost}
-use Rattle.change.specs.declared.Part.TheVariants.{PastUsable}
-use Rattle.change.specs.declared.HostRange.{HostRange}
-use Rattle.change.specs.declared.HostRange.TheVariants.{At as HostAt, CrossesBorder, Unmapped, SumPasses}
+use Rattle.change.specs.declared.Reason.{Reason}
+use Rattle.change.specs.declared.Reason.TheVariants.{PastUsable}
+use Rattle.refusal.specs.declared.Refusal.TheVariants.{NoShape}
+use Rattle.chain.specs.declared.NoRequest.TheVariants.{UnknownType}
 use Rattle.change.proofs.Laws.{one_plugged}
 use Rattle.change.specs.Change.{host_of, legal_at, change_of}
-use Rattle.change.specs.Why.{part_why, host_why, change_why}
 use Rattle.wire.specs.declared.VirtioMemReq.{VirtioMemReq}
+use Rattle.wire.specs.declared.RequestType.{RequestType}
+use Rattle.wire.specs.declared.UnknownType.{UnknownType as NoType}
+use Rattle.wire.specs.Types.{Types, type_number}
 use Rattle.record.specs.declared.Device.{Device}
 use Rattle.record.specs.declared.HostCall.TheVariants.{Discard as DiscardCall}
 use Rattle.record.specs.declared.Pending.{Pending}
@@ -44,20 +46,6 @@ abbrev pub asked : Device → Pending → RegionOffset → (size : ℕ) → Host
 asked d pending offset size host =
     record { device = pending_to pending d; answer = Wants (DiscardCall offset size host) }
 
--- where `let .. else` found another case
-abbrev pub NotLegal : Change → Type 0
-NotLegal ch = (first : ℕ) (offset : RegionOffset) (host : HostAddr) → ch ≡ Legal first offset host → ⊥
-
-abbrev pub NotAt : HostRange → Type 0
-NotAt found = (host : HostAddr) → found ≡ HostAt host → ⊥
-
-plug_error : (ch : Change) → NotLegal ch → (w : World) (count status : ℕ) (g : Guest) → plug_as ch w count status g ≡ served (error (change_why ch)) status w g
-unfolding plug_as change_why
-plug_error (Legal first offset host) k w count status g = absurd (k first offset host refl)
-plug_error (Outside part) k w count status g = refl
-plug_error WrongState k w count status g = refl
-plug_error (NoHost part) k w count status g = refl
-
 module _ (d : Device) (bitmap table : List ℕ) (shape : shaped_of d ≡ true) (addr count status : ℕ) (g : Guest) (s : Answered) (bytes : List ℕ)
     (size : ℕ) (size_is : size ≡ bytes_of d.config.block_size count) (within : Bool) (within-is : within ≡ leb (d.config.plugged_size + size) d.config.requested_size) where
   -- (a) failed
@@ -68,7 +56,7 @@ module _ (d : Device) (bitmap table : List ℕ) (shape : shaped_of d ≡ true) (
       let e : ltb d.config.requested_size (d.config.plugged_size + bytes_of d.config.block_size count) ≡ true = rw (← size_is) (lt-ltb d.config.requested_size (d.config.plugged_size + size) h) in
       rw e (serves g status (world_of d bitmap table) bitmap p refl refl)
 
-  module _ (t : within ≡ true) (ch : Change) (ch-is : ch ≡ change_of d.config.block_size d.config.addr.0 d.config.usable_region_size d.several addr count true (blocks bitmap) (rows_of table)) where
+  module _ (t : within ≡ true) (ch : Result Change Reason) (ch-is : ch ≡ change_of d.config.block_size d.config.addr.0 d.config.usable_region_size d.several addr count true (blocks bitmap) (rows_of table)) where
     asks : plug (world_of d bitmap table) addr count status g ≡ plug_as ch (world_of d bitmap table) count status g
     unfolding plug
     asks =
@@ -76,45 +64,33 @@ module _ (d : Device) (bitmap table : List ℕ) (shape : shaped_of d ≡ true) (
         let e : ltb d.config.requested_size (d.config.plugged_size + bytes_of d.config.block_size count) ≡ false = rw (← size_is) (le-ltb d.config.requested_size (d.config.plugged_size + size) h) in
         rw (e, ← ch-is)
 
-    pub plug_errs : NotLegal ch → (why : ℕ) → why ≡ change_why ch → Responded g status (error why) d s bytes → Gives (plug (world_of d bitmap table) addr count status g) (lent bitmap table g.mem) (lent bitmap table bytes) s
-    plug_errs k why why-is p = rw (asks, plug_error ch k (world_of d bitmap table) count status g) (serves g status (world_of d bitmap table) bitmap (rw why-is at p) refl refl)
-
-    pub plug_acks : (first : ℕ) (offset : RegionOffset) (host : HostAddr) → ch ≡ Legal first offset host → (bitmap' : List ℕ) → Filled bitmap bitmap' first count true → (d' : Device) → d' ≡ plugged_to (d.config.plugged_size + size) d → Responded g status ack d' s bytes → Gives (plug (world_of d bitmap table) addr count status g) (lent bitmap table g.mem) (lent bitmap' table bytes) s
+    pub plug_errs : (why : Reason) → ch ≡ Err why → Responded g status (error why) d s bytes → Gives (plug (world_of d bitmap table) addr count status g) (lent bitmap table g.mem) (lent bitmap table bytes) s
     unfolding plug_as
-    plug_acks first offset host legal bitmap' filled d' same p =
+    plug_errs why e p = rw (asks, e) (serves g status (world_of d bitmap table) bitmap p refl refl)
+
+    pub plug_acks : (change : Change) → ch ≡ Ok change → (bitmap' : List ℕ) → Filled bitmap bitmap' change.first count true → (d' : Device) → d' ≡ plugged_to (d.config.plugged_size + size) d → Responded g status ack d' s bytes → Gives (plug (world_of d bitmap table) addr count status g) (lent bitmap table g.mem) (lent bitmap' table bytes) s
+    unfolding plug_as
+    plug_acks change legal bitmap' filled d' same p =
         rw (asks, legal) (serves g status _ bitmap' (rw (same, size_is) at p) filled.as_blocks refl)
 
-unplug_error : (ch : Change) → NotLegal ch → (w : World) (count status : ℕ) (g : Guest) → unplug_as ch w count status g ≡ served (error (change_why ch)) status w g
-unfolding unplug_as change_why
-unplug_error (Legal first offset host) k w count status g = absurd (k first offset host refl)
-unplug_error (Outside part) k w count status g = refl
-unplug_error WrongState k w count status g = refl
-unplug_error (NoHost part) k w count status g = refl
-
-one_error : (found : HostRange) → NotAt found → (w : World) (b offset block status : ℕ) (g : Guest) → one_as (legal_at b offset found) w block status g ≡ stops (host_why found) w status g
-unfolding one_as legal_at host_why
-one_error (HostAt host) k w b offset block status g = absurd (k host refl)
-one_error CrossesBorder k w b offset block status g = refl
-one_error Unmapped k w b offset block status g = refl
-one_error SumPasses k w b offset block status g = refl
-
 module _ (d : Device) (bitmap table : List ℕ) (shape : shaped_of d ≡ true) (status : ℕ) (g : Guest) (s : Answered) where
-  module _ (addr count : ℕ) (ch : Change) (ch-is : ch ≡ change_of d.config.block_size d.config.addr.0 d.config.usable_region_size d.several addr count false (blocks bitmap) (rows_of table)) where
+  module _ (addr count : ℕ) (ch : Result Change Reason) (ch-is : ch ≡ change_of d.config.block_size d.config.addr.0 d.config.usable_region_size d.several addr count false (blocks bitmap) (rows_of table)) where
     same_change : changing (world_of d bitmap table) addr count false ≡ ch
     same_change = sym ch-is
 
-    pub unplug_errs : {bytes : List ℕ} → NotLegal ch → (why : ℕ) → why ≡ change_why ch → Responded g status (error why) d s bytes → Gives (unplug (world_of d bitmap table) addr count status g) (lent bitmap table g.mem) (lent bitmap table bytes) s
-    unplug_errs k why why-is p = rw (same_change, unplug_error ch k (world_of d bitmap table) count status g) (serves g status (world_of d bitmap table) bitmap (rw why-is at p) refl refl)
+    pub unplug_errs : {bytes : List ℕ} (why : Reason) → ch ≡ Err why → Responded g status (error why) d s bytes → Gives (unplug (world_of d bitmap table) addr count status g) (lent bitmap table g.mem) (lent bitmap table bytes) s
+    unfolding unplug_as
+    unplug_errs why e p = rw (same_change, e) (serves g status (world_of d bitmap table) bitmap p refl refl)
 
-    module _ (first : ℕ) (offset : RegionOffset) (host : HostAddr) (legal : ch ≡ Legal first offset host) (size : ℕ) (size_is : size ≡ bytes_of d.config.block_size count) where
+    module _ (change : Change) (legal : ch ≡ Ok change) (size : ℕ) (size_is : size ≡ bytes_of d.config.block_size count) where
       -- larger than the plugged size
-      pub unplug_refuses : d.config.plugged_size < size → s ≡ record { device = d; answer = Refused 12 } → Gives (unplug (world_of d bitmap table) addr count status g) (lent bitmap table g.mem) (lent bitmap table g.mem) s
+      pub unplug_refuses : d.config.plugged_size < size → s ≡ record { device = d; answer = Refused NoShape } → Gives (unplug (world_of d bitmap table) addr count status g) (lent bitmap table g.mem) (lent bitmap table g.mem) s
       unfolding unplug_as
       unplug_refuses h e =
           let larger : ltb d.config.plugged_size (bytes_of d.config.block_size count) ≡ true = rw (← size_is) (lt-ltb d.config.plugged_size size h) in
-          rw (same_change, legal, larger) (answers (world_of d bitmap table) (Refused 12) e refl refl)
+          rw (same_change, legal, larger) (answers (world_of d bitmap table) (Refused NoShape) e refl refl)
 
-      pub unplug_asks : size ≤ d.config.plugged_size → s ≡ asked d (Discard first count (record { 0 = status })) offset size host → Gives (unplug (world_of d bitmap table) addr count status g) (lent bitmap table g.mem) (lent bitmap table g.mem) s
+      pub unplug_asks : size ≤ d.config.plugged_size → s ≡ asked d (Discard change.first count (record { 0 = status })) change.offset size change.host → Gives (unplug (world_of d bitmap table) addr count status g) (lent bitmap table g.mem) (lent bitmap table g.mem) s
       unfolding unplug_as
       unplug_asks h e =
           let fits : ltb d.config.plugged_size (bytes_of d.config.block_size count) ≡ false = rw (← size_is) (le-ltb d.config.plugged_size size h) in
@@ -123,7 +99,7 @@ module _ (d : Device) (bitmap table : List ℕ) (shape : shaped_of d ≡ true) (
   -- one plugged block of an unplug-all: past the test of the usable size, (d) decides
   module _ (block : ℕ) (inside : block < blocks_in d.config.block_size d.config.region_size) (set : block_at (blocks bitmap) block ≡ true) where
     one_change : changing (world_of d bitmap table) (d.config.addr.0 + bytes_of d.config.block_size block) 1 false
-        ≡ cond (leb d.config.usable_region_size (bytes_of d.config.block_size block)) (Outside PastUsable)
+        ≡ cond (leb d.config.usable_region_size (bytes_of d.config.block_size block)) (Err PastUsable)
         (legal_at d.config.block_size (bytes_of d.config.block_size block) (host_of d.several (rows_of table) (bytes_of d.config.block_size block) d.config.block_size))
     one_change =
         let h = shaped_is d shape in
@@ -133,20 +109,20 @@ module _ (d : Device) (bitmap table : List ℕ) (shape : shaped_of d ≡ true) (
         one_plugged d.config.block_size d.config.addr.0 d.config.usable_region_size d.several block (blocks bitmap) (rows_of table)
         (omega arith) (rw e h.start_blocks) (rw e h.usable_blocks_lem) (rw e end) (omega (arith, h.start_region, h.usable_in)) set
 
-    pub one_past : {bytes : List ℕ} → d.config.usable_region_size ≤ bytes_of d.config.block_size block → Responded g status (error 5) (pending_to Nothing d) s bytes → Gives (unplug_one (world_of d bitmap table) block status g) (lent bitmap table g.mem) (lent bitmap table bytes) s
-    unfolding one_as part_why
+    pub one_past : {bytes : List ℕ} → d.config.usable_region_size ≤ bytes_of d.config.block_size block → Responded g status (error PastUsable) (pending_to Nothing d) s bytes → Gives (unplug_one (world_of d bitmap table) block status g) (lent bitmap table g.mem) (lent bitmap table bytes) s
+    unfolding one_as
     one_past k p =
         rw (one_change, le-leb d.config.usable_region_size (bytes_of d.config.block_size block) k) (serves g status _ bitmap p refl refl)
 
-    module _ (usable : bytes_of d.config.block_size block < d.config.usable_region_size) (found : HostRange) (found-is : found ≡ host_of d.several (rows_of table) (bytes_of d.config.block_size block) d.config.block_size) where
+    module _ (usable : bytes_of d.config.block_size block < d.config.usable_region_size) (found : Result HostAddr Reason) (found-is : found ≡ host_of d.several (rows_of table) (bytes_of d.config.block_size block) d.config.block_size) where
       by_host : changing (world_of d bitmap table) (d.config.addr.0 + bytes_of d.config.block_size block) 1 false ≡ legal_at d.config.block_size (bytes_of d.config.block_size block) found
       by_host = rw (one_change, lt-leb d.config.usable_region_size (bytes_of d.config.block_size block) usable, ← found-is)
 
-      pub one_errs : {bytes : List ℕ} → NotAt found → (why : ℕ) → why ≡ host_why found → Responded g status (error why) (pending_to Nothing d) s bytes → Gives (unplug_one (world_of d bitmap table) block status g) (lent bitmap table g.mem) (lent bitmap table bytes) s
-      one_errs k why why-is p =
-          rw (by_host, one_error found k (world_of d bitmap table) d.config.block_size (bytes_of d.config.block_size block) block status g) (serves g status _ bitmap (rw why-is at p) refl refl)
+      pub one_errs : {bytes : List ℕ} (why : Reason) → found ≡ Err why → Responded g status (error why) (pending_to Nothing d) s bytes → Gives (unplug_one (world_of d bitmap table) block status g) (lent bitmap table g.mem) (lent bitmap table bytes) s
+      unfolding one_as legal_at
+      one_errs why e p = rw (by_host, e) (serves g status _ bitmap p refl refl)
 
-      pub one_asks : (host : HostAddr) → found ≡ HostAt host → s ≡ asked d (DiscardOne block (record { 0 = status })) (record { 0 = bytes_of d.config.block_size block }) d.config.block_size host → Gives (unplug_one (world_of d bitmap table) block status g) (lent bitmap table g.mem) (lent bitmap table g.mem) s
+      pub one_asks : (host : HostAddr) → found ≡ Ok host → s ≡ asked d (DiscardOne block (record { 0 = status })) (record { 0 = bytes_of d.config.block_size block }) d.config.block_size host → Gives (unplug_one (world_of d bitmap table) block status g) (lent bitmap table g.mem) (lent bitmap table g.mem) s
       unfolding one_as legal_at
       one_asks host legal e =
           let same : d.config.block_size ≡ bytes_of d.config.block_size 1 = omega arith in
@@ -180,6 +156,13 @@ block_fits d shape block inside =
 pub block_plugged : (bs : List Bool) (from last : ℕ) {found : Option ℕ} (block : ℕ) → found ≡ next_set bs from last → found ≡ Some block → block_at bs block ≡ true
 block_plugged bs from last block found-is e = (next_at true bs from last block (sym found-is ∙ e)).found
 
+-- ---- a request's type, by its number
+pub typed : (n : ℕ) (r : Result RequestType NoType) (found : RequestType) {type : RequestType} → Types n r → r ≡ Ok found → found ≡ type → n ≡ type_number type
+typed n r found t e f = sym (rw (e, f) at t)
+
+pub untyped : (n : ℕ) (r : Result RequestType NoType) {unknown : NoType} → Types n r → r ≡ Err unknown → 3 < n
+untyped n r t e = (rw e at t).1
+
 module _ (w : World) (req : VirtioMemReq) (status : ℕ) (g : Guest) where
   pub serve-plug : req.req_type ≡ 0 → serve w req status g ≡ plug w req.addr.0 req.nb_blocks status g
   unfolding serve
@@ -197,7 +180,7 @@ module _ (w : World) (req : VirtioMemReq) (status : ℕ) (g : Guest) where
   unfolding serve
   serve_state e = rw e
 
-  pub serve_unknown : (req.req_type ≡ 0 → ⊥) → (req.req_type ≡ 1 → ⊥) → (req.req_type ≡ 2 → ⊥) → (req.req_type ≡ 3 → ⊥) → serve w req status g ≡ unserved 0 w g
+  pub serve_unknown : (req.req_type ≡ 0 → ⊥) → (req.req_type ≡ 1 → ⊥) → (req.req_type ≡ 2 → ⊥) → (req.req_type ≡ 3 → ⊥) → serve w req status g ≡ unserved UnknownType w g
   unfolding serve
   serve_unknown e0 e1 e2 e3 =
       rw (ne_eqb req.req_type 0 e0, ne_eqb req.req_type 1 e1, ne_eqb req.req_type 2 e2, ne_eqb req.req_type 3 e3)

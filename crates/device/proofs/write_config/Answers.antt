@@ -1,8 +1,7 @@
 -- SPDX-License-Identifier: Apache-2.0 AND BSD-3-Clause
 -- `device::write_config` meets its contract: 12 and nothing else is refused.
 use mathlib.Core.Path.{refl}
-use Rattle.record.specs.Shape.{shaped_of}
-use Rattle.units.proofs.Tests.{refused, passed}
+use Rattle.units.proofs.Tests.{flag}
 use Rattle.rows.specs.Rows.{rows_of, row_words}
 use Rattle.bitmap.specs.Blocks.{blocks}
 use Rattle.step.specs.Step.{step, write_config}
@@ -11,11 +10,11 @@ use Rattle.device.proofs.write_config.Goals as goal
 pub returns-then-not-shaped : goal.returns-then-not-shaped
 unfolding step write_config rows_of row_words blocks
 returns-then-not-shaped c =
-    rw (refused (shaped_of c.args.d) c.shaped.result c.shaped.ensures c.if-not-shaped.true-raw, c.refuse.ensures)
+    rw (flag _ _ _ c.shaped.ensures c.if-not-shaped.true, c.refuse.ensures)
     (record { answered = refl; told = refl; recorded = refl; leaves = record { marked = refl; mapped = refl; left = refl } })
 
 pub returns : goal.returns
 unfolding step write_config rows_of row_words blocks
 returns c =
-    rw (passed (shaped_of c.args.d) c.shaped.result c.shaped.ensures c.if-not-shaped.false-raw)
+    rw (flag _ _ _ c.shaped.ensures c.if-not-shaped.false)
     (record { answered = refl; told = refl; recorded = refl; leaves = record { marked = refl; mapped = refl; left = refl } })

@@ -9,33 +9,34 @@ use Rattle.rows.proofs.Words.{count, whole}
 use Rattle.record.specs.Shape.{shaped_of}
 use Rattle.record.proofs.Laws.{shaped_is, requested_keeps}
 use Rattle.record.specs.Changes.{requested_to}
+use Rattle.refusal.specs.declared.Refusal.TheVariants.{WrongSize}
 use Rattle.step.specs.World.{world_of}
 use Rattle.step.specs.Step.{step, device_of, set_requested_size}
-use Rattle.step.proofs.Entry.{ready_is}
+use Rattle.step.proofs.Entry.{admitted_ok, ready_is}
 use Rattle.making.proofs.Asked.{Asked, asked_is}
 use Rattle.placing.proofs.Laws.{resizes_gives}
 use Rattle.step.proofs.Giving.{refused_gives, stops, goes_on}
 use Rattle.placing.proofs.set_requested_size.Goals as goal
-use Rattle.placing.proofs.set_requested_size.Goals.{Else-number-ne0, Else-requested_refused}
+use Rattle.placing.proofs.set_requested_size.Goals.{In_default, Else-requested_refused}
 
 -- past 12, 7, 5 and 11
-shape : (c : Else-number-ne0) → shaped_of c.args.d ≡ true
-shape c = (ready_is _ _ _ (sym c.ready_refusal-number.ensures ∙ c.if-number-ne0.false)).shaped
+shape : (c : In_default) → shaped_of c.args.d ≡ true
+shape c = (ready_is _ _ _ (sym c.ready_refusal.ensures ∙ admitted_ok _ c.in_default.not-Err)).shaped
 
 -- past 1
 size : (c : Else-requested_refused) → (let a = c.args in Asked a.d.config.block_size (a.requested_mib * 1048576) a.d.config.region_size)
 size c = asked_is _ _ _ _ c.requested_refused.ensures c.if-requested_refused.false
 
-pub returns-then-number-ne0 : goal.returns-then-number-ne0
+pub returns-in-Err : goal.returns-in-Err
 unfolding step
-returns-then-number-ne0 c = simp (blocks-length, count, ← c.ready_refusal-number.ensures) (stops _ _ _ _ _ c.if-number-ne0.true c.refuse.ensures)
+returns-in-Err c = simp (blocks-length, count, ← c.ready_refusal.ensures) (stops _ _ _ _ _ _ c.in-Err.is c.refuse.ensures)
 
 pub returns-then-requested_refused : goal.returns-then-requested_refused
 unfolding step set_requested_size
 returns-then-requested_refused c =
-    simp (blocks-length, count, ← c.ready_refusal-number.ensures)
-    (goes_on _ _ _ _ _ _ _ c.if-number-ne0.false
-    (refused_gives _ _ 1 _ _
+    simp (blocks-length, count, ← c.ready_refusal.ensures)
+    (goes_on _ _ _ _ _ _ _ (admitted_ok _ c.in_default.not-Err)
+    (refused_gives _ _ WrongSize _ _
     (simp (← c.requested_refused.ensures, c.if-requested_refused.true))
     c.refuse-then-requested_refused.ensures))
 
@@ -45,7 +46,7 @@ overflow_mul-requested c = omega (arith, (size (goal.at.overflow_mul-requested c
 pub resize-requires : goal.resize-requires
 resize-requires c =
     let d = c.args.d in
-    let before = shape (goal.at.resize-requires c).Else-number-ne0 in
+    let before = shape (goal.at.resize-requires c).In_default in
     let after = requested_keeps _ before _ (rw (shaped_is d before).block_size at (size (goal.at.resize-requires c).Else-requested_refused).whole) (size (goal.at.resize-requires c).Else-requested_refused).within in
     cc
 
@@ -54,7 +55,7 @@ unfolding step set_requested_size
 returns c =
     let a = c.args in
     let bytes = a.requested_mib * 1048576 in
-    simp (blocks-length, count, ← c.ready_refusal-number.ensures)
-    (goes_on _ _ _ _ _ _ _ c.if-number-ne0.false
+    simp (blocks-length, count, ← c.ready_refusal.ensures)
+    (goes_on _ _ _ _ _ _ _ (admitted_ok _ c.in_default.not-Err)
     (simp (← c.requested_refused.ensures, c.if-requested_refused.false)
     (resizes_gives _ (device_of (requested_to bytes a.d) (world_of a.d a.bitmap.now a.table.now)) _ _ _ c.resize.ensures refl (sym (whole _)) refl)))

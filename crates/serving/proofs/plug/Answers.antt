@@ -9,10 +9,10 @@ pub overflow_cast-block_size : goal.overflow_cast-block_size
 overflow_cast-block_size c = let shape = shaped_is _ c.requires in omega arith
 
 pub returns-then-not-sum_within : goal.returns-then-not-sum_within
-returns-then-not-sum_within c = plug_nacks _ _ _ c.requires _ _ _ _ _ _ _ c.bytes_of-size.ensures _ c.sum_within.ensures c.if-not-sum_within.true c.ended.ensures
+returns-then-not-sum_within c = plug_nacks _ _ _ c.requires _ _ _ _ _ _ _ c.bytes_of-size.ensures _ c.sum_within.ensures c.if-not-sum_within.true (rw c.nack.ensures at c.respond.ensures)
 
-pub returns-in_default : goal.returns-in_default
-returns-in_default c = plug_errs _ _ _ c.requires _ _ _ _ _ _ _ c.bytes_of-size.ensures _ c.sum_within.ensures c.if-not-sum_within.false _ c.change_of-change.ensures c.in_default.not-Legal _ c.why.ensures c.ended-in_default.ensures
+pub returns-in-Err : goal.returns-in-Err
+returns-in-Err c = plug_errs _ _ _ c.requires _ _ _ _ _ _ _ c.bytes_of-size.ensures _ c.sum_within.ensures c.if-not-sum_within.false _ c.change_of-tested.ensures _ c.in-Err.is (rw c.error.ensures at c.respond-in-Err.ensures)
 
 pub overflow_add-plugged : goal.overflow_add-plugged
 overflow_add-plugged c =
@@ -20,4 +20,4 @@ overflow_add-plugged c =
     omega (arith, shape, rw shape.block_size at c.bytes_of-size.ensures)
 
 pub returns : goal.returns
-returns c = plug_acks _ _ _ c.requires _ _ _ _ _ _ _ c.bytes_of-size.ensures _ c.sum_within.ensures c.if-not-sum_within.false _ c.change_of-change.ensures _ _ _ c.in-Legal.is _ c.set_range.ensures _ c.plugged_to.ensures c.ended-2.ensures
+returns c = plug_acks _ _ _ c.requires _ _ _ _ _ _ _ c.bytes_of-size.ensures _ c.sum_within.ensures c.if-not-sum_within.false _ c.change_of-tested.ensures _ c.in-Ok.is _ c.set_range.ensures _ c.plugged_to-grown.ensures (rw c.ack.ensures at c.respond-2.ensures)

@@ -3,4 +3,4 @@
 use Rattle.serving.proofs.stopped.Goals as goal
 
 pub returns : goal.returns
-returns c = rw c.pending_to.ensures at c.ended.ensures
+returns c = rw (c.pending_to-stopped.ensures, c.error.ensures) at c.respond.ensures

@@ -25,4 +25,4 @@ overflow_sub-left c =
     omega (arith, shape, same, discard_is _ c.requires.0 _ _ _ c.requires.1)
 
 pub returns : goal.returns
-returns c = unplug_done _ _ _ c.requires.0 _ _ _ _ _ _ c.if-not-ok.false _ c.set_range.ensures _ _ c.plugged_to.ensures c.pending_to-unplugged.ensures c.ended.ensures
+returns c = unplug_done _ _ _ c.requires.0 _ _ _ _ _ _ c.if-not-ok.false _ c.set_range.ensures _ _ c.plugged_to.ensures c.pending_to-unplugged.ensures (rw c.ack.ensures at c.respond.ensures)

@@ -10,8 +10,8 @@ overflow_mul-offset c = let fits = block_fits _ c.requires.0 _ c.requires.1 in o
 pub returns-then-d-offset : goal.returns-then-d-offset
 returns-then-d-offset c = one_past _ _ _ c.requires.0 _ _ _ _ c.requires.1 c.requires.2 c.if-d-offset.true c.stopped.ensures
 
-pub returns-in_default : goal.returns-in_default
-returns-in_default c = one_errs _ _ _ c.requires.0 _ _ _ _ c.requires.1 c.requires.2 c.if-d-offset.false _ c.host_of-found.ensures c.in_default.not-At _ c.why.ensures c.stopped-in_default.ensures
+pub returns-in-Err : goal.returns-in-Err
+returns-in-Err c = one_errs _ _ _ c.requires.0 _ _ _ _ c.requires.1 c.requires.2 c.if-d-offset.false _ c.host_of.ensures _ c.in-Err.is c.stopped-in-Err.ensures
 
 pub returns : goal.returns
-returns c = one_asks _ _ _ c.requires.0 _ _ _ _ c.requires.1 c.requires.2 c.if-d-offset.false _ c.host_of-found.ensures _ c.in-At.is c.asked.ensures
+returns c = one_asks _ _ _ c.requires.0 _ _ _ _ c.requires.1 c.requires.2 c.if-d-offset.false _ c.host_of.ensures _ c.in-Ok.is c.asked.ensures
