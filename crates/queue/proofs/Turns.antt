@@ -1,6 +1,8 @@
 -- SPDX-License-Identifier: Apache-2.0 AND BSD-3-Clause
 -- What the ways through a call of the queue come to: each lemma takes what the code knows on a way and shows the ending of `Queue.antt` there.
-use Rattle.std.specs.Prelude.{Option, Some, None}
+use Rattle.std.specs.Prelude.{Option, Some, None, Ok, Err, Result, ⊤}
+use Rattle.std.specs.Result.{result_ok, result_and}
+use Rattle.std.specs.Option.{option_flatten}
 use Prim.Native.Nat.{ℕ, ◌*◌}
 use mathlib.Core.Path.{◌≡◌, refl, sym, ap, ◌∙◌}
 use mathlib.Core.Bool.{Bool, true, false, cond}
@@ -17,10 +19,10 @@ use Rattle.record.specs.declared.Pending.{Pending}
 use Rattle.record.specs.declared.Pending.TheVariants.{Nothing as Idle, Create, Discard, DiscardOne}
 use Rattle.record.specs.Shape.{shaped_of, is_idle}
 use Rattle.rings.specs.declared.Queue.{Queue}
-use Rattle.rings.specs.declared.Next.{Next}
-use Rattle.rings.specs.declared.Next.TheVariants.{Head as HasHead, Empty as HasNone, Refused as HasRefused}
+use Rattle.refusal.specs.declared.Refusal.{Refusal}
 use Rattle.rings.specs.Rings.{next_head}
 use Rattle.step.specs.declared.Answered.{Answered}
+use Rattle.step.specs.declared.Answer.{Answer}
 use Rattle.step.specs.declared.Answer.TheVariants.{Refused}
 use Rattle.step.specs.World.{World, Guest, Request, HostAnswer, Outcome, world_of}
 use Rattle.step.specs.Promise.{Lent, lent, Gives}
@@ -58,14 +60,44 @@ module _ {o : Outcome} {s : Answered} {t : Turn} {before after : Lent} (m : Give
         leaves = record { marked = m.leaves.marked; mapped = m.leaves.mapped; left = m.leaves.left };
       }
 
+-- ---- what is told where no head is taken: what stands next is looked at behind the device's tests
+pub told_none : (admitted : Result ⊤ Refusal) (next : Result (Option ℕ) Refusal) (head : Option ℕ) → result_and admitted next ≡ Ok head → None ≡ none_told (next_unless admitted next)
+unfolding none_told next_unless
+told_none (Ok u) (Ok None) head e = refl
+told_none (Ok u) (Ok (Some h)) head e = refl
+told_none (Ok u) (Err r) head e = let z : ◌≡◌ {A = ℕ} 0 1 = cc in absurd (omega arith)
+told_none (Err r) next head e = let z : ◌≡◌ {A = ℕ} 0 1 = cc in absurd (omega arith)
+
+pub told_refusal : (admitted : Result ⊤ Refusal) (next : Result (Option ℕ) Refusal) (refusal : Refusal) → result_and admitted next ≡ Err refusal → Some (Refused refusal) ≡ none_told (next_unless admitted next)
+unfolding none_told next_unless
+told_refusal (Ok u) (Ok head) refusal e = let z : ◌≡◌ {A = ℕ} 0 1 = cc in absurd (omega arith)
+told_refusal (Ok u) (Err r) refusal e = cc
+told_refusal (Err r) next refusal e = cc
+
+-- what stands next, by whether that is a head
+pub none_stands : (next : Result (Option ℕ) Refusal) → option_flatten (result_ok next) ≡ None → (admitted : Result ⊤ Refusal) → standing next admitted ≡ NoHead (none_told (next_unless admitted next))
+unfolding standing
+none_stands (Ok None) e admitted = refl
+none_stands (Ok (Some head)) e admitted = let z : ◌≡◌ {A = ℕ} 0 1 = cc in absurd (omega arith)
+none_stands (Err refusal) e admitted = refl
+
+pub head_stands : (next : Result (Option ℕ) Refusal) (head : ℕ) → option_flatten (result_ok next) ≡ Some head → (admitted : Result ⊤ Refusal) → standing next admitted ≡ Walk head
+unfolding standing
+head_stands (Ok None) head e admitted = let z : ◌≡◌ {A = ℕ} 0 1 = cc in absurd (omega arith)
+head_stands (Ok (Some h)) head e admitted = cc
+head_stands (Err refusal) head e admitted = let z : ◌≡◌ {A = ℕ} 0 1 = cc in absurd (omega arith)
+
 -- ---- the refusals of the device, which its own call tests again
 module _ (w : World) (q : Queue) (g : Guest) where
-  -- with what stands next, and the device's number n
-  stands : (n : ℕ) → n ≡ ready_refusal w.device (length w.blocks) (length w.rows) → (x : Next) → takes (next_unless n x) w q g ≡ walks (standing x n) w q g
+  -- with what stands next, and what the device's tests give
+  stands : (n : Result ⊤ Refusal) → n ≡ ready_refusal w.device (length w.blocks) (length w.rows) → (x : Result (Option ℕ) Refusal) → takes (next_unless n x) w q g ≡ walks (standing x n) w q g
   unfolding next_unless takes none_told standing walks step unless queue_by bytes_by
-  stands n e HasNone = by_test (eqb n 0) (λ t. rw t) (λ t. rw t)
-  stands n e (HasRefused m) = by_test (eqb n 0) (λ t. rw t) (λ t. rw t)
-  stands n e (HasHead head) = by_test (eqb n 0) (λ t. rw t) (λ t. rw (t, ← e, t))
+  stands (Ok u) e (Ok None) = refl
+  stands (Err r) e (Ok None) = refl
+  stands (Ok u) e (Err m) = refl
+  stands (Err r) e (Err m) = refl
+  stands (Ok u) e (Ok (Some head)) = refl
+  stands (Err r) e (Ok (Some head)) = rw (← e)
 
   -- R13.9: where the device refuses, the head stays
   pub by_taking : serve_next w q g ≡ walks (taking_of w.device q (length w.blocks) (length w.rows) g.mem g.base) w q g
@@ -81,8 +113,13 @@ module _ (w : World) (q : Queue) (g : Guest) where
       ≡ answers taken q g.base (step w (HostAnswer g ok host))
   unfolding can_report out_refusal unless_refused answers step unless queue_by bytes_by
   heard None ok host e = refl
-  heard (Some head) ok host e =
-      by_test (eqb (pending_refusal w.device (length w.blocks) (length w.rows)) 0) (λ t. rw (e, t)) (λ t. rw (t, t))
+  heard (Some head) ok host e = go (pending_refusal w.device (length w.blocks) (length w.rows)) refl
+    where
+      go : (x : Result ⊤ Refusal) → pending_refusal w.device (length w.blocks) (length w.rows) ≡ x
+          → unless_refused (out_refusal (Some head) w.device q (length w.blocks) (length w.rows) g) w q g.mem (answers (Some head) q g.base (step w (HostAnswer g ok host)))
+          ≡ answers (Some head) q g.base (step w (HostAnswer g ok host))
+      go (Ok u) p = rw (p, e)
+      go (Err r) p = rw p
 
   -- and where it cannot: a discard is pending, and 14 comes last
   busy : (p : Pending) → discarding p ≡ true → is_idle p ≡ false
@@ -92,7 +129,7 @@ module _ (w : World) (q : Queue) (g : Guest) where
   busy (DiscardOne block status) e = refl
 
   outside : (taken : Option ℕ) (n m : ℕ) → queue_ok taken w.device.pending ≡ true → can_report taken (length g.mem) g.base q ≡ false
-      → out_refusal taken w.device q n m g ≡ outside_refusal w.device n m
+      → out_refusal taken w.device q n m g ≡ Err (outside_refusal w.device n m)
   unfolding can_report out_refusal pending_refusal outside_refusal tables_fit
   outside None n m k e = clash refl e
   outside (Some head) n m k e =
@@ -102,7 +139,7 @@ module _ (w : World) (q : Queue) (g : Guest) where
       (λ s. rw (e, s))
 
   alike : (taken : Option ℕ) (ok : Bool) (host : ℕ) → queue_ok taken w.device.pending ≡ true → let n = outside_refusal w.device (length w.blocks) (length w.rows) in let o = answers taken q g.base (step w (HostAnswer g ok host)) in
-      unless_refused (out_refusal taken w.device q (length w.blocks) (length w.rows) g) w q g.mem o ≡ unless_refused (cond (can_report taken (length g.mem) g.base q) 0 n) w q g.mem o
+      unless_refused (out_refusal taken w.device q (length w.blocks) (length w.rows) g) w q g.mem o ≡ unless_refused (cond (can_report taken (length g.mem) g.base q) (Ok tt) (Err n)) w q g.mem o
   unfolding unless_refused
   alike taken ok host k =
       by_test (can_report taken (length g.mem) g.base q)
@@ -145,19 +182,19 @@ module _ (d : Device) (bitmap table : List ℕ) (q : Queue) (g : Guest) where
     next_none told e is = rw (told_as told e) (unchanged told is)
 
   -- ---- the host's answer
-  module _ (ok : Bool) (host n : ℕ) (n-is : n ≡ queue_refusal d q (8 * length bitmap) (rows_in (length table)) (length g.mem) g.base) where
+  module _ (ok : Bool) (host : ℕ) (n : Result ⊤ Refusal) (n-is : n ≡ queue_refusal d q (8 * length bitmap) (rows_in (length table)) (length g.mem) g.base) where
     answered_as_lem : host_answers (world_of d bitmap table) q g ok host ≡ unless_refused n (world_of d bitmap table) q g.mem (answers q.taken q g.base (step (world_of d bitmap table) (HostAnswer g ok host)))
     answered_as_lem = by_refusal (world_of d bitmap table) q g ok host ∙ rw (blocks-length bitmap, count table, ← n-is)
 
-    pub refused_as : eqb n 0 ≡ false → host_answers (world_of d bitmap table) q g ok host ≡ unmoved (Some (Refused n)) (world_of d bitmap table) q g.mem
+    pub refused_as : (refusal : Refusal) → n ≡ Err refusal → host_answers (world_of d bitmap table) q g ok host ≡ unmoved (Some (Refused refusal)) (world_of d bitmap table) q g.mem
     unfolding unless_refused
-    refused_as some = answered_as_lem ∙ rw some
+    refused_as refusal some = answered_as_lem ∙ rw some
 
-    pub heard_as : eqb n 0 ≡ true → (taken : Option ℕ) → q.taken ≡ taken → host_answers (world_of d bitmap table) q g ok host ≡ answers taken q g.base (step (world_of d bitmap table) (HostAnswer g ok host))
+    pub heard_as : n ≡ Ok tt → (taken : Option ℕ) → q.taken ≡ taken → host_answers (world_of d bitmap table) q g ok host ≡ answers taken q g.base (step (world_of d bitmap table) (HostAnswer g ok host))
     unfolding unless_refused
     heard_as none taken e =
         let o = step (world_of d bitmap table) (HostAnswer g ok host) in
         answered_as_lem ∙ rw (none, ap (λ (x : Option ℕ). answers x q g.base o) e)
 
-    pub answer_refused : {t : Turn} → eqb n 0 ≡ false → t ≡ turned d q (Some (Refused n)) → GivesTurn (host_answers (world_of d bitmap table) q g ok host) (lent bitmap table g.mem) (lent bitmap table g.mem) t
-    answer_refused some is = rw (refused_as some) (unchanged (Some (Refused n)) is)
+    pub answer_refused : {t : Turn} (refusal : Refusal) → n ≡ Err refusal → t ≡ turned d q (Some (Refused refusal)) → GivesTurn (host_answers (world_of d bitmap table) q g ok host) (lent bitmap table g.mem) (lent bitmap table g.mem) t
+    answer_refused refusal some is = rw (refused_as refusal some) (unchanged (Some (Refused refusal)) is)

@@ -1,14 +1,14 @@
 -- SPDX-License-Identifier: Apache-2.0 AND BSD-3-Clause
 -- The device on its queue (R13): which head a call takes, what becomes of it by the device's answer, and the host's answer while a head is out.
-use Rattle.std.specs.Prelude.{ℕ, ◌≡◌, Bool, true, false, cond, not, List, [], ◌∷◌, eqb, length, get_or, Option, Some, None}
+use Rattle.std.specs.Prelude.{ℕ, ◌≡◌, Bool, true, false, cond, not, List, [], ◌∷◌, eqb, length, get_or, Option, Some, None, Ok, Err, Result, ⊤}
 use Rattle.units.specs.declared.GuestAddr.{GuestAddr}
 use Rattle.record.specs.declared.Device.{Device}
 use Rattle.record.specs.Shape.{shaped_of}
 use Rattle.record.specs.declared.Pending.{Pending}
 use Rattle.record.specs.declared.Pending.TheVariants.{Nothing as Idle, Create, Discard, DiscardOne}
 use Rattle.rings.specs.declared.Queue.{Queue}
-use Rattle.rings.specs.declared.Next.{Next}
-use Rattle.rings.specs.declared.Next.TheVariants.{Head as HasHead, Empty as HasNone, Refused as HasRefused}
+use Rattle.refusal.specs.declared.Refusal.{Refusal}
+use Rattle.refusal.specs.declared.Refusal.TheVariants.{TooShort, NoShape, RingOutside}
 use Rattle.rings.specs.Rings.{index_after, rings_inside, next_head, reported}
 use Rattle.step.specs.declared.Answer.{Answer}
 use Rattle.step.specs.declared.Answer.TheVariants.{Refused, Wants, Sized, Unserved, Served, Done}
@@ -58,7 +58,7 @@ queue_ok (Some head) p = discarding p
 -- ---- what becomes of a head by the device's answer
 -- R13.8, R13.9: it is reported when its request has ended, and a refused call takes none
 abbrev pub ending_of : Answer → Ending
-ending_of (Refused n) = Stays
+ending_of (Refused refusal) = Stays
 ending_of (Wants call) = Out
 ending_of Sized = Stays
 ending_of (Unserved reason) = Used 0
@@ -98,41 +98,42 @@ about head base before out o =
 
 -- ---- taking the next head
 -- R13.4: 12, the queue's part of it first, 7, 5 and 11
-unfoldable pub taking_refusal : Device → Option ℕ → (blocks rows : ℕ) → ℕ
-taking_refusal d taken blocks rows = cond (not (queue_ok taken d.pending)) 12 (ready_refusal d blocks rows)
+unfoldable pub taking_refusal : Device → Option ℕ → (blocks rows : ℕ) → Result ⊤ Refusal
+taking_refusal d taken blocks rows = cond (not (queue_ok taken d.pending)) (Err NoShape) (ready_refusal d blocks rows)
 
 -- then 14, 15, none or a head
-unfoldable pub next_unless : (n : ℕ) → Next → Next
-next_unless n x = cond (eqb n 0) x (HasRefused n)
+unfoldable pub next_unless : Result ⊤ Refusal → Result (Option ℕ) Refusal → Result (Option ℕ) Refusal
+next_unless (Ok admitted) next = next
+next_unless (Err refusal) next = Err refusal
 
-abbrev pub next_of : World → Queue → Guest → Next
+abbrev pub next_of : World → Queue → Guest → Result (Option ℕ) Refusal
 next_of w q g =
     next_unless (taking_refusal w.device q.taken (length w.blocks) (length w.rows)) (next_head g.mem g.base q)
 
 -- what is told where no head is taken
-unfoldable pub none_told : Next → Option Answer
-none_told (HasHead head) = None
-none_told HasNone = None
-none_told (HasRefused n) = Some (Refused n)
+unfoldable pub none_told : Result (Option ℕ) Refusal → Option Answer
+none_told (Ok (Some head)) = None
+none_told (Ok None) = None
+none_told (Err refusal) = Some (Refused refusal)
 
 -- R13.4, R13.7
-unfoldable pub takes : Next → World → Queue → Guest → QueueOutcome
-takes (HasHead head) w q g = about head g.base q (took_head q head) (step w (Request g q.descriptors.0 head))
-takes HasNone w q g = unmoved None w q g.mem
-takes (HasRefused n) w q g = unmoved (Some (Refused n)) w q g.mem
+unfoldable pub takes : Result (Option ℕ) Refusal → World → Queue → Guest → QueueOutcome
+takes (Ok (Some head)) w q g = about head g.base q (took_head q head) (step w (Request g q.descriptors.0 head))
+takes (Ok None) w q g = unmoved None w q g.mem
+takes (Err refusal) w q g = unmoved (Some (Refused refusal)) w q g.mem
 
 abbrev pub serve_next : World → Queue → Guest → QueueOutcome
 serve_next w q g = takes (next_of w q g) w q g
 
 -- the same, as code finds it: the head that stands next is looked for first, and where there is one the device's own call gives its refusals (`by_taking`)
-unfoldable pub standing : Next → (n : ℕ) → Taking
-standing (HasHead head) n = Walk head
-standing HasNone n = NoHead (none_told (next_unless n HasNone))
-standing (HasRefused m) n = NoHead (none_told (next_unless n (HasRefused m)))
+unfoldable pub standing : Result (Option ℕ) Refusal → Result ⊤ Refusal → Taking
+standing (Ok (Some head)) admitted = Walk head
+standing (Ok None) admitted = NoHead (none_told (next_unless admitted (Ok None)))
+standing (Err refusal) admitted = NoHead (none_told (next_unless admitted (Err refusal)))
 
 unfoldable pub taking_of : Device → Queue → (blocks rows : ℕ) → (mem : List ℕ) (base : ℕ) → Taking
 taking_of d q blocks rows mem base =
-    cond (not (queue_ok q.taken d.pending)) (NoHead (Some (Refused 12)))
+    cond (not (queue_ok q.taken d.pending)) (NoHead (Some (Refused NoShape)))
     (standing (next_head mem base q) (ready_refusal d blocks rows))
 
 unfoldable pub walks : Taking → World → Queue → Guest → QueueOutcome
@@ -140,9 +141,10 @@ walks (Walk head) w q g = about head g.base q (took_head q head) (step w (Reques
 walks (NoHead t) w q g = unmoved t w q g.mem
 
 -- ---- the host's answer
--- the first number that is given, or 0
-abbrev pub first_given : (n m : ℕ) → ℕ
-first_given n m = cond (eqb n 0) m n
+-- the first refusal that is given, or none
+abbrev pub first_given : Result ⊤ Refusal → Result ⊤ Refusal → Result ⊤ Refusal
+first_given (Ok admitted) next = next
+first_given (Err refusal) next = Err refusal
 
 -- a head that is out can be reported where both rings lie inside (R13.5); with none out no ring is tested
 unfoldable pub can_report : Option ℕ → (len base : ℕ) → Queue → Bool
@@ -150,14 +152,14 @@ can_report None len base q = true
 can_report (Some head) len base q = rings_inside len base q
 
 -- R13.10: while a head is out 12, 8, 11 and then 14; where none is out they are the device's own
-unfoldable pub out_refusal : Option ℕ → Device → Queue → (blocks rows : ℕ) → Guest → ℕ
-out_refusal None d q blocks rows g = 0
+unfoldable pub out_refusal : Option ℕ → Device → Queue → (blocks rows : ℕ) → Guest → Result ⊤ Refusal
+out_refusal None d q blocks rows g = Ok tt
 out_refusal (Some head) d q blocks rows g =
-    first_given (pending_refusal d blocks rows) (cond (not (rings_inside (length g.mem) g.base q)) 14 0)
+    first_given (pending_refusal d blocks rows) (cond (not (rings_inside (length g.mem) g.base q)) (Err RingOutside) (Ok tt))
 
 -- before them the queue's part of 12
-unfoldable pub answer_refusal : Device → Queue → (blocks rows : ℕ) → Guest → ℕ
-answer_refusal d q blocks rows g = cond (not (queue_ok q.taken d.pending)) 12 (out_refusal q.taken d q blocks rows g)
+unfoldable pub answer_refusal : Device → Queue → (blocks rows : ℕ) → Guest → Result ⊤ Refusal
+answer_refusal d q blocks rows g = cond (not (queue_ok q.taken d.pending)) (Err NoShape) (out_refusal q.taken d q blocks rows g)
 
 -- the device's answer is about the head that is out, if one is
 unfoldable pub answers : Option ℕ → Queue → (base : ℕ) → Outcome → QueueOutcome
@@ -165,8 +167,9 @@ answers None q base o = aside q o
 answers (Some head) q base o = about head base q q o
 
 -- the outcome, unless the call is refused
-unfoldable pub unless_refused : (n : ℕ) → World → Queue → List ℕ → QueueOutcome → QueueOutcome
-unless_refused n w q bytes o = cond (eqb n 0) o (unmoved (Some (Refused n)) w q bytes)
+unfoldable pub unless_refused : Result ⊤ Refusal → World → Queue → List ℕ → QueueOutcome → QueueOutcome
+unless_refused (Ok admitted) w q bytes o = o
+unless_refused (Err refusal) w q bytes o = unmoved (Some (Refused refusal)) w q bytes
 
 abbrev pub host_answers : World → Queue → Guest → (ok : Bool) (host : ℕ) → QueueOutcome
 host_answers w q g ok host =
@@ -174,13 +177,13 @@ host_answers w q g ok host =
     (answers q.taken q g.base (step w (HostAnswer g ok host)))
 
 -- the same, as code finds it: where the head can be reported, the device's own call gives its refusals; where it cannot, a host call is pending (`by_refusal`)
-unfoldable pub outside_refusal : Device → (blocks rows : ℕ) → ℕ
-outside_refusal d blocks rows = cond (not (shaped_of d)) 12 (cond (not (tables_fit d blocks rows)) 11 14)
+unfoldable pub outside_refusal : Device → (blocks rows : ℕ) → Refusal
+outside_refusal d blocks rows = cond (not (shaped_of d)) NoShape (cond (not (tables_fit d blocks rows)) TooShort RingOutside)
 
-unfoldable pub queue_refusal : Device → Queue → (blocks rows len base : ℕ) → ℕ
+unfoldable pub queue_refusal : Device → Queue → (blocks rows len base : ℕ) → Result ⊤ Refusal
 queue_refusal d q blocks rows len base =
-    cond (not (queue_ok q.taken d.pending)) 12
-    (cond (can_report q.taken len base q) 0 (outside_refusal d blocks rows))
+    cond (not (queue_ok q.taken d.pending)) (Err NoShape)
+    (cond (can_report q.taken len base q) (Ok tt) (Err (outside_refusal d blocks rows)))
 
 -- ---- what code promises
 -- the head went where the ending says

@@ -9,7 +9,8 @@ ghost use Rattle.queue.specs.Queue.{next_unless, none_told, taking_of, can_repor
 ghost use Rattle.queue.specs.Queue.{serve_next, host_answers, TakesTurn};
 
 use record::{Device, Pending, shaped};
-use rings::{Next, Queue, index_after, next_head, report, rings_inside};
+use refusal::Refusal;
+use rings::{Queue, index_after, next_head, report, rings_inside};
 use serving::request;
 use step::{Answer, ready_refusal, tables_fit};
 use units::{GuestAddr, HostAddr};
@@ -30,7 +31,8 @@ pub enum Ending {
     Used(u32),
 }
 
-// What a call finds before a head is walked: the head, or what it tells where it takes none.
+// What a call finds before a head is walked: the head, or what it tells where it takes none. No Result: to tell that no
+// head is there is no error.
 #[derive(Clone, Copy)]
 pub enum Taking {
     Walk(u16),
@@ -42,17 +44,8 @@ fn discards(pending: Pending) -> bool
     ensures { result ≡ discarding pending }
 {
     match pending {
-        Pending::Nothing => false,
-        Pending::Create { first: _, last: _ } => false,
-        Pending::Discard {
-            first: _,
-            count: _,
-            status: _,
-        } => true,
-        Pending::DiscardOne {
-            block: _,
-            status: _,
-        } => true,
+        Pending::Discard { .. } | Pending::DiscardOne { .. } => true,
+        Pending::Nothing | Pending::Create { .. } => false,
     }
 }
 
@@ -60,10 +53,9 @@ fn discards(pending: Pending) -> bool
 fn queue_ok(taken: Option<u16>, pending: Pending) -> bool
     ensures { result ≡ queue_ok taken pending }
 {
-    let discarding = discards(pending);
     match taken {
         None => true,
-        Some(_) => discarding,
+        Some(_) => discards(pending),
     }
 }
 
@@ -139,16 +131,15 @@ fn tells(d: Device, q: Queue, answer: Option<Answer>) -> Turn
 }
 
 // What is told where no head is taken: the device's refusal first.
-fn none_told(number: u64, next: Next) -> Option<Answer>
-    ensures { result ≡ none_told (next_unless number next) }
+fn none_told(
+    admitted: Result<(), Refusal>,
+    next: Result<Option<u16>, Refusal>,
+) -> Option<Answer>
+    ensures { result ≡ none_told (next_unless admitted next) }
 {
-    if number != 0 {
-        return Some(Answer::Refused(number));
-    }
-    match next {
-        Next::Head(_) => None,
-        Next::Empty => None,
-        Next::Refused(n) => Some(Answer::Refused(n)),
+    match admitted.and(next) {
+        Ok(_) => None,
+        Err(refusal) => Some(Answer::Refused(refusal)),
     }
 }
 
@@ -166,12 +157,12 @@ pub fn next_taking(
     let taken = q.taken;
     let pending = d.pending;
     if !queue_ok(taken, pending) {
-        return Taking::NoHead(Some(Answer::Refused(12)));
+        return Taking::NoHead(Some(Answer::Refused(Refusal::NoShape)));
     }
     let next = next_head(mem, base, q);
-    let Next::Head(head) = next else {
-        let number = ready_refusal(d, bitmap, table);
-        return Taking::NoHead(none_told(number, next));
+    let Some(head) = next.ok().flatten() else {
+        let admitted = ready_refusal(d, bitmap, table);
+        return Taking::NoHead(none_told(admitted, next));
     };
     Taking::Walk(head)
 }
@@ -212,19 +203,19 @@ fn can_report(taken: Option<u16>, mem: &[u8], base: GuestAddr, q: Queue) -> bool
 
 // The refusal of a device that waits for the host, 12 or 11, and then 14. `pending_refusal` has both tests: with a
 // second caller it would no longer stand in the device's own call.
-fn outside_refusal(d: Device, bitmap: usize, table: usize) -> u64
+fn outside_refusal(d: Device, bitmap: usize, table: usize) -> Refusal
     ensures { result ≡ outside_refusal d (8 * bitmap) (table / 3) }
 {
     if !shaped(d) {
-        return 12;
+        return Refusal::NoShape;
     }
     if !tables_fit(d, bitmap, table) {
-        return 11;
+        return Refusal::TooShort;
     }
-    14
+    Refusal::RingOutside
 }
 
-// The number that the queue refuses a host's answer with. Where it is 0, the device's own call gives its refusals.
+// Whether the queue admits a host's answer. Where it does, the device's own call gives its refusals.
 pub fn queue_refusal(
     d: Device,
     q: Queue,
@@ -232,18 +223,18 @@ pub fn queue_refusal(
     table: usize,
     mem: &[u8],
     base: GuestAddr,
-) -> u64
+) -> Result<(), Refusal>
     ensures { result ≡ queue_refusal d q (8 * bitmap) (table / 3) (length mem.now) base.0 }
 {
     let taken = q.taken;
     let pending = d.pending;
     if !queue_ok(taken, pending) {
-        return 12;
+        return Err(Refusal::NoShape);
     }
     if can_report(taken, mem, base, q) {
-        return 0;
+        return Ok(());
     }
-    outside_refusal(d, bitmap, table)
+    Err(outside_refusal(d, bitmap, table))
 }
 
 // The host's answer to what it was asked last; it may end the request of the head that is out.
@@ -261,9 +252,8 @@ pub fn host_answer(
         (lent bitmap.old table.old mem.old)
         (lent bitmap.new table.new mem.new) result }
 {
-    let number = queue_refusal(d, q, bitmap.len(), table.len(), &mem[..], base);
-    if number != 0 {
-        return tells(d, q, Some(Answer::Refused(number)));
+    if let Err(refusal) = queue_refusal(d, q, bitmap.len(), table.len(), &mem[..], base) {
+        return tells(d, q, Some(Answer::Refused(refusal)));
     }
     let s = serving::host_answer(d, bitmap, table, mem, base, ok, host);
     let answer = s.answer;

@@ -1,20 +1,12 @@
 -- SPDX-License-Identifier: Apache-2.0 AND BSD-3-Clause
 -- `queue::next_taking` meets its contract: 12, no head, or the head that stands next.
-use Prim.Native.Nat.{ℕ}
-use mathlib.Core.Path.{◌≡◌, refl}
+use Rattle.std.specs.Prelude.{◌≡◌, Some, None}
+use Rattle.std.specs.Option.{option_flatten}
+use Rattle.std.specs.Result.{result_ok}
 use Rattle.units.proofs.Tests.{flag}
-use Rattle.rings.specs.declared.Next.{Next}
-use Rattle.rings.specs.declared.Next.TheVariants.{Head as HasHead, Empty as HasNone, Refused as HasRefused}
-use Rattle.queue.specs.declared.Taking.TheVariants.{NoHead}
-use Rattle.queue.specs.Queue.{next_unless, none_told, standing, taking_of}
+use Rattle.queue.specs.Queue.{taking_of}
+use Rattle.queue.proofs.Turns.{none_stands, head_stands}
 use Rattle.queue.proofs.next_taking.Goals as goal
-
--- where no head stands next
-none_stands : (x : Next) → ((head : ℕ) → x ≡ HasHead head → ⊥) → (n : ℕ) → standing x n ≡ NoHead (none_told (next_unless n x))
-unfolding standing
-none_stands (HasHead head) k n = absurd (k head refl)
-none_stands HasNone k n = refl
-none_stands (HasRefused m) k n = refl
 
 pub returns-then-not-queue_ok : goal.returns-then-not-queue_ok
 unfolding taking_of
@@ -23,9 +15,11 @@ returns-then-not-queue_ok c = rw (flag _ _ _ c.queue_ok.ensures c.if-not-queue_o
 pub returns-in_default : goal.returns-in_default
 unfolding taking_of
 returns-in_default c =
-    rw (flag _ _ _ c.queue_ok.ensures c.if-not-queue_ok.false, ← c.next_head-next.ensures, ← c.ready_refusal-number.ensures, none_stands _ c.in_default.not-Head _, ← c.none_told.ensures)
+    let none : option_flatten (result_ok c.next_head-next.result) ≡ None = cc (c.ok.ensures.value, c.flatten.ensures, c.in_default.is) in
+    rw (flag _ _ _ c.queue_ok.ensures c.if-not-queue_ok.false, ← c.next_head-next.ensures, ← c.ready_refusal-admitted.ensures, none_stands _ none _, ← c.none_told.ensures)
 
 pub returns : goal.returns
-unfolding taking_of standing
+unfolding taking_of
 returns c =
-    rw (flag _ _ _ c.queue_ok.ensures c.if-not-queue_ok.false, ← c.next_head-next.ensures, c.in-Head.is)
+    let some : option_flatten (result_ok c.next_head-next.result) ≡ Some c.in-Some.head = cc (c.ok.ensures.value, c.flatten.ensures, c.in-Some.is) in
+    rw (flag _ _ _ c.queue_ok.ensures c.if-not-queue_ok.false, ← c.next_head-next.ensures, head_stands _ _ some _)

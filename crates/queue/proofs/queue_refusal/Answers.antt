@@ -1,5 +1,7 @@
 -- SPDX-License-Identifier: Apache-2.0 AND BSD-3-Clause
 -- `queue::queue_refusal` meets its contract: 12, then nothing where the head can be reported, and 14 behind the device's numbers.
+use mathlib.Core.Path.{ap}
+use Rattle.std.specs.Prelude.{Err}
 use Rattle.units.proofs.Tests.{flag}
 use Rattle.queue.specs.Queue.{queue_refusal}
 use Rattle.queue.proofs.queue_refusal.Goals as goal
@@ -17,4 +19,4 @@ pub returns : goal.returns
 unfolding queue_refusal
 returns c =
     rw (flag _ _ _ c.queue_ok.ensures c.if-not-queue_ok.false, ← c.can_report.ensures, c.if-can_report.false)
-    c.outside_refusal.ensures
+    (ap Err c.outside_refusal.ensures)
