@@ -4,7 +4,6 @@
 
 ghost use Rattle.std.specs.Prelude.{◌≡◌, true, [], ◌+◌, ◌*◌, ◌≤◌};
 ghost use Rattle.units.specs.Numbers.{top, map_region};
-ghost use Rattle.record.specs.Shape.{shaped_of};
 ghost use Rattle.step.specs.World.{world_of, answered_by};
 ghost use Rattle.step.specs.Step.{asks_create, resized, placing, range_refusal};
 ghost use Rattle.step.specs.Promise.{lent, place_on, resize_on, Steps};
@@ -15,7 +14,7 @@ use record::{Device, HostCall, Pending, start_ok};
 use refusal::Refusal;
 use resize::{growth_of, new_size};
 use rows::{lay, slot_of};
-use step::{Answer, Answered, ready_refusal, refuse, sized, unplaced_refusal};
+use step::{Answer, Answered, Shaped, ready_refusal, refuse, sized, unplaced_refusal};
 use units::{GuestAddr, MemTool, RegionOffset, map_regions};
 
 // Asks for one creation that covers the rows from `first` to `last`.
@@ -45,10 +44,10 @@ fn ask_creation(d: Device, table: &[u64], first: u64, last: u64, size: u64) -> A
 }
 
 // Works out the usable size, or asks for the creation that its growth needs.
-fn resize(d: Device, table: &[u64]) -> Answered
-    requires { shaped_of d ≡ true }
-    ensures { result ≡ answered_by (resized (world_of d [] table.now)) }
+fn resize(shaped: Shaped, table: &[u64]) -> Answered
+    ensures { result ≡ answered_by (resized (world_of shaped.device [] table.now)) }
 {
+    let d = shaped.device;
     let config = d.config;
     let region = config.region_size;
     let new = new_size(
@@ -82,7 +81,7 @@ pub fn set_requested_size(d: Device, bitmap: &[u8], table: &[u64], requested_mib
     let requested = requested_mib * MemTool::MIB;
     let mut asked = d;
     asked.config.requested_size = requested;
-    resize(asked, table)
+    resize(Shaped { device: asked }, table)
 }
 
 // Whether placing passes its own tests: 3, 4.
@@ -104,12 +103,12 @@ fn range_refusal(d: Device, start: GuestAddr, size: u64, slots: u64) -> Result<(
 }
 
 // What placing asks for: a single region wants all of it created, several regions what the usable size wants.
-fn ask_placing(d: Device, table: &[u64]) -> Answered
-    requires { shaped_of d ≡ true }
-    ensures { result ≡ answered_by (placing (world_of d [] table.now)) }
+fn ask_placing(shaped: Shaped, table: &[u64]) -> Answered
+    ensures { result ≡ answered_by (placing (world_of shaped.device [] table.now)) }
 {
+    let d = shaped.device;
     if d.several {
-        return resize(d, table);
+        return resize(shaped, table);
     }
     ask_creation(d, table, 0, 0, d.config.region_size)
 }
@@ -142,5 +141,5 @@ pub fn place(
         config: config,
         ..d
     };
-    ask_placing(started, table)
+    ask_placing(Shaped { device: started }, table)
 }

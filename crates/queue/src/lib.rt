@@ -131,10 +131,7 @@ fn tells(d: Device, q: Queue, answer: Option<Answer>) -> Turn
 }
 
 // What is told where no head is taken: the device's refusal first.
-fn none_told(
-    admitted: Result<(), Refusal>,
-    next: Result<Option<u16>, Refusal>,
-) -> Option<Answer>
+fn none_told(admitted: Result<(), Refusal>, next: Result<Option<u16>, Refusal>) -> Option<Answer>
     ensures { result ≡ none_told (next_unless admitted next) }
 {
     match admitted.and(next) {

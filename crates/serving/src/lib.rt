@@ -5,7 +5,6 @@
 ghost use Rattle.std.specs.Prelude.{◌≡◌, true, [], ◌≤◌, ◌<◌};
 ghost use Rattle.record.specs.declared.HostCall.TheVariants.{Discard as DiscardCall};
 ghost use Rattle.record.specs.declared.Pending.TheVariants.{Create, Discard, DiscardOne};
-ghost use Rattle.record.specs.Shape.{shaped_of};
 ghost use Rattle.record.specs.Changes.{pending_to, plugged_to};
 ghost use Rattle.step.specs.declared.Answer.TheVariants.{Wants};
 ghost use Rattle.step.specs.World.{no_guest, world_of};
@@ -21,7 +20,9 @@ use change::{Reason, change_of, host_of, range_of, state_of};
 use record::{Device, HostCall, Pending};
 use refusal::Refusal;
 use rows::fill;
-use step::{Answer, Answered, Verdict, pending_refusal, ready_refusal, refuse, respond, sized};
+use step::{
+    Answer, Answered, Shaped, Verdict, pending_refusal, ready_refusal, refuse, respond, sized,
+};
 use units::{GuestAddr, HostAddr, MemTool, RegionOffset, saturating_sub, sum_within};
 use wire::{RequestType, VirtioMemConfig};
 
@@ -64,18 +65,18 @@ fn stopped(d: Device, mem: &mut [u8], base: GuestAddr, status: GuestAddr, why: R
 
 // A plug: NACK before every test of the range.
 fn plug(
-    d: Device,
+    shaped: Shaped,
     bitmap: &mut [u8],
     table: &[u64],
     mem: &mut [u8],
     base: GuestAddr,
     asks: Asked,
 ) -> Answered
-    requires { shaped_of d ≡ true }
-    ensures { Does (λ w. plug_of w asks.request.addr.0 asks.request.nb_blocks asks.status.0) d base
+    ensures { Does (λ w. plug_of w asks.request.addr.0 asks.request.nb_blocks asks.status.0) shaped.device base
         (lent bitmap.old table.now mem.old)
         (lent bitmap.new table.now mem.new) result }
 {
+    let d = shaped.device;
     let addr = asks.request.addr;
     let nb_blocks = asks.request.nb_blocks;
     let status = asks.status;
@@ -125,18 +126,18 @@ fn asked(d: Device, pending: Pending, offset: RegionOffset, size: u64, host: Hos
 
 // An unplug: one discard of the range, unless it is more than is plugged.
 fn unplug(
-    d: Device,
+    shaped: Shaped,
     bitmap: &[u8],
     table: &[u64],
     mem: &mut [u8],
     base: GuestAddr,
     asks: Asked,
 ) -> Answered
-    requires { shaped_of d ≡ true }
-    ensures { Does (λ w. unplug_of w asks.request.addr.0 asks.request.nb_blocks asks.status.0) d base
+    ensures { Does (λ w. unplug_of w asks.request.addr.0 asks.request.nb_blocks asks.status.0) shaped.device base
         (lent bitmap.now table.now mem.old)
         (lent bitmap.now table.now mem.new) result }
 {
+    let d = shaped.device;
     let addr = asks.request.addr;
     let nb_blocks = asks.request.nb_blocks;
     let status = asks.status;
@@ -165,7 +166,7 @@ fn unplug(
 // One plugged block of an unplug-all, which asks without a look at the plugged size. It is whole and in the region, so
 // of the tests (b) and (c) the usable size is left.
 fn unplug_one(
-    d: Device,
+    shaped: Shaped,
     bitmap: &[u8],
     table: &[u64],
     mem: &mut [u8],
@@ -173,12 +174,13 @@ fn unplug_one(
     block: u64,
     status: GuestAddr,
 ) -> Answered
-    requires { (shaped_of d ≡ true) × (block < blocks_in d.config.block_size d.config.region_size) ×
+    requires { (block < blocks_in shaped.device.config.block_size shaped.device.config.region_size) ×
         (block_at (blocks bitmap.now) block ≡ true) }
-    ensures { Does (λ w. unplug_one w block status.0) d base
+    ensures { Does (λ w. unplug_one w block status.0) shaped.device base
         (lent bitmap.now table.now mem.old)
         (lent bitmap.now table.now mem.new) result }
 {
+    let d = shaped.device;
     let block_size = d.config.block_size;
     let offset = RegionOffset(block * block_size);
     if d.config.usable_region_size <= offset.0 {
@@ -197,7 +199,7 @@ fn unplug_one(
 
 // The next block of an unplug-all from block `from` on, or its end.
 fn unplug_all(
-    d: Device,
+    shaped: Shaped,
     bitmap: &[u8],
     table: &[u64],
     mem: &mut [u8],
@@ -205,24 +207,24 @@ fn unplug_all(
     from: u64,
     status: GuestAddr,
 ) -> Answered
-    requires { shaped_of d ≡ true }
-    ensures { Does (λ w. unplug_all w from status.0) d base
+    ensures { Does (λ w. unplug_all w from status.0) shaped.device base
         (lent bitmap.now table.now mem.old)
         (lent bitmap.now table.now mem.new) result }
 {
+    let d = shaped.device;
     let end = MemTool::blocks_in(d.config.region_size, d.config.block_size);
     let Some(block) = next_set(bitmap, from as usize, end as usize) else {
         let none = pending_to(plugged_to(d, 0), Pending::Nothing);
         return respond(none, mem, base, status, Verdict::ack());
     };
-    unplug_one(d, bitmap, table, mem, base, block as u64, status)
+    unplug_one(shaped, bitmap, table, mem, base, block as u64, status)
 }
 
 // What a state request comes to.
-fn state(d: Device, bitmap: &[u8], addr: GuestAddr, nb_blocks: u16) -> Verdict
-    requires { shaped_of d ≡ true }
-    ensures { result ≡ state_verdict (world_of d bitmap.now []) addr.0 nb_blocks }
+fn state(shaped: Shaped, bitmap: &[u8], addr: GuestAddr, nb_blocks: u16) -> Verdict
+    ensures { result ≡ state_verdict (world_of shaped.device bitmap.now []) addr.0 nb_blocks }
 {
+    let d = shaped.device;
     let start = d.config.addr;
     let usable = d.config.usable_region_size;
     let region = d.config.region_size;
@@ -236,18 +238,18 @@ fn state(d: Device, bitmap: &[u8], addr: GuestAddr, nb_blocks: u16) -> Verdict
 
 // A request, by its type.
 fn serve(
-    d: Device,
+    shaped: Shaped,
     bitmap: &mut [u8],
     table: &[u64],
     mem: &mut [u8],
     base: GuestAddr,
     asks: Asked,
 ) -> Answered
-    requires { shaped_of d ≡ true }
-    ensures { Does (λ w. serve_of w asks.request asks.status.0) d base
+    ensures { Does (λ w. serve_of w asks.request asks.status.0) shaped.device base
         (lent bitmap.old table.now mem.old)
         (lent bitmap.new table.now mem.new) result }
 {
+    let d = shaped.device;
     let req = asks.request;
     let status = asks.status;
     let Ok(req_type) = RequestType::try_from(req.req_type) else {
@@ -257,11 +259,11 @@ fn serve(
         };
     };
     match req_type {
-        RequestType::Plug => plug(d, bitmap, table, mem, base, asks),
-        RequestType::Unplug => unplug(d, &bitmap[..], table, mem, base, asks),
-        RequestType::UnplugAll => unplug_all(d, &bitmap[..], table, mem, base, 0, status),
+        RequestType::Plug => plug(shaped, bitmap, table, mem, base, asks),
+        RequestType::Unplug => unplug(shaped, &bitmap[..], table, mem, base, asks),
+        RequestType::UnplugAll => unplug_all(shaped, &bitmap[..], table, mem, base, 0, status),
         RequestType::State => {
-            let verdict = state(d, &bitmap[..], req.addr, req.nb_blocks);
+            let verdict = state(shaped, &bitmap[..], req.addr, req.nb_blocks);
             respond(d, mem, base, status, verdict)
         }
     }
@@ -285,7 +287,10 @@ pub fn request(
         return refuse(d, refusal);
     }
     match parse(&mem[..], base, descriptors, head) {
-        Ok(asks) => serve(d, bitmap, table, mem, base, asks),
+        Ok(asks) => {
+            let shaped = Shaped { device: d };
+            serve(shaped, bitmap, table, mem, base, asks)
+        }
         Err(reason) => Answered {
             device: d,
             answer: Answer::Unserved(reason),
@@ -295,7 +300,7 @@ pub fn request(
 
 // The host's answer to the discard of an unplug.
 fn unplug_answered(
-    d: Device,
+    shaped: Shaped,
     bitmap: &mut [u8],
     table: &[u64],
     mem: &mut [u8],
@@ -305,11 +310,12 @@ fn unplug_answered(
     status: GuestAddr,
     ok: bool,
 ) -> Answered
-    requires { (shaped_of d ≡ true) × (d.pending ≡ Discard first count status) }
-    ensures { Does (λ w g. host_answer (Discard first count status) w g ok 0) d base
+    requires { shaped.device.pending ≡ Discard first count status }
+    ensures { Does (λ w g. host_answer (Discard first count status) w g ok 0) shaped.device base
         (lent bitmap.old table.now mem.old)
         (lent bitmap.new table.now mem.new) result }
 {
+    let d = shaped.device;
     if !ok {
         return stopped(d, mem, base, status, FAILED_DISCARD);
     }
@@ -322,7 +328,7 @@ fn unplug_answered(
 // The host's answer to the discard of one block of an unplug-all: the block is cleared and its size taken off at once,
 // and the unplug-all goes on behind it. The plugged size never goes below 0, which only a spoiled bitmap could bring.
 fn one_answered(
-    d: Device,
+    shaped: Shaped,
     bitmap: &mut [u8],
     table: &[u64],
     mem: &mut [u8],
@@ -331,17 +337,20 @@ fn one_answered(
     status: GuestAddr,
     ok: bool,
 ) -> Answered
-    requires { (shaped_of d ≡ true) × (d.pending ≡ DiscardOne block status) }
-    ensures { Does (λ w g. host_answer (DiscardOne block status) w g ok 0) d base
+    requires { shaped.device.pending ≡ DiscardOne block status }
+    ensures { Does (λ w g. host_answer (DiscardOne block status) w g ok 0) shaped.device base
         (lent bitmap.old table.now mem.old)
         (lent bitmap.new table.now mem.new) result }
 {
+    let d = shaped.device;
     if !ok {
         return stopped(d, mem, base, status, FAILED_DISCARD);
     }
     let left = saturating_sub(d.config.plugged_size, d.config.block_size);
     set_range(bitmap, block as usize, 1, false);
-    let cleared = pending_to(plugged_to(d, left), Pending::Nothing);
+    let cleared = Shaped {
+        device: pending_to(plugged_to(d, left), Pending::Nothing),
+    };
     unplug_all(cleared, &bitmap[..], table, mem, base, block + 1, status)
 }
 
@@ -357,12 +366,12 @@ fn covered_by(d: Device, first: u64, last: u64) -> u64
 }
 
 // The creation that covers the rows from `first` to `last` is done: they are mapped from `host` on.
-fn created(d: Device, table: &mut [u64], first: u64, last: u64, host: HostAddr) -> Answered
-    requires { shaped_of d ≡ true }
-    ensures { Gives (creates (world_of d [] table.old) first last host.0 [])
+fn created(shaped: Shaped, table: &mut [u64], first: u64, last: u64, host: HostAddr) -> Answered
+    ensures { Gives (creates (world_of shaped.device [] table.old) first last host.0 [])
         (lent [] table.old [])
         (lent [] table.new []) result }
 {
+    let d = shaped.device;
     fill(table, first, last, host);
     Answered {
         device: pending_to(sized(d), Pending::Nothing),
@@ -372,25 +381,26 @@ fn created(d: Device, table: &mut [u64], first: u64, last: u64, host: HostAddr) 
 
 // The host's answer to a creation. Where it failed the device waits for nothing, and all else stands.
 fn creation_answered(
-    d: Device,
+    shaped: Shaped,
     table: &mut [u64],
     first: u64,
     last: u64,
     ok: bool,
     host: HostAddr,
 ) -> Answered
-    requires { (shaped_of d ≡ true) × (d.pending ≡ Create first last) }
-    ensures { Gives (host_answer (Create first last) (world_of d [] table.old) no_guest ok host.0)
+    requires { shaped.device.pending ≡ Create first last }
+    ensures { Gives (host_answer (Create first last) (world_of shaped.device [] table.old) no_guest ok host.0)
         (lent [] table.old [])
         (lent [] table.new []) result }
 {
+    let d = shaped.device;
     if !ok {
         return refuse(pending_to(d, Pending::Nothing), Refusal::CreationFailed);
     }
     if !sum_within(host.0, covered_by(d, first, last), u64::MAX) {
         return refuse(d, Refusal::HostPastTop);
     }
-    created(d, table, first, last, host)
+    created(shaped, table, first, last, host)
 }
 
 // The host's answer to what it was asked last. A creation's has a host address; a discard's is heard without one.
@@ -410,17 +420,28 @@ pub fn host_answer(
     if let Err(refusal) = pending_refusal(d, bitmap.len(), table.len()) {
         return refuse(d, refusal);
     }
+    let shaped = Shaped { device: d };
     let pending = d.pending;
     match pending {
         Pending::Nothing => refuse(d, Refusal::NothingPending),
-        Pending::Create { first, last } => creation_answered(d, table, first, last, ok, host),
+        Pending::Create { first, last } => creation_answered(shaped, table, first, last, ok, host),
         Pending::Discard {
             first,
             count,
             status,
-        } => unplug_answered(d, bitmap, &table[..], mem, base, first, count, status, ok),
+        } => unplug_answered(
+            shaped,
+            bitmap,
+            &table[..],
+            mem,
+            base,
+            first,
+            count,
+            status,
+            ok,
+        ),
         Pending::DiscardOne { block, status } => {
-            one_answered(d, bitmap, &table[..], mem, base, block, status, ok)
+            one_answered(shaped, bitmap, &table[..], mem, base, block, status, ok)
         }
     }
 }

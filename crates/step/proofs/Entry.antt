@@ -23,11 +23,6 @@ past_not : (t : Bool) (x : Result ⊤ Refusal) (k : Refusal) → cond t (Err k) 
 past_not true x k e = let z : ◌≡◌ {A = ℕ} 0 1 = cc in absurd (omega arith)
 past_not false x k e = (refl, e)
 
--- what the tests admit where they do not refuse
-pub admitted_ok : (admitted : Result ⊤ Refusal) → ((refusal : Refusal) → admitted ≡ Err refusal → ⊥) → admitted ≡ Ok tt
-admitted_ok (Ok u) k = refl
-admitted_ok (Err refusal) k = absurd (k refusal refl)
-
 -- a request and a size change
 pub record Ready (d : Device) (blocks rows : ℕ) : Type 0 where
   pub shaped : shaped_of d ≡ true

@@ -10,8 +10,11 @@ ghost use Rattle.step.specs.Step.{tables_fit, ready_refusal, unplaced_refusal, p
 ghost use Rattle.step.specs.Step.{served, verdict, ack, nack, error};
 ghost use Rattle.step.specs.Promise.{lent, Does};
 
+mod ready;
+
 use chain::{NoRequest, deliver};
 use change::Reason;
+pub use ready::Shaped;
 use record::{Device, HostCall, is_idle, shaped};
 use refusal::Refusal;
 use resize::{grown_size, new_size};

@@ -12,7 +12,7 @@ returns-in_default c =
 
 pub ask_creation-requires : goal.ask_creation-requires
 ask_creation-requires c =
-    asked_within c.args.d c.requires _ _ _ _ _ _ (sym c.growth_of-growth.ensures ∙ c.in-Some.is)
+    asked_within c.args.shaped.device c.args.shaped.shape _ _ _ _ _ _ (sym c.growth_of-growth.ensures ∙ c.in-Some.is)
 
 pub returns : goal.returns
 unfolding resizes

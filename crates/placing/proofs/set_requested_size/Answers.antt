@@ -12,7 +12,7 @@ use Rattle.record.specs.Changes.{requested_to}
 use Rattle.refusal.specs.declared.Refusal.TheVariants.{WrongSize}
 use Rattle.step.specs.World.{world_of}
 use Rattle.step.specs.Step.{step, device_of, set_requested_size}
-use Rattle.step.proofs.Entry.{admitted_ok, ready_is}
+use Rattle.step.proofs.Entry.{ready_is}
 use Rattle.making.proofs.Asked.{Asked, asked_is}
 use Rattle.placing.proofs.Laws.{resizes_gives}
 use Rattle.step.proofs.Giving.{refused_gives, stops, goes_on}
@@ -21,7 +21,7 @@ use Rattle.placing.proofs.set_requested_size.Goals.{In_default, Else-requested_r
 
 -- past 12, 7, 5 and 11
 shape : (c : In_default) → shaped_of c.args.d ≡ true
-shape c = (ready_is _ _ _ (sym c.ready_refusal.ensures ∙ admitted_ok _ c.in_default.not-Err)).shaped
+shape c = (ready_is _ _ _ (sym c.ready_refusal.ensures ∙ c.in_default.is)).shaped
 
 -- past 1
 size : (c : Else-requested_refused) → (let a = c.args in Asked a.d.config.block_size (a.requested_mib * 1048576) a.d.config.region_size)
@@ -35,7 +35,7 @@ pub returns-then-requested_refused : goal.returns-then-requested_refused
 unfolding step set_requested_size
 returns-then-requested_refused c =
     simp (blocks-length, count, ← c.ready_refusal.ensures)
-    (goes_on _ _ _ _ _ _ _ (admitted_ok _ c.in_default.not-Err)
+    (goes_on _ _ _ _ _ _ _ c.in_default.is
     (refused_gives _ _ WrongSize _ _
     (simp (← c.requested_refused.ensures, c.if-requested_refused.true))
     c.refuse-then-requested_refused.ensures))
@@ -43,12 +43,12 @@ returns-then-requested_refused c =
 pub overflow_mul-requested : goal.overflow_mul-requested
 overflow_mul-requested c = omega (arith, (size (goal.at.overflow_mul-requested c).Else-requested_refused).within)
 
-pub resize-requires : goal.resize-requires
-resize-requires c =
+pub invariant_of-resize : goal.invariant_of-resize
+invariant_of-resize c =
     let d = c.args.d in
-    let before = shape (goal.at.resize-requires c).In_default in
-    let after = requested_keeps _ before _ (rw (shaped_is d before).block_size at (size (goal.at.resize-requires c).Else-requested_refused).whole) (size (goal.at.resize-requires c).Else-requested_refused).within in
-    cc
+    let before = shape (goal.at.invariant_of-resize c).In_default in
+    let after = requested_keeps _ before _ (rw (shaped_is d before).block_size at (size (goal.at.invariant_of-resize c).Else-requested_refused).whole) (size (goal.at.invariant_of-resize c).Else-requested_refused).within in
+    record { shape = cc }
 
 pub returns : goal.returns
 unfolding step set_requested_size
@@ -56,6 +56,6 @@ returns c =
     let a = c.args in
     let bytes = a.requested_mib * 1048576 in
     simp (blocks-length, count, ← c.ready_refusal.ensures)
-    (goes_on _ _ _ _ _ _ _ (admitted_ok _ c.in_default.not-Err)
+    (goes_on _ _ _ _ _ _ _ c.in_default.is
     (simp (← c.requested_refused.ensures, c.if-requested_refused.false)
     (resizes_gives _ (device_of (requested_to bytes a.d) (world_of a.d a.bitmap.now a.table.now)) _ _ _ c.resize.ensures refl (sym (whole _)) refl)))

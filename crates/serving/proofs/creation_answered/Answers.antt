@@ -10,9 +10,8 @@ returns-then-not-ok c = failed _ _ _ _ _ _ _ _ c.pending_to.ensures c.if-not-ok.
 
 pub covered_by-requires : goal.covered_by-requires
 covered_by-requires c =
-    let p = c.requires in
-    let r = create_is _ p.0 _ _ p.1 in
-    let s = shaped_is _ p.0 in
+    let r = create_is _ c.args.shaped.shape _ _ c.requires in
+    let s = shaped_is _ c.args.shaped.shape in
     (r.ordered, omega (arith, r.inside, s.rows_few))
 
 pub returns-then-not-sum_within : goal.returns-then-not-sum_within

@@ -7,7 +7,7 @@ use Rattle.step.specs.Step.{state_type}
 use Rattle.serving.proofs.state.Goals as goal
 
 pub overflow_cast-block_size : goal.overflow_cast-block_size
-overflow_cast-block_size c = let shape = shaped_is _ c.requires in omega arith
+overflow_cast-block_size c = let shape = shaped_is _ c.args.shaped.shape in omega arith
 
 pub returns-in-Ok : goal.returns-in-Ok
 unfolding state_type

@@ -8,21 +8,21 @@ use Rattle.serving.proofs.Entries.{unplug_fails, unplug_done}
 use Rattle.serving.proofs.unplug_answered.Goals as goal
 
 pub returns-then-not-ok : goal.returns-then-not-ok
-returns-then-not-ok c = unplug_fails _ _ _ c.requires.0 _ _ _ _ _ _ c.if-not-ok.true c.stopped.ensures
+returns-then-not-ok c = unplug_fails _ _ _ c.args.shaped.shape _ _ _ _ _ _ c.if-not-ok.true c.stopped.ensures
 
 pub overflow_mul-left : goal.overflow_mul-left
 overflow_mul-left c =
     let a = c.args in
-    let shape = shaped_is _ c.requires.0 in
-    let same : a.count * a.d.config.block_size ≡ a.count * 4194304 = rw shape.block_size in
-    omega (arith, shape, same, discard_is _ c.requires.0 _ _ _ c.requires.1)
+    let shape = shaped_is _ c.args.shaped.shape in
+    let same : a.count * a.shaped.device.config.block_size ≡ a.count * 4194304 = rw shape.block_size in
+    omega (arith, shape, same, discard_is _ c.args.shaped.shape _ _ _ c.requires)
 
 pub overflow_sub-left : goal.overflow_sub-left
 overflow_sub-left c =
     let a = c.args in
-    let shape = shaped_is _ c.requires.0 in
-    let same : a.count * a.d.config.block_size ≡ a.count * 4194304 = rw shape.block_size in
-    omega (arith, shape, same, discard_is _ c.requires.0 _ _ _ c.requires.1)
+    let shape = shaped_is _ c.args.shaped.shape in
+    let same : a.count * a.shaped.device.config.block_size ≡ a.count * 4194304 = rw shape.block_size in
+    omega (arith, shape, same, discard_is _ c.args.shaped.shape _ _ _ c.requires)
 
 pub returns : goal.returns
-returns c = unplug_done _ _ _ c.requires.0 _ _ _ _ _ _ c.if-not-ok.false _ c.set_range.ensures _ _ c.plugged_to.ensures c.pending_to-unplugged.ensures (rw c.ack.ensures at c.respond.ensures)
+returns c = unplug_done _ _ _ c.args.shaped.shape _ _ _ _ _ _ c.if-not-ok.false _ c.set_range.ensures _ _ c.plugged_to.ensures c.pending_to-unplugged.ensures (rw c.ack.ensures at c.respond.ensures)

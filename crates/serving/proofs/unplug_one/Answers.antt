@@ -5,13 +5,13 @@ use Rattle.serving.proofs.Ways.{block_fits, one_past, one_errs, one_asks}
 use Rattle.serving.proofs.unplug_one.Goals as goal
 
 pub overflow_mul-offset : goal.overflow_mul-offset
-overflow_mul-offset c = let fits = block_fits _ c.requires.0 _ c.requires.1 in omega arith
+overflow_mul-offset c = let fits = block_fits _ c.args.shaped.shape _ c.requires.0 in omega arith
 
 pub returns-then-d-offset : goal.returns-then-d-offset
-returns-then-d-offset c = one_past _ _ _ c.requires.0 _ _ _ _ c.requires.1 c.requires.2 c.if-d-offset.true c.stopped.ensures
+returns-then-d-offset c = one_past _ _ _ c.args.shaped.shape _ _ _ _ c.requires.0 c.requires.1 c.if-d-offset.true c.stopped.ensures
 
 pub returns-in-Err : goal.returns-in-Err
-returns-in-Err c = one_errs _ _ _ c.requires.0 _ _ _ _ c.requires.1 c.requires.2 c.if-d-offset.false _ c.host_of.ensures _ c.in-Err.is c.stopped-in-Err.ensures
+returns-in-Err c = one_errs _ _ _ c.args.shaped.shape _ _ _ _ c.requires.0 c.requires.1 c.if-d-offset.false _ c.host_of.ensures _ c.in-Err.is c.stopped-in-Err.ensures
 
 pub returns : goal.returns
-returns c = one_asks _ _ _ c.requires.0 _ _ _ _ c.requires.1 c.requires.2 c.if-d-offset.false _ c.host_of.ensures _ c.in-Ok.is c.asked.ensures
+returns c = one_asks _ _ _ c.args.shaped.shape _ _ _ _ c.requires.0 c.requires.1 c.if-d-offset.false _ c.host_of.ensures _ c.in-Ok.is c.asked.ensures
