@@ -2,11 +2,12 @@
 -- Laws on numbers as bytes and on bytes written at a place. Every caller cites them.
 use Prim.Native.Nat.{ℕ, zero, suc, ◌+◌, ◌-◌, ◌*◌, ◌/◌, ◌%◌, ◌^◌, ◌≤◌, ◌<◌, min}
 use mathlib.Core.Path.{◌≡◌, refl, sym, ap, ◌∙◌}
-use mathlib.Core.List.{List, [], ◌∷◌, ◌++◌, append_assoc}
-use native.Mathlib.Nat.{pow-succ', one-le-pow, div-one, div-div-eq-div-mul, mul_assoc, mul_comm, add-mul-mod_self_left, mod-lt, mod-one, mod-eq_of_lt, div-add-mod, zero-add, suc-add, zero-sub, suc-sub-suc, sub-zero}
+use mathlib.Core.List.{List, [], ◌∷◌, ◌++◌, append-nil, append_assoc}
+use borrow.Rule.Slice.PartMut.{put_mid}
+use native.Mathlib.Nat.{pow-succ', one-le-pow, div-one, div-div-eq-div-mul, mul_assoc, mul_comm, add-mul-mod_self_left, mod-lt, mod-one, mod-eq_of_lt, div-add-mod, zero-add, zero-sub, suc-sub-suc, sub-zero}
 use native.Mathlib.Omega.{arith}
 use native.Mathlib.Numerals.{add-one}
-use lib.ListN.{length, take, drop, get_or, set, replicate, length-take, length-drop, length-set, length-replicate}
+use lib.ListN.{length, take, drop, get_or, set, replicate, length-take, length-drop, length-set, length-replicate, drop_of_length-le}
 use Rattle.std.specs.Int.{sum_through, byte_worth, byte_at, bytes_low_first}
 use lib.Seq.{take_all, drop-cons, sets, sets-eq, set_out, take-set-le, drop-set-lt, drop-set-add, take-take, take-add, drop-drop, take_at, drop_at, length-take-le, take-nil, drop-nil}
 use Rattle.little_endian.specs.Bytes.{value, little_endian, part, put}
@@ -44,11 +45,12 @@ unfolding value
 value_append [] ys = omega arith
 value_append (x ∷ xs) ys = rw (value_append xs ys, pow-succ', mul_assoc) (omega arith)
 
--- a number of a + b bytes is its a lowest bytes and the b above them
-little_endian_append : (a b v : ℕ) → little_endian (a + b) v ≡ little_endian a v ++ little_endian b (v / 256 ^ a)
+-- the n lowest bytes of a number's m
+pub take-little_endian : (n m v : ℕ) → n ≤ m → take n (little_endian m v) ≡ little_endian n v
 unfolding little_endian
-little_endian_append zero b v = rw (zero-add, div-one)
-little_endian_append (suc a) b v = rw (suc-add, pow-succ', ← div-div-eq-div-mul v 256 (256 ^ a), ← little_endian_append a b (v / 256))
+take-little_endian zero m v h = refl
+take-little_endian (suc n) zero v h = absurd (omega arith)
+take-little_endian (suc n) (suc m) v h = rw (take-little_endian n m (v / 256) (omega arith))
 
 -- ---- bytes written at a place
 
@@ -93,12 +95,11 @@ put_start (x ∷ xs) (y ∷ ys) =
     let e : min (suc (length xs)) (suc (length ys)) ≡ suc (min (length xs) (length ys)) = omega arith in
     rw e (put_cons y xs 0 ys ∙ ap (λ (l : List ℕ). y ∷ l) (put_start xs ys))
 
--- so are the two halves of a number
-pub put_halves : (xs : List ℕ) (at a b v : ℕ) {ys zs : List ℕ} → ys ≡ put xs at (little_endian a v)
-    → zs ≡ put ys (at + a) (little_endian b (v / 256 ^ a)) → zs ≡ put xs at (little_endian (a + b) v)
-put_halves xs at a b v e f =
-    let n : length (little_endian a v) ≡ a = length-little_endian a v in
-    rw (little_endian_append a b v, put_append, n, ← e) f
+-- a slice from a place on, with ys written from its start on
+pub put_rest : (xs ys : List ℕ) (at : ℕ) → put_mid at (length xs - at) xs (put (drop at xs) 0 ys) ≡ put xs at ys
+put_rest xs ys at =
+    let e : drop (length xs - at) (drop at xs) ≡ [] = drop_of_length-le (drop at xs) (omega (arith, length-drop at xs)) in
+    rw (e, append-nil) (sym (put_from xs at ys))
 
 -- the bytes behind what is written stay
 pub drop-put : (n : ℕ) (xs : List ℕ) (at : ℕ) (ys : List ℕ) → at + length ys ≤ n → drop n (put xs at ys) ≡ drop n xs
