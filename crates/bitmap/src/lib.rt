@@ -10,7 +10,6 @@ ghost use Rattle.bitmap.specs.Blocks.{next_in_state, next_set, next_clear};
 ghost use Rattle.bitmap.specs.Whole.{whole, wholes};
 
 use little_endian::read_u64;
-use units::smaller;
 
 // The block that a search ended at.
 #[derive(Clone, Copy)]
@@ -98,10 +97,8 @@ fn put_bytes(bitmap: &mut [u8], from: usize, to: usize, v: bool)
     ensures { Filled bitmap.old bitmap.new (8 * from) (8 * (to - from)) v }
 {
     let byte = whole_byte(v);
-    let mut j = from;
-    while j < to {
+    for j in from..to {
         bitmap[j] = byte;
-        j += 1;
     }
 }
 
@@ -162,7 +159,7 @@ pub fn all_in_state(bitmap: &[u8], first: usize, count: usize, plugged: bool) ->
     }
     let from = p.from;
     let to = p.to;
-    let end = smaller(to as u64, bitmap.len() as u64) as usize;
+    let end = to.min(bitmap.len());
     if !bytes_are(&bitmap[from..end], plugged) {
         return false;
     }
@@ -188,7 +185,7 @@ pub fn set_range(bitmap: &mut [u8], first: usize, count: usize, plugged: bool)
     let p = parts_of(first, count);
     bitmap[j] = put(bitmap[j], k, p.head, plugged);
     let to = p.to;
-    let end = smaller(to as u64, bitmap.len() as u64) as usize;
+    let end = to.min(bitmap.len());
     put_bytes(bitmap, p.from, end, plugged);
     if bitmap.len() <= to {
         return;
@@ -197,7 +194,7 @@ pub fn set_range(bitmap: &mut [u8], first: usize, count: usize, plugged: bool)
 }
 
 // The lowest block in this state that exists from `from` up to, not including, `end`. A byte without one is passed at
-// once.
+// once, so the steps are of one and of eight blocks, which no iterator takes: j, k and `at` go on by hand.
 fn next_of(bitmap: &[u8], from: usize, end: usize, v: bool) -> Found
     ensures { result ≡ next_in_state v (blocks bitmap.now) from end }
 {
