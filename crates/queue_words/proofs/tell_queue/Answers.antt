@@ -3,7 +3,7 @@
 use Rattle.queue_words.proofs.tell_queue.Goals as goal
 
 pub returns-in-Empty : goal.returns-in-Empty
-returns-in-Empty c = record { value = rw c.in-Empty.is; words_after = rw c.in-Empty.is c.write_words.ensures }
+returns-in-Empty c = record { value = rw c.in-Empty.is; words_after = rw c.in-Empty.is c.write_all.ensures }
 
 pub returns-in-Of : goal.returns-in-Of
 returns-in-Of c = record { value = rw c.in-Of.is c.tell.ensures.value; words_after = rw c.in-Of.is c.tell.ensures.words_after }
