@@ -10,7 +10,6 @@ ghost use Rattle.bitmap.specs.Blocks.{next_in_state, next_set, next_clear};
 ghost use Rattle.bitmap.specs.Whole.{whole, wholes};
 
 use little_endian::read_u64;
-use units::smaller;
 
 // Bit k of a byte.
 fn bit(b: u8, k: usize) -> bool
@@ -91,10 +90,8 @@ fn put_bytes(bitmap: &mut [u8], from: usize, to: usize, v: bool)
     ensures { Filled bitmap.old bitmap.new (8 * from) (8 * (to - from)) v }
 {
     let byte = whole_byte(v);
-    let mut j = from;
-    while j < to {
+    for j in from..to {
         bitmap[j] = byte;
-        j += 1;
     }
 }
 
@@ -155,7 +152,7 @@ pub fn all_in_state(bitmap: &[u8], first: usize, count: usize, plugged: bool) ->
     }
     let from = p.from;
     let to = p.to;
-    let end = smaller(to as u64, bitmap.len() as u64) as usize;
+    let end = to.min(bitmap.len());
     if !bytes_are(&bitmap[from..end], plugged) {
         return false;
     }
@@ -181,7 +178,7 @@ pub fn set_range(bitmap: &mut [u8], first: usize, count: usize, plugged: bool)
     let p = parts_of(first, count);
     bitmap[j] = put(bitmap[j], k, p.head, plugged);
     let to = p.to;
-    let end = smaller(to as u64, bitmap.len() as u64) as usize;
+    let end = to.min(bitmap.len());
     put_bytes(bitmap, p.from, end, plugged);
     if bitmap.len() <= to {
         return;
@@ -190,7 +187,7 @@ pub fn set_range(bitmap: &mut [u8], first: usize, count: usize, plugged: bool)
 }
 
 // The lowest block in this state that exists from `from` up to, not including, `end`. A byte without one is passed at
-// once.
+// once, so the steps are of one and of eight blocks, which no iterator takes: j, k and `at` go on by hand.
 fn next_of(bitmap: &[u8], from: usize, end: usize, v: bool) -> Option<usize>
     ensures { result ≡ next_in_state v (blocks bitmap.now) from end }
 {

@@ -11,7 +11,7 @@ ghost use Rattle.driver.specs.Plan.{border_after, stop_at, stop_of, room_of, pla
 use bitmap::{next_clear, next_set};
 use little_endian::{read_u16, read_u64, write_u64};
 use record::config_shaped;
-use units::{GuestAddr, MemTool, saturating_sub, smaller};
+use units::{GuestAddr, MemTool};
 use wire::{VirtioMemConfig, VirtioMemReq, VirtioMemResp};
 
 // A response as read, or 16.
@@ -102,7 +102,7 @@ pub fn read_config(bytes: &[u8]) -> GotConfig
 fn too_short(bitmap: &[u8], needed: u64) -> bool
     ensures { result ≡ ltb (length (blocks bitmap.now)) needed }
 {
-    (bitmap.len() as u64) < needed / 8 + (needed % 8 + 7) / 8
+    (bitmap.len() as u64) < needed.div_ceil(8)
 }
 
 // The block behind the 2 GiB border of offsets that comes next.
@@ -129,7 +129,7 @@ fn room_of(block_size: u64, plugged: u64, requested: u64) -> u64
     requires { 0 < block_size }
     ensures { result ≡ room_of block_size plugged requested }
 {
-    saturating_sub(requested, plugged) / block_size
+    requested.saturating_sub(plugged) / block_size
 }
 
 // How many blocks a plug from `first` on takes, of those that there is room for.
@@ -139,8 +139,8 @@ fn count_of(bitmap: &[u8], block_size: u64, usable: u64, first: u64, room: u64) 
     ensures { result ≡ min (stop_of block_size usable (blocks bitmap.now) first - first) room }
 {
     let border = border_after(block_size, first);
-    let stop = stop_at(bitmap, first, smaller(usable / block_size, border));
-    smaller(stop - first, room)
+    let stop = stop_at(bitmap, first, (usable / block_size).min(border));
+    (stop - first).min(room)
 }
 
 // Proposes the plug that starts at the lowest free block and takes all blocks up to the next plugged one, the 2 GiB

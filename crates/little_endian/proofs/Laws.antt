@@ -1,12 +1,15 @@
 -- SPDX-License-Identifier: Apache-2.0 AND BSD-3-Clause
 -- Laws on numbers as bytes and on bytes written at a place. Every caller cites them.
-use Prim.Native.Nat.{ℕ, zero, suc, ◌+◌, ◌-◌, ◌*◌, ◌/◌, ◌%◌, ◌^◌, ◌≤◌, ◌<◌}
+use Prim.Native.Nat.{ℕ, zero, suc, ◌+◌, ◌-◌, ◌*◌, ◌/◌, ◌%◌, ◌^◌, ◌≤◌, ◌<◌, min}
 use mathlib.Core.Path.{◌≡◌, refl, sym, ap, ◌∙◌}
-use mathlib.Core.List.{List, [], ◌∷◌, ◌++◌, append_assoc}
-use native.Mathlib.Nat.{pow-succ', one-le-pow, div-one, div-div-eq-div-mul, mul_assoc, mul_comm, add-mul-mod_self_left, mod-lt, mod-one, mod-eq_of_lt, div-add-mod, zero-add, suc-add, zero-sub, suc-sub-suc, sub-zero}
+use mathlib.Core.List.{List, [], ◌∷◌, ◌++◌, append-nil, append_assoc}
+use borrow.Rule.Slice.PartMut.{put_mid}
+use native.Mathlib.Nat.{pow-succ', one-le-pow, div-one, div-div-eq-div-mul, mul_assoc, mul_comm, add-mul-mod_self_left, mod-lt, mod-one, mod-eq_of_lt, div-add-mod, zero-add, zero-sub, suc-sub-suc, sub-zero}
 use native.Mathlib.Omega.{arith}
-use lib.ListN.{length, take, drop, get_or, set, replicate, length-take, length-drop, length-set, length-replicate}
-use lib.Seq.{sets, sets-eq, set_out, take-set-le, drop-set-lt, drop-set-add, take-take, take-add, drop-drop, take_at, drop_at, length-take-le, take-nil, drop-nil}
+use native.Mathlib.Numerals.{add-one}
+use lib.ListN.{length, take, drop, get_or, set, replicate, length-take, length-drop, length-set, length-replicate, drop_of_length-le}
+use Rattle.std.specs.Int.{sum_through, byte_worth, byte_at, bytes_low_first}
+use lib.Seq.{take_all, drop-cons, sets, sets-eq, set_out, take-set-le, drop-set-lt, drop-set-add, take-take, take-add, drop-drop, take_at, drop_at, length-take-le, take-nil, drop-nil}
 use Rattle.little_endian.specs.Bytes.{value, little_endian, part, put}
 
 -- ---- numbers as bytes
@@ -42,11 +45,12 @@ unfolding value
 value_append [] ys = omega arith
 value_append (x ∷ xs) ys = rw (value_append xs ys, pow-succ', mul_assoc) (omega arith)
 
--- a number of a + b bytes is its a lowest bytes and the b above them
-little_endian_append : (a b v : ℕ) → little_endian (a + b) v ≡ little_endian a v ++ little_endian b (v / 256 ^ a)
+-- the n lowest bytes of a number's m
+pub take-little_endian : (n m v : ℕ) → n ≤ m → take n (little_endian m v) ≡ little_endian n v
 unfolding little_endian
-little_endian_append zero b v = rw (zero-add, div-one)
-little_endian_append (suc a) b v = rw (suc-add, pow-succ', ← div-div-eq-div-mul v 256 (256 ^ a), ← little_endian_append a b (v / 256))
+take-little_endian zero m v h = refl
+take-little_endian (suc n) zero v h = absurd (omega arith)
+take-little_endian (suc n) (suc m) v h = rw (take-little_endian n m (v / 256) (omega arith))
 
 -- ---- bytes written at a place
 
@@ -71,12 +75,31 @@ put_append xs at (y ∷ ys) zs =
     let e : at + suc (length ys) ≡ suc at + length ys = omega arith in
     rw e (put_append (set xs at y) (suc at) ys zs)
 
--- so are the two halves of a number
-pub put_halves : (xs : List ℕ) (at a b v : ℕ) {ys zs : List ℕ} → ys ≡ put xs at (little_endian a v)
-    → zs ≡ put ys (at + a) (little_endian b (v / 256 ^ a)) → zs ≡ put xs at (little_endian (a + b) v)
-put_halves xs at a b v e f =
-    let n : length (little_endian a v) ≡ a = length-little_endian a v in
-    rw (little_endian_append a b v, put_append, n, ← e) f
+-- the bytes before a place stay
+put_cons : (x : ℕ) (xs : List ℕ) (at : ℕ) (ys : List ℕ) → put (x ∷ xs) (suc at) ys ≡ x ∷ put xs at ys
+unfolding put
+put_cons x xs at [] = refl
+put_cons x xs at (y ∷ ys) = put_cons x (set xs at y) (suc at) ys
+
+pub put_from : (xs : List ℕ) (at : ℕ) (ys : List ℕ) → put xs at ys ≡ take at xs ++ put (drop at xs) 0 ys
+put_from [] at ys = rw (take-nil at, drop-nil at, put_past [] at ys (omega arith), put_past [] 0 ys (omega arith))
+put_from (x ∷ xs) zero ys = refl
+put_from (x ∷ xs) (suc at) ys = put_cons x xs at ys ∙ ap (λ (l : List ℕ). x ∷ l) (put_from xs at ys)
+
+-- from the start on as many are written as have a place
+pub put_start : (xs ys : List ℕ) → put xs 0 ys ≡ take (min (length xs) (length ys)) ys ++ drop (min (length xs) (length ys)) xs
+unfolding put
+put_start [] ys = let e : min 0 (length ys) ≡ 0 = omega arith in rw (e, put_past [] 0 ys (omega arith))
+put_start (x ∷ xs) [] = let e : min (suc (length xs)) 0 ≡ 0 = omega arith in rw e
+put_start (x ∷ xs) (y ∷ ys) =
+    let e : min (suc (length xs)) (suc (length ys)) ≡ suc (min (length xs) (length ys)) = omega arith in
+    rw e (put_cons y xs 0 ys ∙ ap (λ (l : List ℕ). y ∷ l) (put_start xs ys))
+
+-- a slice from a place on, with ys written from its start on
+pub put_rest : (xs ys : List ℕ) (at : ℕ) → put_mid at (length xs - at) xs (put (drop at xs) 0 ys) ≡ put xs at ys
+put_rest xs ys at =
+    let e : drop (length xs - at) (drop at xs) ≡ [] = drop_of_length-le (drop at xs) (omega (arith, length-drop at xs)) in
+    rw (e, append-nil) (sym (put_from xs at ys))
 
 -- the bytes behind what is written stay
 pub drop-put : (n : ℕ) (xs : List ℕ) (at : ℕ) (ys : List ℕ) → at + length ys ≤ n → drop n (put xs at ys) ≡ drop n xs
@@ -115,6 +138,38 @@ unfolding part
 value_halves xs at a b {low} {high} h e f =
     let n : length (take a (drop at xs)) ≡ a = simp (length-take, length-drop) (omega arith) in
     rw (take-add a b (drop at xs), value_append, n, drop-drop a at xs, ← e, ← f) (omega (arith, mul_comm high (256 ^ a)))
+
+-- one byte is a number
+byte : (xs : List ℕ) (at : ℕ) → at < length xs → get_or xs at 0 ≡ value (part xs at 1)
+unfolding value part
+byte xs at h = rw (drop-cons xs at 0 h) (omega arith)
+
+-- the number that std reads from bytes
+std_value : (xs : List ℕ) (k : ℕ) → k < length xs → sum_through (λ (i : ℕ). byte_worth i (get_or xs i 0)) k ≡ value (part xs 0 (suc k))
+std_value xs zero h = byte xs 0 h
+std_value xs (suc k) h =
+    let z : 0 + suc k ≡ suc k = omega arith in
+    let high : get_or xs (suc k) 0 ≡ value (part xs (0 + suc k) 1) = rw z (byte xs (suc k) h) in
+    rw add-one at (value_halves xs 0 (suc k) 1 (omega arith) (std_value xs k (omega arith)) high)
+
+pub std_reads : (xs : List ℕ) (k : ℕ) → length xs ≡ suc k → sum_through (λ (i : ℕ). byte_worth i (get_or xs i 0)) k ≡ value xs
+unfolding part
+std_reads xs k h = std_value xs k (omega arith) ∙ ap value (take_all (suc k) xs (omega arith))
+
+-- the bytes that std makes of a number
+std_byte : (i v : ℕ) → byte_at i v ≡ v / 256 ^ i % 256
+std_byte zero v = rw div-one
+std_byte (suc i) v = refl
+
+std_bytes : (i n v : ℕ) → bytes_low_first i n v ≡ little_endian n (v / 256 ^ i)
+unfolding little_endian
+std_bytes i zero v = refl
+std_bytes i (suc n) v =
+    let e : v / 256 ^ suc i ≡ v / 256 ^ i / 256 = rw (pow-succ', mul_comm) (sym (div-div-eq-div-mul v (256 ^ i) 256)) in
+    rw (std_byte i v, std_bytes (suc i) n v, e)
+
+pub std_writes : (n v : ℕ) → bytes_low_first 0 n v ≡ little_endian n v
+std_writes n v = std_bytes 0 n v ∙ ap (little_endian n) (div-one v)
 
 -- n bytes mean a number below 256 to the n
 pub value_below : (xs : List ℕ) → ((i : ℕ) → get_or xs i 0 < 256) → (at n : ℕ) → value (part xs at n) < 256 ^ n

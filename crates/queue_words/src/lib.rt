@@ -13,7 +13,7 @@ use answer_words::{ANSWER_WORDS, tell};
 use queue::Ending;
 use rings::Queue;
 use units::GuestAddr;
-use words::write_words;
+use words::write_all;
 
 // A queue's length in words.
 pub const QUEUE_WORDS: usize = 6;
@@ -84,31 +84,12 @@ fn queue_words(q: Queue) -> [u64; QUEUE_WORDS]
     ]
 }
 
-// The words of a queue, each stored at once, where there is room for all.
-fn store_queue(words: &mut [u64], all: [u64; QUEUE_WORDS])
-    requires { queue_length ≤ length words.old }
-    ensures { words.new ≡ put words.old 0 all }
-{
-    words[0] = all[0];
-    words[1] = all[1];
-    words[2] = all[2];
-    words[3] = all[3];
-    words[4] = all[4];
-    words[5] = all[5];
-}
-
 // Writes a queue as words; none past the end.
 pub fn encode_queue(q: Queue, words: &mut [u64])
     ensures words_after { words.new ≡ put words.old 0 (queue_words q) }
     ensures words_after_2 { queue_length ≤ length words.old → decoded_queue_of words.new ≡ Some q }
 {
-    if words.len() < QUEUE_WORDS {
-        let all = queue_words(q);
-        write_words(words, &all);
-        return;
-    }
-    let all = queue_words(q);
-    store_queue(words, all);
+    write_all(words, queue_words(q));
 }
 
 // Writes what a call on a queue tells as words, none past the end, and tells its number.
@@ -119,7 +100,7 @@ pub fn tell_queue(answer: Option<Answer>, words: &mut [u64]) -> u64
     match answer {
         None => {
             let all: [u64; ANSWER_WORDS] = [7, 0, 0, 0, 0, 0, 0, 0, 0];
-            write_words(words, &all);
+            write_all(words, all);
             0
         }
         Some(a) => tell(a, words),

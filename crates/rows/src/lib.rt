@@ -28,6 +28,7 @@ pub fn rows_in(words: usize) -> u64
 }
 
 // How many rows the table holds.
+#[tactic(auto, using(crate::proofs::Words::count))]
 fn row_count(table: &[u64]) -> u64
     ensures { result ≡ length (rows_of table.now) }
 {
@@ -35,6 +36,7 @@ fn row_count(table: &[u64]) -> u64
 }
 
 // A row; past the table, where no request looks (`row_in_table` of `step`), slot 0 and not mapped (R8.5).
+#[tactic(auto, using(crate::proofs::Words::count))]
 fn row_at(table: &[u64], row: u64) -> MapRow
     ensures { result ≡ row_at (rows_of table.now) row }
 {
@@ -54,6 +56,7 @@ fn row_at(table: &[u64], row: u64) -> MapRow
 }
 
 // Writes a row, if it exists.
+#[tactic(auto, using(crate::proofs::Words::count))]
 fn put_row(table: &mut [u64], row: u64, to: MapRow)
     ensures { table.new ≡ written table.old (set (rows_of table.old) row to) }
 {
@@ -98,23 +101,13 @@ pub fn mapping_of(table: &[u64], row: u64) -> Option<HostAddr>
 pub fn first_unmapped(table: &[u64], first: u64, last: u64) -> Option<u64>
     ensures { result ≡ first_unmapped (rows_of table.now) first last }
 {
-    let end = end_of(table, last);
-    let mut row = first;
-    let found = loop {
-        if end <= row {
-            break end;
-        }
+    for row in first..end_of(table, last) {
         let unmapped = row_at(table, row).mapped == 0;
         if unmapped {
-            break row;
+            return Some(row);
         }
-        row += 1;
-    };
-    if found < end {
-        Some(found)
-    } else {
-        None
     }
+    None
 }
 
 // Maps the rows from `first` to `last`, one after the other from `host` on (R6.7). The device has tested that no sum
@@ -123,8 +116,7 @@ pub fn fill(table: &mut [u64], first: u64, last: u64, host: HostAddr)
     ensures { table.new ≡ filled_table table.old first last host.0 }
 {
     let end = end_of(table, last);
-    let mut row = first;
-    while row < end {
+    for row in first..end {
         let slot = slot_of(table, row);
         let at = RegionOffset::of_map_region(row - first).host_from(host);
         put_row(
@@ -136,7 +128,6 @@ pub fn fill(table: &mut [u64], first: u64, last: u64, host: HostAddr)
                 host: at,
             },
         );
-        row += 1;
     }
 }
 
@@ -144,17 +135,15 @@ pub fn fill(table: &mut [u64], first: u64, last: u64, host: HostAddr)
 pub fn lay(table: &mut [u64], slots: &[u32])
     ensures { table.new ≡ laid_table table.old slots.now }
 {
-    let mut j = 0;
-    while j < slots.len() {
+    for (j, slot) in slots.iter().enumerate() {
         put_row(
             table,
             j as u64,
             MapRow {
-                slot: slots[j] as u64,
+                slot: u64::from(*slot),
                 mapped: 0,
                 host: HostAddr(0),
             },
         );
-        j += 1;
     }
 }

@@ -2,7 +2,7 @@
 -- The laws of `specs/Numbers.antt` that the crates above cite.
 use Prim.Native.Nat.{ℕ, zero, suc, ◌+◌, ◌-◌, ◌*◌, ◌/◌, ◌%◌, ◌^◌, ◌≤◌, ◌<◌}
 use mathlib.Core.Path.{◌≡◌, refl, sym, ◌∙◌}
-use native.Mathlib.Nat.{div-add-mod', mod-lt, mul-zero, add-mul, pow-succ', div-div-eq-div-mul, div-one, mul-le-mul}
+use native.Mathlib.Nat.{div-add-mod', mod-lt, mod_self, mod-eq_of_lt, sub-zero, mul-zero, add-mul, pow-succ', div-div-eq-div-mul, div-one, mul-le-mul}
 use native.Mathlib.Omega.{arith}
 use mathlib.Core.Bool.{Bool, true, false}
 use lib.Dec.{leb}
@@ -43,6 +43,16 @@ round_next n to r h =
 pub round_none : (n : ℕ) → next_multiple n 0 ≡ 0
 unfolding next_multiple
 round_none n = mul-zero ((n + (0 - 1)) / 0)
+
+-- as std rounds up
+pub rounded : (n to : ℕ) → 0 < to → n + (to - n % to) % to ≡ next_multiple n to
+rounded n to h = by_rest (n % to) refl
+  where
+    by_rest : (r : ℕ) → n % to ≡ r → n + (to - n % to) % to ≡ next_multiple n to
+    by_rest zero e = rw (e, sub-zero, mod_self) (omega (arith, round_multiple n to h e))
+    by_rest (suc r) e =
+        let few : to - n % to < to = omega arith in
+        rw (mod-eq_of_lt few) (sym (round_next n to (omega arith) h))
 
 -- ---- the largest power of two that divides a number: it divides, and what it leaves is odd
 halved : (n t : ℕ) → n / 2 ^ suc t ≡ n / 2 / 2 ^ t

@@ -5,7 +5,7 @@
 
 ghost use Rattle.std.specs.Prelude.{◌≡◌, ◌+◌, ◌-◌, ◌*◌, ◌/◌, ◌%◌, min, leb, eqb};
 ghost use Rattle.units.specs.Numbers.{saturated, bytes_of, blocks_in, map_region, map_regions};
-ghost use Rattle.units.specs.Numbers.{between, alignment_of, next_multiple};
+ghost use Rattle.units.specs.Numbers.{alignment_of, next_multiple};
 
 // An address as the guest sees it.
 #[derive(Clone, Copy)]
@@ -45,17 +45,14 @@ impl MemTool {
     pub fn bytes_of(nb_blocks: u16, block_size: u32) -> u64
         ensures { result ≡ bytes_of block_size nb_blocks }
     {
-        nb_blocks as u64 * block_size as u64
+        u64::from(nb_blocks) * u64::from(block_size)
     }
 
     // How many whole blocks a size holds: none of 0 bytes.
     pub fn blocks_in(size: u64, block_size: u64) -> u64
         ensures { result ≡ blocks_in block_size size }
     {
-        if block_size == 0 {
-            return 0;
-        }
-        size / block_size
+        size.checked_div(block_size).unwrap_or(0)
     }
 }
 
@@ -64,7 +61,7 @@ impl GuestAddr {
     pub fn offset_from(self, start: GuestAddr) -> RegionOffset
         ensures { result.0 ≡ self.0 - start.0 }
     {
-        RegionOffset(saturating_sub(self.0, start.0))
+        RegionOffset(self.0.saturating_sub(start.0))
     }
 }
 
@@ -73,21 +70,21 @@ impl RegionOffset {
     pub fn of_map_region(row: u64) -> RegionOffset
         ensures { result.0 ≡ saturated (row * map_region) }
     {
-        RegionOffset(saturating_mul(row, MemTool::MAP_REGION_SIZE))
+        RegionOffset(row.saturating_mul(MemTool::MAP_REGION_SIZE))
     }
 
     // The guest's address of an offset, saturating at 2^64 - 1.
     pub fn guest_from(self, start: GuestAddr) -> GuestAddr
         ensures { result.0 ≡ saturated (start.0 + self.0) }
     {
-        GuestAddr(saturating_add(start.0, self.0))
+        GuestAddr(start.0.saturating_add(self.0))
     }
 
     // The host's address of an offset from what is mapped at `host`, saturating at 2^64 - 1.
     pub fn host_from(self, host: HostAddr) -> HostAddr
         ensures { result.0 ≡ saturated (host.0 + self.0) }
     {
-        HostAddr(saturating_add(host.0, self.0))
+        HostAddr(host.0.saturating_add(self.0))
     }
 
     // The map region in which an offset lies.
@@ -109,27 +106,21 @@ impl RegionOffset {
 pub fn is_multiple(n: u64, of: u64) -> bool
     ensures { result ≡ eqb (n % of) 0 }
 {
-    if of == 0 {
-        return n == 0;
-    }
-    n % of == 0
+    n.is_multiple_of(of)
 }
 
 // The smaller of two numbers.
 pub fn smaller(a: u64, b: u64) -> u64
     ensures { result ≡ min a b }
 {
-    if a < b { a } else { b }
+    a.min(b)
 }
 
 // a - b, and 0 where b is the larger.
 pub fn saturating_sub(a: u64, b: u64) -> u64
     ensures { result ≡ a - b }
 {
-    if a < b {
-        return 0;
-    }
-    a - b
+    a.saturating_sub(b)
 }
 
 // Whether a + b is at most `limit`, as numbers without end: no sum is made.
@@ -156,30 +147,7 @@ pub fn product_within(a: u64, b: u64, limit: u64) -> bool
 pub fn saturating_add(a: u64, b: u64) -> u64
     ensures { result ≡ saturated (a + b) }
 {
-    if sum_within(a, b, u64::MAX) {
-        return a + b;
-    }
-    u64::MAX
-}
-
-// a * b, saturating at 2^64 - 1.
-fn saturating_mul(a: u64, b: u64) -> u64
-    ensures { result ≡ saturated (a * b) }
-{
-    if product_within(a, b, u64::MAX) {
-        return a * b;
-    }
-    u64::MAX
-}
-
-// An exponent, raised to that of 128 MiB or lowered to that of 2 GiB.
-fn clamped(n: u32) -> u32
-    ensures { result ≡ between n }
-{
-    if n < 27 {
-        return 27;
-    }
-    if n < 31 { n } else { 31 }
+    a.saturating_add(b)
 }
 
 // The guest's memory block size, by its boot memory (R4.2).
@@ -190,7 +158,7 @@ pub fn alignment_of(boot: u64) -> u64
     if small {
         return MemTool::MIN_ALIGNMENT;
     }
-    1 << clamped(u64::trailing_zeros(boot))
+    1 << boot.trailing_zeros().clamp(27, 31)
 }
 
 // A number rounded up to a multiple of another, saturating at 2^64 - 1.
@@ -200,24 +168,17 @@ pub fn next_multiple_of(n: u64, to: u64) -> u64
     if to == 0 {
         return 0;
     }
-    let over = n % to;
-    if over == 0 {
-        return n;
-    }
-    saturating_add(n, to - over)
+    n.checked_next_multiple_of(to).unwrap_or(u64::MAX)
 }
 
 // How many rows of the map table a region takes (R4.5).
+#[tactic(auto, unfolding(crate::specs::Numbers::map_regions))]
 pub fn map_regions(region_size: u64, several: bool) -> u64
     ensures { result ≡ map_regions region_size several }
 {
-    if !several {
-        return 1;
-    }
-    let whole = region_size / MemTool::MAP_REGION_SIZE;
-    if region_size % MemTool::MAP_REGION_SIZE == 0 {
-        whole
+    if several {
+        region_size.div_ceil(MemTool::MAP_REGION_SIZE)
     } else {
-        whole + 1
+        1
     }
 }

@@ -2,7 +2,7 @@
 // The bytes of the device: the request of 24, the response of 10 and the config of 56.
 #![tactic(auto)]
 
-ghost use Rattle.std.specs.Prelude.{◌≡◌, ◌+◌, ◌%◌, ◌≤◌, ◌<◌, length, drop};
+ghost use Rattle.std.specs.Prelude.{◌≡◌, ◌+◌, ◌≤◌, length, drop};
 ghost use Rattle.little_endian.specs.Bytes.{little_endian, put};
 ghost use Rattle.wire.specs.Types.{Types};
 ghost use Rattle.wire.specs.Layout.{request_at, response_bytes, config_fields, config_bytes, new_config};
@@ -132,36 +132,12 @@ pub fn write_response(bytes: &mut [u8], at: usize, resp: VirtioMemResp)
     }
 }
 
-// Two bytes of v where both have a place, with no test and no loop, as little_endian has them for itself.
-fn put_two(bytes: &mut [u8], at: usize, v: u64)
-    requires { at + 2 ≤ length bytes.old }
-    ensures { bytes.new ≡ put bytes.old at (little_endian 2 v) }
-{
-    bytes[at] = (v % 256) as u8;
-    bytes[at + 1] = (v / 256 % 256) as u8;
-}
-
-// The bytes of v's field, two by two, as every field has an even number of them. Without a loop, so that the one over
-// the table is unrolled.
+// The lowest bytes of v, as many as its field has.
 fn write_field(bytes: &mut [u8], field: Field, v: u64)
-    requires { (field.0 + field.1 ≤ length bytes.old) × (field.1 % 2 ≡ 0) × (0 < field.1) × (field.1 ≤ 8) }
+    requires { (field.0 + field.1 ≤ length bytes.old) × (field.1 ≤ 8) }
     ensures { bytes.new ≡ put bytes.old field.0 (little_endian field.1 v) }
 {
-    let at = field.0;
-    let width = field.1;
-    put_two(bytes, at, v);
-    if width < 4 {
-        return;
-    }
-    put_two(bytes, at + 2, v / 65536);
-    if width < 6 {
-        return;
-    }
-    put_two(bytes, at + 4, v / 4294967296);
-    if width < 8 {
-        return;
-    }
-    put_two(bytes, at + 6, v / 281474976710656);
+    copy(&mut bytes[field.0..], &v.to_le_bytes()[..field.1]);
 }
 
 // From `offset` on, up to the config's end or the buffer's; the rest of the buffer stays.
@@ -182,13 +158,9 @@ pub fn read_config(config: VirtioMemConfig, offset: u64, data: &mut [u8])
         config.plugged_size,
         config.requested_size,
     ];
-    let fields = CONFIG_FIELDS;
     let mut bytes: [u8; 56] = [0; 56];
-    let mut k: usize = 0;
-    while k < 8 {
-        let field = fields[k];
-        write_field(&mut bytes, field, values[k]);
-        k += 1;
+    for (k, field) in CONFIG_FIELDS.iter().enumerate() {
+        write_field(&mut bytes, *field, values[k]);
     }
     copy(data, from(&bytes, offset as usize));
 }

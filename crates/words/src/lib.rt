@@ -17,7 +17,7 @@ pub const RECORD_WORDS: usize = 15;
 fn bit(flag: bool) -> u64
     ensures { result ≡ bit flag }
 {
-    if flag { 1 } else { 0 }
+    u64::from(flag)
 }
 
 // The pending call that four words mean: a known kind, and 0 in each word that the kind has no use for.
@@ -106,13 +106,20 @@ pub fn decode(words: &[u64]) -> Option<Device>
 pub fn write_words(words: &mut [u64], what: &[u64])
     ensures { words.new ≡ put words.old 0 what.now }
 {
-    let mut i = 0;
-    while i < words.len() {
-        if what.len() <= i {
-            return;
-        }
-        words[i] = what[i];
-        i += 1;
+    let n = words.len().min(what.len());
+    words[..n].copy_from_slice(&what[..n]);
+}
+
+// N words from the first on, each stored at once where there is room for all; none past the end.
+pub fn write_all<const N: usize>(words: &mut [u64], all: [u64; N])
+    ensures { words.new ≡ put words.old 0 all.entry }
+{
+    if words.len() < N {
+        // A copy is lent, so that the compiler lays down no word before it is stored where there is room.
+        let lent = all;
+        write_words(words, &lent);
+    } else {
+        words[..N].copy_from_slice(&all);
     }
 }
 

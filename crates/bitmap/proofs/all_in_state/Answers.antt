@@ -47,7 +47,7 @@ passed c h =
     let a = c.args in
     let p = c.parts_of-p in
     let n = min p.result.to (length a.bitmap.now) - p.result.from in
-    let b = rw (c.smaller-end.ensures, blocks-take n (drop p.result.from a.bitmap.now), blocks-drop p.result.from a.bitmap.now) at c.bytes_are.ensures in
+    let b = rw (c.min-end.ensures, blocks-take n (drop p.result.from a.bitmap.now), blocks-drop p.result.from a.bitmap.now) at c.bytes_are.ensures in
     let e : 8 * p.result.from + 8 * n ≡ 8 * (p.result.from + n) = omega arith in
     rw (h, c.if-not-are.false, b, ← e)
     (all_then a.bitmap.now a.plugged (8 * p.result.from) (8 * n) (a.count - p.result.head) (omega (arith, p.ensures)))

@@ -1,6 +1,5 @@
 -- SPDX-License-Identifier: Apache-2.0 AND BSD-3-Clause
 -- `bitmap::put_bytes` meets its contract. The loop's invariant: the bytes before byte j are filled, and nothing else.
--- The measure is the number of bytes that are left.
 use Prim.Native.Nat.{◌+◌, ◌-◌, ◌*◌}
 use mathlib.Core.Path.{◌≡◌}
 use native.Mathlib.Omega.{arith}
@@ -13,10 +12,10 @@ pub loop-j-init : goal.loop-j-init
 loop-j-init c =
     let a = c.args in
     let e : 8 * (a.from - a.from) ≡ 0 = omega arith in
-    (omega arith, omega arith, rw e (filled_none a.bitmap.now (8 * a.from) a.v))
+    rw e (filled_none a.bitmap.now (8 * a.from) a.v)
 
 pub bounds-bitmap-j : goal.bounds-bitmap-j
-bounds-bitmap-j c = omega (arith, c.loop-j.invariant.2.outside.same_length)
+bounds-bitmap-j c = omega (arith, c.loop-j.invariant.outside.same_length)
 
 pub loop-j-preserved : goal.loop-j-preserved
 loop-j-preserved c =
@@ -25,13 +24,10 @@ loop-j-preserved c =
     let w = c.whole_byte-byte in
     let p : place o.j 0 ≡ 8 * a.from + 8 * (o.j - a.from) = omega arith in
     let q : 8 * (o.j - a.from) + 8 ≡ 8 * (o.j + 1 - a.from) = omega arith in
-    let f = filled_some o.bitmap o.j 0 8 w.result a.v (rw w.ensures (whole-fill (get_or o.bitmap o.j 0) a.v)) (omega (arith, o.invariant.2.outside.same_length)) (omega arith) (omega arith) in
-    (omega arith, omega arith, rw q at (filled_then o.invariant.2 (rw p at f)))
-
-pub shape_of-bitmap : goal.shape_of-bitmap
-shape_of-bitmap c = c.loop-j.invariant.2.outside.same_length
+    let f = filled_some o.bitmap o.j 0 8 w.result a.v (rw w.ensures (whole-fill (get_or o.bitmap o.j 0) a.v)) (omega (arith, o.invariant.outside.same_length)) (omega arith) (omega arith) in
+    rw q at (filled_then o.invariant (rw p at f))
 
 pub returns : goal.returns
 returns c =
     let e : c.loop-j.j ≡ c.args.to = omega arith in
-    rw e at c.loop-j.invariant.2
+    rw e at c.loop-j.invariant

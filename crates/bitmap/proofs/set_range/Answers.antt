@@ -42,7 +42,7 @@ passed : (c : After-put_bytes) →
 passed c =
     let h = headed c.before.before.before in
     let p = c.parts_of-p in
-    filled_then h (rw (c.smaller-end.ensures, h.outside.same_length, ← p.ensures.head_value.0) at c.put_bytes.ensures)
+    filled_then h (rw (c.min-end.ensures, h.outside.same_length, ← p.ensures.head_value.0) at c.put_bytes.ensures)
 
 pub shape_of-bitmap-then-bitmap-to : goal.shape_of-bitmap-then-bitmap-to
 shape_of-bitmap-then-bitmap-to c = (passed (goal.at.shape_of-bitmap-then-bitmap-to c).After-put_bytes).outside.same_length

@@ -1,5 +1,5 @@
 -- SPDX-License-Identifier: Apache-2.0 AND BSD-3-Clause
--- `queue_words::encode_queue` meets its contract: both ways write the words of the queue.
+-- `queue_words::encode_queue` meets its contract: the words are those of the queue.
 use Rattle.std.specs.Prelude.{Some}
 use Prim.Native.Nat.{ℕ, ◌≤◌}
 use mathlib.Core.Path.{◌≡◌, ap, ◌∙◌}
@@ -22,14 +22,8 @@ written q ws all ws' e f w =
     let same = w ∙ ap (put ws 0) e in
     record { same = same; decodes = λ room. ap decoded_queue_of same ∙ encoded_decodes q ws (rw (← e) f) room }
 
-pub returns-then-words-lt-QUEUE_WORDS : goal.returns-then-words-lt-QUEUE_WORDS
-returns-then-words-lt-QUEUE_WORDS c =
-    let e = c.queue_words-all.ensures in
-    let w = written _ _ _ _ e.value e.result_value c.write_words.ensures in
-    record { words_after = w.same; words_after_2 = w.decodes }
-
 pub returns : goal.returns
 returns c =
-    let e = c.queue_words-all-2.ensures in
-    let w = written _ _ _ _ e.value e.result_value c.store_queue.ensures in
+    let e = c.queue_words.ensures in
+    let w = written _ _ _ _ e.value e.result_value c.write_all.ensures in
     record { words_after = w.same; words_after_2 = w.decodes }

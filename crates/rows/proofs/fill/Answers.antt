@@ -15,7 +15,7 @@ pub loop-row-init : goal.loop-row-init
 loop-row-init c =
     let a = c.args in
     let e : a.host.0 + (a.first - a.first) * map_region ≡ a.host.0 = omega arith in
-    (refl, omega arith, rw e)
+    (refl, rw e)
 
 pub loop-row-preserved : goal.loop-row-preserved
 loop-row-preserved c =
@@ -24,16 +24,13 @@ loop-row-preserved c =
     let p = c.put_row in
     let l : o.row < length (rows_of o.table) = omega (arith, count o.table, count a.table.now) in
     let n : a.last + 1 - o.row ≡ suc (a.last + 1 - (o.row + 1)) = omega arith in
-    let h : a.host.0 + (o.row + 1 - a.first) * map_region ≡ a.host.0 + (o.row - a.first) * map_region + map_region = next_at a.host.0 a.first o.row o.invariant.1 in
+    let h : a.host.0 + (o.row + 1 - a.first) * map_region ≡ a.host.0 + (o.row - a.first) * map_region + map_region = next_at a.host.0 a.first o.row (omega arith) in
     let e : c.host_from-at.result.0 ≡ saturated (a.host.0 + (o.row - a.first) * map_region) =
     saturated_twice a.host.0 c.of_map_region.result.0 ((o.row - a.first) * map_region) c.host_from-at.result.0 c.of_map_region.ensures c.host_from-at.ensures in
-    (put_length o.table p.new.table o.row _ p.ensures ∙ o.invariant.0, omega arith, rw h (fill_put o.table p.new.table o.row (a.last + 1 - (o.row + 1)) (a.host.0 + (o.row - a.first) * map_region) c.slot_of-slot.result c.host_from-at.result.0 l c.slot_of-slot.ensures e p.ensures) ∙ rw n at o.invariant.2)
-
-pub shape_of-table : goal.shape_of-table
-shape_of-table c = c.loop-row.invariant.0
+    (put_length o.table p.new.table o.row _ p.ensures ∙ o.invariant.0, rw h (fill_put o.table p.new.table o.row (a.last + 1 - (o.row + 1)) (a.host.0 + (o.row - a.first) * map_region) c.slot_of-slot.result c.host_from-at.result.0 l c.slot_of-slot.ensures e p.ensures) ∙ rw n at o.invariant.1)
 
 pub returns : goal.returns
 returns c =
     let a = c.args in
     let o = c.loop-row in
-    sym (whole o.table) ∙ rw (fill_nothing (rows_of o.table) o.row (a.last + 1 - o.row) (a.host.0 + (o.row - a.first) * map_region) (omega (arith, count o.table, count a.table.now))) at o.invariant.2
+    sym (whole o.table) ∙ rw (fill_nothing (rows_of o.table) o.row (a.last + 1 - o.row) (a.host.0 + (o.row - a.first) * map_region) (omega (arith, count o.table, count a.table.now))) at o.invariant.1

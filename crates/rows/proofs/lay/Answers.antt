@@ -15,10 +15,8 @@ loop-j-preserved c =
     let a = c.args in
     let o = c.loop-j in
     let p = c.put_row in
-    (put_length o.table p.new.table o.j _ p.ensures ∙ o.invariant.0, laid_put o.table p.new.table o.j a.slots.now c.loop-j-test.true p.ensures ∙ o.invariant.1)
-
-pub shape_of-table : goal.shape_of-table
-shape_of-table c = c.loop-j.invariant.0
+    let e = rw c.from.ensures at p.ensures in
+    (put_length o.table p.new.table o.j _ e ∙ o.invariant.0, laid_put o.table p.new.table o.j a.slots.now c.loop-j-test.true e ∙ o.invariant.1)
 
 pub returns : goal.returns
 returns c =

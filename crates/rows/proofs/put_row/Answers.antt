@@ -14,32 +14,11 @@ returns-then-row_count-row c =
     let a = c.args in
     sym (ap (written a.table.now) (set_out (rows_of a.table.now) a.row a.to (omega arith)) ∙ whole a.table.now)
 
-pub overflow_mul-at : goal.overflow_mul-at
-overflow_mul-at c = omega (arith, count c.args.table.now)
-
-pub offset_bounds-table-at : goal.offset_bounds-table-at
-offset_bounds-table-at c = omega (arith, count c.args.table.now)
-
-pub bounds-table-at : goal.bounds-table-at
-bounds-table-at c = omega (arith, count c.args.table.now)
-
-pub overflow_add-table : goal.overflow_add-table
-overflow_add-table c = omega (arith, count c.args.table.now)
-
-pub offset_bounds-table-at-2 : goal.offset_bounds-table-at-2
-offset_bounds-table-at-2 c = omega (arith, count c.args.table.now)
-
 pub bounds-table-at-2 : goal.bounds-table-at-2
 bounds-table-at-2 c =
     let a = c.args in
     let h : 3 * a.row + 1 < length a.table.now = omega (arith, count a.table.now) in
     simp length-set h
-
-pub overflow_add-table-2 : goal.overflow_add-table-2
-overflow_add-table-2 c = omega (arith, count c.args.table.now)
-
-pub offset_bounds-table-at-3 : goal.offset_bounds-table-at-3
-offset_bounds-table-at-3 c = omega (arith, count c.args.table.now)
 
 pub bounds-table-at-3 : goal.bounds-table-at-3
 bounds-table-at-3 c =

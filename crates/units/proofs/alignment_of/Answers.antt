@@ -22,4 +22,5 @@ unfolding alignment_of twos
 returns c =
     let boot = c.args.boot in
     let short : between (twos boot) < 64 = omega arith in
-    rw (le-ltb boot (64 * GiB) (omega arith), c.clamped.ensures) (shifted (between (twos boot)) short)
+    let e : c.clamp.result ≡ between (twos boot) = omega arith in
+    rw (le-ltb boot (64 * GiB) (omega arith), e) (shifted (between (twos boot)) short)

@@ -1,7 +1,6 @@
 -- SPDX-License-Identifier: Apache-2.0 AND BSD-3-Clause
 -- `read_config` meets its contract. The loop's invariant: laying the fields that are left gives what laying all eight gives.
--- The measure is how many are left.
-use Prim.Native.Nat.{ℕ, ◌+◌, ◌%◌, ◌≤◌, ◌<◌}
+use Prim.Native.Nat.{ℕ, ◌+◌, ◌≤◌, ◌<◌}
 use mathlib.Core.Path.{◌≡◌, refl, sym, ap, ◌∙◌}
 use mathlib.Core.List.{List}
 use native.Mathlib.Omega.{arith}
@@ -18,11 +17,11 @@ use Rattle.wire.proofs.read_config.Goals as goal
 abbrev field : ℕ → Field
 field k = get_or config_fields k (record { 0 = 0; 1 = 0 })
 
--- every field ends inside, and has two, four, six or eight bytes
-table : (k : ℕ) → k < 8 → ((field k).0 + (field k).1 ≤ 56) × ((field k).1 % 2 ≡ 0) × (0 < (field k).1) × ((field k).1 ≤ 8)
+-- every field ends inside, and has at most eight bytes
+table : (k : ℕ) → k < 8 → ((field k).0 + (field k).1 ≤ 56) × ((field k).1 ≤ 8)
 unfolding config_fields
 table =
-    let P : ℕ → Type 0 = λ k. ((field k).0 + (field k).1 ≤ 56) × ((field k).1 % 2 ≡ 0) × (0 < (field k).1) × ((field k).1 ≤ 8) in
+    let P : ℕ → Type 0 = λ k. ((field k).0 + (field k).1 ≤ 56) × ((field k).1 ≤ 8) in
     eight P (omega arith) (omega arith) (omega arith) (omega arith) (omega arith) (omega arith) (omega arith) (omega arith)
 
 -- a turn lays the first field that is left

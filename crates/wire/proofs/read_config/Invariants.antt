@@ -1,7 +1,5 @@
 -- SPDX-License-Identifier: Apache-2.0 AND BSD-3-Clause
 -- `read_config` meets its contract. The loop's invariant: laying the fields that are left gives what laying all eight gives.
--- The measure is how many are left.
-use Prim.Native.Nat.{◌-◌}
 use mathlib.Core.Path.{◌≡◌}
 use lib.ListN.{length, drop, replicate}
 use Rattle.wire.specs.Layout.{config_fields, fields_laid}
@@ -9,6 +7,3 @@ use Rattle.wire.proofs.read_config.Given as goal
 
 abbrev pub invariant-loop-k : goal.invariant-loop-k
 invariant-loop-k l = (length l.bytes ≡ 56) × (fields_laid l.bytes (drop l.k config_fields) (drop l.k l.values) ≡ fields_laid (replicate 56 0) config_fields l.values)
-
-abbrev pub decreases-loop-k : goal.decreases-loop-k
-decreases-loop-k l = 8 - l.k

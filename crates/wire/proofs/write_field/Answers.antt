@@ -1,33 +1,18 @@
 -- SPDX-License-Identifier: Apache-2.0 AND BSD-3-Clause
--- `write_field` meets its contract: each store of two bytes makes the number two bytes longer.
+-- `write_field` meets its contract: the lowest bytes of the eight that std makes.
+use Prim.Native.Nat.{◌-◌}
 use mathlib.Core.Path.{◌≡◌}
 use native.Mathlib.Omega.{arith}
-use Rattle.little_endian.proofs.Laws.{put_halves}
+use lib.ListN.{length, take, drop, length-drop}
+use lib.Seq.{take_all}
+use Rattle.little_endian.specs.Bytes.{little_endian}
+use Rattle.little_endian.proofs.Laws.{std_writes, put_rest, take-little_endian}
 use Rattle.wire.proofs.write_field.Goals as goal
-
-pub returns-then-width-lt4 : goal.returns-then-width-lt4
-returns-then-width-lt4 c =
-    let a = c.args in
-    let w : a.field.1 ≡ 2 = omega arith in
-    rw w c.put_two.ensures
-
-pub returns-then-width-lt6 : goal.returns-then-width-lt6
-returns-then-width-lt6 c =
-    let a = c.args in
-    let w : a.field.1 ≡ 4 = omega arith in
-    rw w (put_halves a.bytes.now a.field.0 2 2 a.v c.put_two.ensures c.put_two-2.ensures)
-
-pub returns-then-width-lt8 : goal.returns-then-width-lt8
-returns-then-width-lt8 c =
-    let a = c.args in
-    let w : a.field.1 ≡ 6 = omega arith in
-    let four = put_halves a.bytes.now a.field.0 2 2 a.v c.put_two.ensures c.put_two-2.ensures in
-    rw w (put_halves a.bytes.now a.field.0 4 2 a.v four c.put_two-3.ensures)
 
 pub returns : goal.returns
 returns c =
     let a = c.args in
-    let w : a.field.1 ≡ 8 = omega arith in
-    let four = put_halves a.bytes.now a.field.0 2 2 a.v c.put_two.ensures c.put_two-2.ensures in
-    let six = put_halves a.bytes.now a.field.0 4 2 a.v four c.put_two-3.ensures in
-    rw w (put_halves a.bytes.now a.field.0 6 2 a.v six c.put_two-4.ensures)
+    let xs = a.bytes.now in
+    let at = a.field.0 in
+    let all : take (length xs - at) (drop at xs) ≡ drop at xs = take_all (length xs - at) (drop at xs) (omega (arith, length-drop at xs)) in
+    rw (c.copy.ensures, all, c.to_le_bytes.ensures, std_writes 8 a.v, take-little_endian a.field.1 8 a.v (omega arith)) (put_rest xs (little_endian a.field.1 a.v) at)
