@@ -149,15 +149,11 @@ fn pending_ok(pending: Pending, block_size: u64, region: u64, several: bool, plu
     match pending {
         Pending::Nothing => true,
         Pending::Create { first, last } => (first <= last) & (last < map_regions(region, several)),
-        Pending::Discard {
-            first,
-            count,
-            status: _,
-        } => {
+        Pending::Discard { first, count, .. } => {
             sum_within(first, count, MemTool::blocks_in(region, block_size))
                 & (count <= MemTool::blocks_in(plugged, block_size))
         }
-        Pending::DiscardOne { block, status: _ } => block < MemTool::blocks_in(region, block_size),
+        Pending::DiscardOne { block, .. } => block < MemTool::blocks_in(region, block_size),
     }
 }
 
@@ -239,19 +235,7 @@ pub fn config_shaped(config: VirtioMemConfig) -> bool
 pub fn is_idle(pending: Pending) -> bool
     ensures { result ≡ is_idle pending }
 {
-    match pending {
-        Pending::Nothing => true,
-        Pending::Create { first: _, last: _ } => false,
-        Pending::Discard {
-            first: _,
-            count: _,
-            status: _,
-        } => false,
-        Pending::DiscardOne {
-            block: _,
-            status: _,
-        } => false,
-    }
+    matches!(pending, Pending::Nothing)
 }
 
 // The feature number, for a device with or without a node (R4.6).
