@@ -1,12 +1,14 @@
 -- SPDX-License-Identifier: Apache-2.0 AND BSD-3-Clause
 -- What is usable is mapped, and its host sums stay below 2^64: so an ERROR of a run is never for an unmapped row or a host sum (R10.19).
+use Rattle.std.specs.Prelude.{Ok, Err, Result}
+use Rattle.std.specs.Result.{result_err}
 use Prim.Native.Nat.{ℕ, ◌+◌, ◌*◌, ◌/◌, ◌%◌, ◌≤◌, ◌<◌}
 use mathlib.Core.Path.{◌≡◌, refl}
 use mathlib.Core.Bool.{Bool, true, false, not}
 use mathlib.Core.List.{List}
 use native.Mathlib.Nat.{mul-pos}
 use native.Mathlib.Omega.{arith}
-use lib.Dec.{ltb}
+use lib.Dec.{leb, ltb, eqb}
 use borrow.Author.Tests.{ltb-false, le-ltb}
 use Rattle.units.specs.Numbers.{top, bytes_of, blocks_in, map_region, map_regions}
 use Rattle.units.proofs.Tests.{by_test}
@@ -15,12 +17,10 @@ use Rattle.rows.specs.declared.MapRow.{MapRow}
 use Rattle.rows.specs.Rows.{row_at}
 use Rattle.rows.proofs.Laws.{mapping_at}
 use Rattle.record.proofs.Laws.{shaped_is}
-use Rattle.change.specs.declared.Part.{Part}
-use Rattle.change.specs.declared.Part.TheVariants.{Alignment, ZeroBlocks, Overflow, BelowStart, PastUsable, EndPastUsable}
-use Rattle.change.specs.declared.Range.{Range}
-use Rattle.change.specs.declared.Range.TheVariants.{Inside, Outside as NotInside}
-use Rattle.change.specs.Change.{range_of, host_of, host_in, host_sum, legal_at, change_in}
-use Rattle.change.specs.Why.{part_why, host_why, range_why}
+use Rattle.units.specs.declared.RegionOffset.{RegionOffset}
+use Rattle.change.specs.declared.Reason.{Reason}
+use Rattle.change.specs.Change.{inside_of, range_of, host_of, host_in, host_sum, legal_at, change_in}
+use Rattle.change.specs.Why.{why, why_number}
 use Rattle.change.proofs.Why.{Failed, either_failed}
 use Rattle.change.proofs.Laws.{inside_is}
 use Rattle.step.specs.World.{World}
@@ -28,23 +28,28 @@ use Rattle.step.specs.Step.{block_size, region, usable, start, several, changing
 use Rattle.step.proofs.Served.{Known, of_every_reply}
 use Rattle.history.specs.Good.{row_size}
 use Rattle.history.specs.Rules.{FromEveryGood, NotSpoiled, Never9Or10}
+use Rattle.history.proofs.Cases.{by_cond, by_not}
 
 low : (n : ℕ) → n < 9 → NotSpoiled n
 low n h = (λ e. omega arith, λ e. omega arith)
 
-part_low : (part : Part) → NotSpoiled (part_why part)
-unfolding part_why
-part_low Alignment = low 1 (omega arith)
-part_low ZeroBlocks = low 2 (omega arith)
-part_low Overflow = low 3 (omega arith)
-part_low BelowStart = low 4 (omega arith)
-part_low PastUsable = low 5 (omega arith)
-part_low EndPastUsable = low 6 (omega arith)
+-- of a range, and so of a state request
+abbrev RangeLow : Result RegionOffset Reason → Type 0
+RangeLow r = NotSpoiled (why_number (result_err r))
 
-state_low : (r : Range) → NotSpoiled (range_why r)
-unfolding range_why
-state_low (Inside offset) = low 0 (omega arith)
-state_low (NotInside part) = part_low part
+range_low : (b start usable addr count : ℕ) → RangeLow (range_of b start usable addr count)
+unfolding range_of inside_of
+range_low b start usable addr count =
+    by_not RangeLow (eqb (addr % b) 0) _ _
+    (λ _. by_cond RangeLow (eqb count 0) _ _ (λ _. low 2 (omega arith))
+    (λ _. by_cond RangeLow (ltb top (addr + bytes_of b count)) _ _ (λ _. low 3 (omega arith))
+    (λ _. by_cond RangeLow (ltb addr start) _ _ (λ _. low 4 (omega arith))
+    (λ _. by_cond RangeLow (leb (start + usable) addr) _ _ (λ _. low 5 (omega arith))
+    (λ _. by_cond RangeLow (ltb (start + usable) (addr + bytes_of b count)) _ _ (λ _. low 6 (omega arith)) (λ _. low 0 (omega arith)))))))
+    (λ _. low 1 (omega arith))
+
+abbrev Low : Reason → Type 0
+Low reason = NotSpoiled (why reason)
 
 -- ---- the host has what is usable
 pub record Backed (w : World) : Type 0 where
@@ -58,8 +63,8 @@ module _ (b usable region : ℕ) (rows : List MapRow) (offset size : ℕ) (some 
   by_rows :
       ((r : ℕ) → r * map_region < usable → r < map_regions region true → (row_at rows r).mapped ≡ 0 → ⊥)
       → ((r : ℕ) → r < map_regions region true → ((row_at rows r).mapped ≡ 0 → ⊥) → (row_at rows r).host.0 + map_region ≤ top)
-      → Failed NotSpoiled (legal_at b offset (host_of true rows offset size))
-  unfolding host_of host_in host_sum legal_at Failed host_why map_regions
+      → Failed Low (legal_at b offset (host_of true rows offset size))
+  unfolding host_of host_in host_sum legal_at Failed map_regions
   by_rows below fits =
       let row = offset / map_region in
       let there : row < map_regions region true = omega arith in
@@ -72,15 +77,15 @@ module _ (b usable region : ℕ) (rows : List MapRow) (offset size : ℕ) (some 
 
   -- and a single one is mapped whole
   by_one :
-      ((row_at rows 0).mapped ≡ 0 → ⊥) → (row_at rows 0).host.0 + region ≤ top → Failed NotSpoiled (legal_at b offset (host_of false rows offset size))
+      ((row_at rows 0).mapped ≡ 0 → ⊥) → (row_at rows 0).host.0 + region ≤ top → Failed Low (legal_at b offset (host_of false rows offset size))
   unfolding host_of host_in host_sum legal_at Failed
   by_one mapped room = rw (mapping_at rows 0 mapped, le-ltb top ((row_at rows 0).host.0 + offset + size) (omega arith)) tt
 
-hosts : (w : World) → Backed w → (offset size : ℕ) → 0 < size → offset + size ≤ usable w → Failed NotSpoiled (legal_at (block_size w) offset (host_of (several w) w.rows offset size))
+hosts : (w : World) → Backed w → (offset size : ℕ) → 0 < size → offset + size ≤ usable w → Failed Low (legal_at (block_size w) offset (host_of (several w) w.rows offset size))
 unfolding map_regions
 hosts w u offset size some inside = go (several w) refl
   where
-    go : (v : Bool) → several w ≡ v → Failed NotSpoiled (legal_at (block_size w) offset (host_of (several w) w.rows offset size))
+    go : (v : Bool) → several w ≡ v → Failed Low (legal_at (block_size w) offset (host_of (several w) w.rows offset size))
     go true e = rw e (by_rows (block_size w) (usable w) (region w) w.rows offset size some inside u.in_region (rw e at u.below) (rw e at u.fits))
     go false e =
         let there : 0 < map_regions (region w) (several w) = rw e (omega arith) in
@@ -88,24 +93,24 @@ hosts w u offset size some inside = go (several w) refl
         let room = rw e at (u.fits 0 there mapped) in
         rw e (by_one (block_size w) (usable w) (region w) w.rows offset size some inside u.in_region mapped room)
 
-changes : (w : World) → Backed w → (addr count : ℕ) (wanted : Bool) → Failed NotSpoiled (changing w addr count wanted)
+changes : (w : World) → Backed w → (addr count : ℕ) (wanted : Bool) → Failed Low (changing w addr count wanted)
 unfolding change_in Failed
 changes w u addr count wanted = go (range_of (block_size w) (start w) (usable w) addr count) refl
   where
-    go : (r : Range) → range_of (block_size w) (start w) (usable w) addr count ≡ r → Failed NotSpoiled (change_in r (block_size w) (several w) count wanted w.blocks w.rows)
-    go (Inside offset) e =
+    go : (r : Result RegionOffset Reason) → range_of (block_size w) (start w) (usable w) addr count ≡ r → Failed Low (change_in r (block_size w) (several w) count wanted w.blocks w.rows)
+    go (Ok offset) e =
         let in-range = inside_is (block_size w) (start w) (usable w) addr count offset e in
-        either_failed NotSpoiled (all_are w.blocks (blocks_in (block_size w) offset.0) count (not wanted)) _ _
+        either_failed Low (all_are w.blocks (blocks_in (block_size w) offset.0) count (not wanted)) _ _
         (hosts w u offset.0 (bytes_of (block_size w) count) (mul-pos in-range.some u.whole) in-range.in_usable)
         (low 7 (omega arith))
-    go (NotInside part) e = part_low part
+    go (Err reason) e = rw e at (range_low (block_size w) (start w) (usable w) addr count)
 
-known : Known (λ v. NotSpoiled v.why) Backed
+known : Known (λ v. NotSpoiled (why_number v.why)) Backed
 known =
     record {
       acks = low 0 (omega arith);
       nacks = low 0 (omega arith);
-      states = λ w u addr count. state_low _;
+      states = λ w u addr count. range_low _ _ _ _ _;
       changes = changes;
       discards = (λ e. omega arith, λ e. omega arith);
       clears = λ w block u. record { whole = u.whole; in_region = u.in_region; below = u.below; fits = u.fits };
@@ -115,4 +120,4 @@ pub never_9_or_10 : FromEveryGood Never9Or10
 never_9_or_10 s g =
     let w = s.world in
     let f = shaped_is w.device g.shaped in
-    of_every_reply (λ v. NotSpoiled v.why) Backed known w (record { whole = omega (arith, f.block_size); in_region = f.usable_in; below = g.mapped.below; fits = g.mapped.fits })
+    of_every_reply (λ v. NotSpoiled (why_number v.why)) Backed known w (record { whole = omega (arith, f.block_size); in_region = f.usable_in; below = g.mapped.below; fits = g.mapped.fits })

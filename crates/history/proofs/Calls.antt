@@ -1,6 +1,6 @@
 -- SPDX-License-Identifier: Apache-2.0 AND BSD-3-Clause
 -- Every call at once: what holds of each ending of the step, with the events that it tells, holds of every call with its events.
-use Rattle.std.specs.Prelude.{Some, None}
+use Rattle.std.specs.Prelude.{Some, None, Ok, Err, Result}
 use Prim.Native.Nat.{ℕ, ◌+◌, ◌*◌, ◌%◌, ◌≤◌, ◌<◌}
 use mathlib.Core.Path.{◌≡◌, refl, ap, ◌∙◌}
 use mathlib.Core.Bool.{Bool, true, false, cond}
@@ -14,10 +14,15 @@ use Rattle.units.specs.Numbers.{top, bytes_of}
 use Rattle.units.specs.declared.GuestAddr.{GuestAddr}
 use Rattle.bitmap.specs.Blocks.{next_set}
 use Rattle.wire.specs.declared.VirtioMemReq.{VirtioMemReq}
-use Rattle.change.specs.Why.{failed_discard}
+use Rattle.refusal.specs.declared.Refusal.{Refusal}
+use Rattle.refusal.specs.declared.Refusal.TheVariants.{WrongSize, WrongRange, WrongStart, NothingPending, HostPastTop, NoShape}
+use Rattle.refusal.specs.Refusal.{number}
+use Rattle.change.specs.declared.Reason.{Reason}
+use Rattle.change.specs.declared.Reason.TheVariants.{FailedDiscard}
 use Rattle.step.specs.declared.Verdict.{Verdict}
-use Rattle.chain.specs.declared.Parsed.{Parsed}
-use Rattle.chain.specs.declared.Parsed.TheVariants.{Request as Got, Bad}
+use Rattle.chain.specs.declared.Asked.{Asked}
+use Rattle.chain.specs.declared.NoRequest.{NoRequest}
+use Rattle.chain.specs.declared.NoRequest.TheVariants.{UnknownType}
 use Rattle.chain.specs.Chain.{parsed}
 use Rattle.rows.specs.declared.MapRow.{MapRow}
 use Rattle.record.specs.declared.Pending.{Pending}
@@ -102,10 +107,10 @@ Grows w i last size = growth_of (region w) (several w) (usable w) (new_usable w)
 -- K holds of each ending
 pub record Endings (w : World) (K : Call → Outcome → List Event → Type 0) : Type 0 where
   -- 12 is given for the shape alone, but for `spoils`; 10 is `create_fails_lem`
-  pub refuses : (c : Call) (n : ℕ) → (n ≡ 10 → ⊥) → (n ≡ 12 → shaped_of w.device ≡ false) → K c (refused n w (lent_bytes c)) []
+  pub refuses : (c : Call) (r : Refusal) → (number r ≡ 10 → ⊥) → (number r ≡ 12 → shaped_of w.device ≡ false) → K c (refused r w (lent_bytes c)) []
   pub reads : (offset : ℕ) (buffer bytes : List ℕ) → K (ReadConfig offset buffer) (record { world = w; answer = Done; bytes = bytes }) []
   pub writes : (offset : ℕ) (buffer : List ℕ) → K (WriteConfig offset buffer) (record { world = w; answer = Done; bytes = buffer }) []
-  pub unserves : {type : Option ℕ} (a : Requesting w type) (reason : ℕ) → K (request_of a) (unserved reason w a.guest) []
+  pub unserves : {type : Option ℕ} (a : Requesting w type) (reason : NoRequest) → K (request_of a) (unserved reason w a.guest) []
   -- NACK, ERROR and every response to a state request
   pub responds : {type : Option ℕ} (a : Requesting w type) (v : Verdict) → K (request_of a) (served v a.status w a.guest) []
   pub plugs_range : (a : Requesting w (some 0)) (addr count first offset : ℕ) → plugged w + bytes_of (block_size w) count ≤ requested w → Lies w addr count true first offset
@@ -113,23 +118,23 @@ pub record Endings (w : World) (K : Call → Outcome → List Event → Type 0) 
   pub asks_range : (a : Requesting w (some 1)) (addr count first offset host : ℕ) → bytes_of (block_size w) count ≤ plugged w → Lies w addr count false first offset
       → Located w first count offset host → K (request_of a) (asks_discard w first count offset host a.status a.guest) []
   pub spoils : (a : Requesting w (some 1)) (addr count first offset : ℕ) → plugged w < bytes_of (block_size w) count → Lies w addr count false first offset
-      → K (request_of a) (refused 12 w a.guest.mem) []
+      → K (request_of a) (refused NoShape w a.guest.mem) []
   pub ends_at_once : (a : Requesting w (some 2)) → next_set w.blocks 0 (region_blocks w) ≡ None → K (request_of a) (ends_all w a.status a.guest) (UnplugAllAck ∷ [])
   pub asks_first : (a : Requesting w (some 2)) (block offset host : ℕ) → next_set w.blocks 0 (region_blocks w) ≡ Some block → Located w block 1 offset host
       → K (request_of a) (asks_one w block offset host a.status a.guest) []
-  pub stops_at_once : {why : ℕ} (a : Requesting w (some 2)) → K (request_of a) (stops why w a.status a.guest) []
+  pub stops_at_once : {why : Reason} (a : Requesting w (some 2)) → K (request_of a) (stops why w a.status a.guest) []
   pub maps : (i last : ℕ) (a : Answering w (Create i last) true) → K (answer_of a) (creates w i last a.host a.guest.mem) []
   pub create_fails_lem : (i last : ℕ) (a : Answering w (Create i last) false) → K (answer_of a) (create_fails w a.guest.mem) []
   pub unplugs_range : (first count : ℕ) (status : GuestAddr) (a : Answering w (Discard first count status) true)
       → K (answer_of a) (unplugs w first count status.0 a.guest) (UnplugAck first count ∷ [])
-  pub discard_fails : (first count : ℕ) (status : GuestAddr) (a : Answering w (Discard first count status) false) → K (answer_of a) (stops failed_discard w status.0 a.guest) []
+  pub discard_fails : (first count : ℕ) (status : GuestAddr) (a : Answering w (Discard first count status) false) → K (answer_of a) (stops FailedDiscard w status.0 a.guest) []
   pub ends_all_lem : (j : ℕ) (status : GuestAddr) (a : Answering w (DiscardOne j status) true) → next_set (cleared w j).blocks (j + 1) (region_blocks w) ≡ None
       → K (answer_of a) (ends_all (cleared w j) status.0 a.guest) (UnplugAllAck ∷ Discarded j ∷ [])
   pub asks_next : (j : ℕ) (status : GuestAddr) (a : Answering w (DiscardOne j status) true) (block offset host : ℕ)
       → next_set (cleared w j).blocks (j + 1) (region_blocks w) ≡ Some block → Located (cleared w j) block 1 offset host
       → K (answer_of a) (asks_one (cleared w j) block offset host status.0 a.guest) (Discarded j ∷ [])
-  pub stops_after : {why : ℕ} (j : ℕ) (status : GuestAddr) (a : Answering w (DiscardOne j status) true) → K (answer_of a) (stops why (cleared w j) status.0 a.guest) (Discarded j ∷ [])
-  pub one_fails : (j : ℕ) (status : GuestAddr) (a : Answering w (DiscardOne j status) false) → K (answer_of a) (stops failed_discard w status.0 a.guest) []
+  pub stops_after : {why : Reason} (j : ℕ) (status : GuestAddr) (a : Answering w (DiscardOne j status) true) → K (answer_of a) (stops why (cleared w j) status.0 a.guest) (Discarded j ∷ [])
+  pub one_fails : (j : ℕ) (status : GuestAddr) (a : Answering w (DiscardOne j status) false) → K (answer_of a) (stops FailedDiscard w status.0 a.guest) []
   pub resizes : (a : Resizing w) → K (SetRequestedSize a.mib) (sizes (resized_by a)) []
   pub resize_asks : (a : Resizing w) (i last size : ℕ) → Grows (resized_by a) i last size → K (SetRequestedSize a.mib) (asks_create (resized_by a) i last size) []
   pub places : (a : Placing w) → K (place_of a) (sizes (placed_by a)) []
@@ -143,22 +148,22 @@ module _ (w : World) (K : Call → Outcome → List Event → Type 0) (k : Endin
 
   of_place : (at size : ℕ) (slots : List ℕ) (bs : List Bool) (rows : List MapRow) → w.device.placed ≡ false → Entered w.device (length bs) (length rows) true
       → With (Place at size slots bs rows) [] [] (place w at size slots bs rows)
-  unfolding response refusal lent_bytes
+  unfolding response refusal lent_bytes number
   of_place at size slots bs rows p e =
       let c = Place at size slots bs rows in
       place_cases (With c [] []) w at size slots bs rows
-      (k.refuses c 3 (λ z. omega arith) (λ z. absurd (omega arith)))
-      (k.refuses c 4 (λ z. omega arith) (λ z. absurd (omega arith)))
+      (k.refuses c WrongRange (λ z. omega arith) (λ z. absurd (omega arith)))
+      (k.refuses c WrongStart (λ z. omega arith) (λ z. absurd (omega arith)))
       (λ n f.
       let a : Placing w = record { at = at; size = size; slots = slots; bits = bs; table = rows; not_placed_lem = p; entry = e; slots_fit = n; start_fits = f } in
       placing_cases (With c [] []) (placed w at slots bs rows) (k.places a) (λ i last m r. k.place_asks a i last m r) (λ r. k.place_asks_whole a r))
 
   of_size : (mib : ℕ) → w.device.placed ≡ true → Entered w.device (length w.blocks) (length w.rows) true → With (SetRequestedSize mib) [] [] (set_requested_size w mib)
-  unfolding response refusal lent_bytes
+  unfolding response refusal lent_bytes number
   of_size mib p e =
       let c = SetRequestedSize mib in
       size_cases (With c [] []) w mib
-      (k.refuses c 1 (λ z. omega arith) (λ z. absurd (omega arith)))
+      (k.refuses c WrongSize (λ z. omega arith) (λ z. absurd (omega arith)))
       (λ q r.
       let a : Resizing w = record { mib = mib; is_placed = p; entry = e; in_region = q; whole = r } in
       resized_cases (With c [] []) (resized_by a) (k.resizes a) (λ i last n g. k.resize_asks a i last n g))
@@ -197,20 +202,20 @@ module _ (w : World) (K : Call → Outcome → List Event → Type 0) (k : Endin
         (λ block offset host r at. k.asks_first (of 2 t₂) block offset host r at)
         (λ why. k.stops_at_once (of 2 t₂))))
         (λ t₀ t₁ t₂. rw (t₀, t₁, t₂) (of_response status (state_verdict w addr count)))
-        (k.unserves (asking status _ q) 0)
+        (k.unserves (asking status _ q) UnknownType)
 
-    of_request : (chain : Parsed) → parsed g.mem g.base descriptors head ≡ chain → With c (ack_to_request w chain) [] (request chain w g)
+    of_request : (chain : Result Asked NoRequest) → parsed g.mem g.base descriptors head ≡ chain → With c (ack_to_request w chain) [] (request chain w g)
     unfolding request ack_to_request response refusal type_of
-    of_request (Bad reason) q = k.unserves (asking 0 _ refl) reason
-    of_request (Got req status) q = of_serve req status.0 (ap type_of q)
+    of_request (Err reason) q = k.unserves (asking 0 _ refl) reason
+    of_request (Ok asked) q = of_serve asked.request asked.status.0 (ap type_of q)
 
   of_answer : (p : Pending) (ok : Bool) (a : Answering w p ok)
       → With (answer_of a) (acknowledges w (open_of p) (answer_of a)) (reports (open_of p) (answer_of a)) (host_answer p w a.guest ok a.host)
-  unfolding host_answer open_of acknowledges ack_to_host reports discard_of response refusal lent_bytes
-  of_answer Nothing true a = k.refuses (answer_of a) 8 (λ z. omega arith) (λ z. absurd (omega arith))
-  of_answer Nothing false a = k.refuses (answer_of a) 8 (λ z. omega arith) (λ z. absurd (omega arith))
+  unfolding host_answer open_of acknowledges ack_to_host reports discard_of response refusal lent_bytes number
+  of_answer Nothing true a = k.refuses (answer_of a) NothingPending (λ z. omega arith) (λ z. absurd (omega arith))
+  of_answer Nothing false a = k.refuses (answer_of a) NothingPending (λ z. omega arith) (λ z. absurd (omega arith))
   of_answer (Create i last) true a =
-      by_cond (With (answer_of a) [] []) (ltb top (a.host + covered_by w i last)) _ _ (λ _. k.refuses (answer_of a) 9 (λ z. omega arith) (λ z. absurd (omega arith)))
+      by_cond (With (answer_of a) [] []) (ltb top (a.host + covered_by w i last)) _ _ (λ _. k.refuses (answer_of a) HostPastTop (λ z. omega arith) (λ z. absurd (omega arith)))
       (λ _. k.maps i last a)
   of_answer (Create i last) false a = k.create_fails_lem i last a
   of_answer (Discard first count status) true a = k.unplugs_range first count status a
@@ -223,26 +228,26 @@ module _ (w : World) (K : Call → Outcome → List Event → Type 0) (k : Endin
   of_answer (DiscardOne j status) false a = k.one_fails j status a
 
   pub each_call : (c : Call) → K c (step w c) (events_of w (open_of w.device.pending) c (step w c).answer)
-  unfolding step events_of acknowledges reports response refusal lent_bytes
+  unfolding step events_of acknowledges reports response refusal lent_bytes number
   each_call (Place at size slots bs rows) =
       let c = Place at size slots bs rows in
-      on_unplaced (With c [] []) w [] _ (λ n. k.refuses c n) (length bs) (length rows) (λ p e. of_place at size slots bs rows p e)
+      on_unplaced (With c [] []) w [] _ (λ r. k.refuses c r) (length bs) (length rows) (λ p e. of_place at size slots bs rows p e)
   each_call (SetRequestedSize mib) =
       let c = SetRequestedSize mib in
-      on_ready (With c [] []) w [] _ (λ n. k.refuses c n) (length w.blocks) (length w.rows) (λ p e. of_size mib p e)
+      on_ready (With c [] []) w [] _ (λ r. k.refuses c r) (length w.blocks) (length w.rows) (λ p e. of_size mib p e)
   each_call (Request g descriptors head) =
       let c = Request g descriptors head in
       let chain = parsed g.mem g.base descriptors head in
-      on_ready (With c (ack_to_request w chain) []) w g.mem _ (λ n. k.refuses c n) (length w.blocks) (length w.rows)
+      on_ready (With c (ack_to_request w chain) []) w g.mem _ (λ r. k.refuses c r) (length w.blocks) (length w.rows)
       (λ p e. of_request g descriptors head p e chain refl)
   each_call (HostAnswer g ok host) =
       let c = HostAnswer g ok host in
       let o = open_of w.device.pending in
-      on_pending (With c (acknowledges w o c) (reports o c)) w g.mem _ (λ n. k.refuses c n) (length w.blocks) (length w.rows)
+      on_pending (With c (acknowledges w o c) (reports o c)) w g.mem _ (λ r. k.refuses c r) (length w.blocks) (length w.rows)
       (λ e. of_answer w.device.pending ok (record { guest = g; host = host; waits = refl; entry = e }))
   each_call (ReadConfig offset buffer) =
       let c = ReadConfig offset buffer in
-      read_cases (With c [] []) w offset buffer (λ s. k.refuses c 12 (λ z. omega arith) (λ _. s)) (k.reads offset buffer _)
+      read_cases (With c [] []) w offset buffer (λ s. k.refuses c NoShape (λ z. omega arith) (λ _. s)) (k.reads offset buffer _)
   each_call (WriteConfig offset buffer) =
       let c = WriteConfig offset buffer in
-      write_cases (With c [] []) w buffer (λ s. k.refuses c 12 (λ z. omega arith) (λ _. s)) (k.writes offset buffer)
+      write_cases (With c [] []) w buffer (λ s. k.refuses c NoShape (λ z. omega arith) (λ _. s)) (k.writes offset buffer)

@@ -1,6 +1,6 @@
 -- SPDX-License-Identifier: Apache-2.0 AND BSD-3-Clause
 -- For each tree of `Step`: what holds of every leaf that it can end in holds of its outcome, and each leaf gets what its tests tell.
-use Rattle.std.specs.Prelude.{Option, Some, None}
+use Rattle.std.specs.Prelude.{Option, Some, None, Ok, Err, Result, ⊤}
 use Prim.Native.Nat.{ℕ, ◌+◌, ◌-◌, ◌*◌, ◌%◌, ◌≤◌, ◌<◌}
 use mathlib.Core.Path.{◌≡◌, refl, ap, ◌∙◌}
 use mathlib.Core.Bool.{Bool, true, false, cond, not, ◌&&◌}
@@ -11,13 +11,15 @@ use lib.Dec.{leb, ltb, eqb}
 use lib.ListN.{length, drop}
 use borrow.Author.Tests.{leb-true, ltb-true, ltb-false, eqb-true}
 use Rattle.units.specs.Numbers.{bytes_of, blocks_in, map_regions}
-use Rattle.units.specs.declared.RegionOffset.{RegionOffset}
-use Rattle.units.specs.declared.HostAddr.{HostAddr}
 use Rattle.units.proofs.Tests.{and_left, and_right}
+use Rattle.refusal.specs.declared.Refusal.{Refusal}
+use Rattle.refusal.specs.declared.Refusal.TheVariants.{WrongSize, WrongRange, WrongStart, NotPlaced, AlreadyPlaced, CallPending, NothingPending, TooShort, NoShape}
+use Rattle.refusal.specs.Refusal.{number}
 use Rattle.bitmap.specs.Blocks.{all_are, next_set}
 use Rattle.little_endian.specs.Bytes.{put}
 use Rattle.wire.specs.Layout.{config_bytes}
 use Rattle.wire.specs.declared.VirtioMemReq.{VirtioMemReq}
+use Rattle.chain.specs.declared.NoRequest.TheVariants.{UnknownType}
 use Rattle.rows.specs.declared.MapRow.{MapRow}
 use Rattle.record.specs.declared.Device.{Device}
 use Rattle.record.specs.Shape.{shaped_of, is_idle, size_ok, start_ok}
@@ -25,8 +27,7 @@ use Rattle.record.specs.Changes.{requested_to}
 use Rattle.resize.specs.declared.Creation.{Creation}
 use Rattle.resize.specs.Resize.{growth_of, creation}
 use Rattle.change.specs.declared.Change.{Change}
-use Rattle.change.specs.declared.Change.TheVariants.{Legal, Outside, WrongState, NoHost}
-use Rattle.change.specs.declared.HostRange.TheVariants.{At as HostAt}
+use Rattle.change.specs.declared.Reason.{Reason}
 use Rattle.change.specs.Change.{host_of}
 use Rattle.change.proofs.Laws.{legal_is, legal_whole}
 use Rattle.step.specs.declared.Answer.TheVariants.{Done}
@@ -66,46 +67,46 @@ entered d blocks rows quiet s i t =
     }
 
 -- ---- the refusals of every call: 12 is given for the shape alone
-module _ (P : Outcome → Type 0) (w : World) (bytes : List ℕ) (o : Outcome) (refuses : (n : ℕ) → (n ≡ 10 → ⊥) → (n ≡ 12 → shaped_of w.device ≡ false) → P (refused n w bytes)) (blocks rows : ℕ) where
-  abbrev Given : ℕ → Type 0
-  Given n = P (unless n w bytes o)
+module _ (P : Outcome → Type 0) (w : World) (bytes : List ℕ) (o : Outcome) (refuses : (r : Refusal) → (number r ≡ 10 → ⊥) → (number r ≡ 12 → shaped_of w.device ≡ false) → P (refused r w bytes)) (blocks rows : ℕ) where
+  abbrev Given : Result ⊤ Refusal → Type 0
+  Given x = P (unless x w bytes o)
 
   pub on_ready : (w.device.placed ≡ true → Entered w.device blocks rows true → P o) → P (unless (ready_refusal w.device blocks rows) w bytes o)
-  unfolding ready_refusal unless
+  unfolding ready_refusal unless number
   on_ready k =
       by_not Given (shaped_of w.device) _ _
       (λ h₁. by_not Given (is_idle w.device.pending) _ _
       (λ h₂. by_not Given w.device.placed _ _
       (λ h₃. by_not Given (tables_fit w.device blocks rows) _ _
       (λ h₄. k h₃ (entered _ _ _ _ h₁ h₂ h₄))
-      (λ _. refuses 11 (λ e. omega arith) (λ e. absurd (omega arith))))
-      (λ _. refuses 5 (λ e. omega arith) (λ e. absurd (omega arith))))
-      (λ _. refuses 7 (λ e. omega arith) (λ e. absurd (omega arith))))
-      (λ h₁. refuses 12 (λ e. omega arith) (λ _. h₁))
+      (λ _. refuses TooShort (λ e. omega arith) (λ e. absurd (omega arith))))
+      (λ _. refuses NotPlaced (λ e. omega arith) (λ e. absurd (omega arith))))
+      (λ _. refuses CallPending (λ e. omega arith) (λ e. absurd (omega arith))))
+      (λ h₁. refuses NoShape (λ e. omega arith) (λ _. h₁))
 
   pub on_unplaced : (w.device.placed ≡ false → Entered w.device blocks rows true → P o) → P (unless (unplaced_refusal w.device blocks rows) w bytes o)
-  unfolding unplaced_refusal unless
+  unfolding unplaced_refusal unless number
   on_unplaced k =
       by_not Given (shaped_of w.device) _ _
       (λ h₁. by_not Given (is_idle w.device.pending) _ _
       (λ h₂. by_cond Given w.device.placed _ _
-      (λ _. refuses 6 (λ e. omega arith) (λ e. absurd (omega arith)))
+      (λ _. refuses AlreadyPlaced (λ e. omega arith) (λ e. absurd (omega arith)))
       (λ h₃. by_not Given (tables_fit w.device blocks rows) _ _
       (λ h₄. k h₃ (entered _ _ _ _ h₁ h₂ h₄))
-      (λ _. refuses 11 (λ e. omega arith) (λ e. absurd (omega arith)))))
-      (λ _. refuses 7 (λ e. omega arith) (λ e. absurd (omega arith))))
-      (λ h₁. refuses 12 (λ e. omega arith) (λ _. h₁))
+      (λ _. refuses TooShort (λ e. omega arith) (λ e. absurd (omega arith)))))
+      (λ _. refuses CallPending (λ e. omega arith) (λ e. absurd (omega arith))))
+      (λ h₁. refuses NoShape (λ e. omega arith) (λ _. h₁))
 
   pub on_pending : (Entered w.device blocks rows false → P o) → P (unless (pending_refusal w.device blocks rows) w bytes o)
-  unfolding pending_refusal unless
+  unfolding pending_refusal unless number
   on_pending k =
       by_not Given (shaped_of w.device) _ _
       (λ h₁. by_cond Given (is_idle w.device.pending) _ _
-      (λ _. refuses 8 (λ e. omega arith) (λ e. absurd (omega arith)))
+      (λ _. refuses NothingPending (λ e. omega arith) (λ e. absurd (omega arith)))
       (λ h₂. by_not Given (tables_fit w.device blocks rows) _ _
       (λ h₃. k (entered _ _ _ _ h₁ h₂ h₃))
-      (λ _. refuses 11 (λ e. omega arith) (λ e. absurd (omega arith)))))
-      (λ h₁. refuses 12 (λ e. omega arith) (λ _. h₁))
+      (λ _. refuses TooShort (λ e. omega arith) (λ e. absurd (omega arith)))))
+      (λ h₁. refuses NoShape (λ e. omega arith) (λ _. h₁))
 
 -- ---- a legal range, by blocks
 pub record Lies (w : World) (addr count : ℕ) (wanted : Bool) (first offset : ℕ) : Type 0 where
@@ -116,10 +117,11 @@ pub record Lies (w : World) (addr count : ℕ) (wanted : Bool) (first offset : �
   pub in_usable : offset + bytes_of (block_size w) count ≤ usable w
   pub state : all_are w.blocks first count (not wanted) ≡ true
 
-pub lies : (w : World) (addr count : ℕ) (wanted : Bool) (first : ℕ) (offset : RegionOffset) (host : HostAddr) → Parts w.device → changing w addr count wanted ≡ Legal first offset host
-    → Lies w addr count wanted first offset.0
-lies w addr count wanted first offset host s e =
-    let l = legal_is (block_size w) (start w) (usable w) (several w) addr count wanted w.blocks w.rows first offset host e in
+pub lies : (w : World) (addr count : ℕ) (wanted : Bool) (change : Change) → Parts w.device → changing w addr count wanted ≡ Ok change
+    → Lies w addr count wanted change.first change.offset.0
+lies w addr count wanted change s e =
+    let offset = change.offset in
+    let l = legal_is (block_size w) (start w) (usable w) (several w) addr count wanted w.blocks w.rows change.first change.offset change.host e in
     let b = block_is w.device s in
     let positive : 0 < block_size w = omega arith in
     let fits = size_within (block_size w) (usable w) (region w) s.usable in
@@ -137,16 +139,16 @@ lies w addr count wanted first offset host s e =
 -- .. its offset, and the host address that its row gives: what a discard of it is asked for with
 pub record Located (w : World) (first count offset host : ℕ) : Type 0 where
   pub offset_is : offset ≡ bytes_of (block_size w) first
-  pub host_is : host_of (several w) w.rows offset (bytes_of (block_size w) count) ≡ HostAt (record { 0 = host })
+  pub host_is : host_of (several w) w.rows offset (bytes_of (block_size w) count) ≡ Ok (record { 0 = host })
 
-located : (w : World) (addr count : ℕ) (wanted : Bool) (first : ℕ) (offset : RegionOffset) (host : HostAddr) → Parts w.device → changing w addr count wanted ≡ Legal first offset host
-    → Located w first count offset.0 host.0
-located w addr count wanted first offset host s e =
-    let l = legal_is (block_size w) (start w) (usable w) (several w) addr count wanted w.blocks w.rows first offset host e in
+located : (w : World) (addr count : ℕ) (wanted : Bool) (change : Change) → Parts w.device → changing w addr count wanted ≡ Ok change
+    → Located w change.first count change.offset.0 change.host.0
+located w addr count wanted change s e =
+    let l = legal_is (block_size w) (start w) (usable w) (several w) addr count wanted w.blocks w.rows change.first change.offset change.host e in
     let b = block_is w.device s in
     let facts = facts-of w.device (shaped-when w.device s) in
     record {
-      offset_is = (legal_whole (block_size w) (start w) (usable w) (several w) addr count wanted w.blocks w.rows first offset host (omega arith) (rw b facts.start_blocks) l).offset_of_lem;
+      offset_is = (legal_whole (block_size w) (start w) (usable w) (several w) addr count wanted w.blocks w.rows change.first change.offset change.host (omega arith) (rw b facts.start_blocks) l).offset_of_lem;
       host_is = l.host_at;
     }
 
@@ -154,56 +156,50 @@ located w addr count wanted first offset host s e =
 module _ (P : Outcome → Type 0) (w : World) (s : Parts w.device) (status : ℕ) (g : Guest) where
   pub plug_cases : (addr count : ℕ)
       → ((first offset : ℕ) → plugged w + bytes_of (block_size w) count ≤ requested w → Lies w addr count true first offset → P (plugs w first count status g))
-      → ((why : ℕ) → P (served (error why) status w g)) → P (served nack status w g) → P (plug w addr count status g)
+      → ((why : Reason) → P (served (error why) status w g)) → P (served nack status w g) → P (plug w addr count status g)
   unfolding plug plug_as
   plug_cases addr count legal bad over =
       by_cond P (ltb (requested w) (plugged w + bytes_of (block_size w) count)) _ _ (λ _. over)
       (λ h. go (changing w addr count true) refl (ltb-false (requested w) (plugged w + bytes_of (block_size w) count) h))
     where
-      go : (c : Change) → changing w addr count true ≡ c → plugged w + bytes_of (block_size w) count ≤ requested w → P (plug_as c w count status g)
-      go (Legal first offset host) e h = legal first offset.0 h (lies w addr count true first offset host s e)
-      go (Outside part) e h = bad _
-      go WrongState e h = bad _
-      go (NoHost part) e h = bad _
+      go : (c : Result Change Reason) → changing w addr count true ≡ c → plugged w + bytes_of (block_size w) count ≤ requested w → P (plug_as c w count status g)
+      go (Ok change) e h = legal change.first change.offset.0 h (lies w addr count true change s e)
+      go (Err why) e h = bad why
 
   pub unplug_cases : (addr count : ℕ)
       → ((first offset host : ℕ) → bytes_of (block_size w) count ≤ plugged w → Lies w addr count false first offset → Located w first count offset host
       → P (asks_discard w first count offset host status g))
-      → ((first offset : ℕ) → plugged w < bytes_of (block_size w) count → Lies w addr count false first offset → P (refused 12 w g.mem))
-      → ((why : ℕ) → P (served (error why) status w g)) → P (unplug w addr count status g)
+      → ((first offset : ℕ) → plugged w < bytes_of (block_size w) count → Lies w addr count false first offset → P (refused NoShape w g.mem))
+      → ((why : Reason) → P (served (error why) status w g)) → P (unplug w addr count status g)
   unfolding unplug_as
   unplug_cases addr count legal spoiled bad = go (changing w addr count false) refl
     where
-      go : (c : Change) → changing w addr count false ≡ c → P (unplug_as c w count status g)
-      go (Legal first offset host) e =
-          let l = lies w addr count false first offset host s e in
+      go : (c : Result Change Reason) → changing w addr count false ≡ c → P (unplug_as c w count status g)
+      go (Ok change) e =
+          let l = lies w addr count false change s e in
           by_cond P (ltb (plugged w) (bytes_of (block_size w) count)) _ _
-          (λ h. spoiled first offset.0 (ltb-true (plugged w) (bytes_of (block_size w) count) h) l)
-          (λ h. legal first offset.0 host.0 (ltb-false (plugged w) (bytes_of (block_size w) count) h) l (located w addr count false first offset host s e))
-      go (Outside part) e = bad _
-      go WrongState e = bad _
-      go (NoHost part) e = bad _
+          (λ h. spoiled change.first change.offset.0 (ltb-true (plugged w) (bytes_of (block_size w) count) h) l)
+          (λ h. legal change.first change.offset.0 change.host.0 (ltb-false (plugged w) (bytes_of (block_size w) count) h) l (located w addr count false change s e))
+      go (Err why) e = bad why
 
   one_cases : (block : ℕ)
       → ((offset host : ℕ) → Located w block 1 offset host → P (asks_one w block offset host status g))
-      → ((why : ℕ) → P (stops why w status g)) → P (unplug_one w block status g)
+      → ((why : Reason) → P (stops why w status g)) → P (unplug_one w block status g)
   unfolding one_as
   one_cases block asks stop = go (changing w (start w + bytes_of (block_size w) block) 1 false) refl
     where
-      go : (c : Change) → changing w (start w + bytes_of (block_size w) block) 1 false ≡ c → P (one_as c w block status g)
-      go (Legal first offset host) e =
+      go : (c : Result Change Reason) → changing w (start w + bytes_of (block_size w) block) 1 false ≡ c → P (one_as c w block status g)
+      go (Ok change) e =
           let addr = start w + bytes_of (block_size w) block in
-          let l = lies w addr 1 false first offset host s e in
-          let at = located w addr 1 false first offset host s e in
-          asks offset.0 host.0 (record { offset_is = omega (arith, l.offset_is); host_is = at.host_is })
-      go (Outside part) e = stop _
-      go WrongState e = stop _
-      go (NoHost part) e = stop _
+          let l = lies w addr 1 false change s e in
+          let at = located w addr 1 false change s e in
+          asks change.offset.0 change.host.0 (record { offset_is = omega (arith, l.offset_is); host_is = at.host_is })
+      go (Err why) e = stop why
 
   pub unplug_all_cases : (from : ℕ)
       → (next_set w.blocks from (region_blocks w) ≡ None → P (ends_all w status g))
       → ((block offset host : ℕ) → next_set w.blocks from (region_blocks w) ≡ Some block → Located w block 1 offset host → P (asks_one w block offset host status g))
-      → ((why : ℕ) → P (stops why w status g)) → P (unplug_all w from status g)
+      → ((why : Reason) → P (stops why w status g)) → P (unplug_all w from status g)
   unfolding next_as
   unplug_all_cases from ends asks stop = go (next_set w.blocks from (region_blocks w)) refl
     where
@@ -219,7 +215,7 @@ module _ (P : Outcome → Type 0) (w : World) (req : VirtioMemReq) (status : ℕ
       → (eqb req.req_type 0 ≡ false → eqb req.req_type 1 ≡ false → eqb req.req_type 2 ≡ true → P (unplug_all w 0 status g))
       → (eqb req.req_type 0 ≡ false → eqb req.req_type 1 ≡ false → eqb req.req_type 2 ≡ false
       → P (served (state_verdict w req.addr.0 req.nb_blocks) status w g))
-      → P (unserved 0 w g) → P (serve w req status g)
+      → P (unserved UnknownType w g) → P (serve w req status g)
   unfolding serve
   serve_cases plugging unplugging all state other =
       by_cond P (eqb req.req_type 0) _ _ plugging
@@ -253,19 +249,19 @@ module _ (P : Outcome → Type 0) (w : World) where
   placing_cases settled asks single = by_cond P (several w) _ _ (λ _. resized_cases settled asks) single
 
   pub place_cases : (at size : ℕ) (slots : List ℕ) (bs : List Bool) (rows : List MapRow)
-      → P (refused 3 w []) → P (refused 4 w [])
+      → P (refused WrongRange w []) → P (refused WrongStart w [])
       → (length slots ≡ region_rows w → start_ok at (region w) (several w) w.device.alignment ≡ true → P (placing (placed w at slots bs rows)))
       → P (place w at size slots bs rows)
   unfolding place range_refusal unless
   place_cases at size slots bs rows bad-range bad-start k =
-      let Given : ℕ → Type 0 = λ n. P (unless n w [] (placing (placed w at slots bs rows))) in
+      let Given : Result ⊤ Refusal → Type 0 = λ x. P (unless x w [] (placing (placed w at slots bs rows))) in
       by_not Given (eqb (length slots) (region_rows w) && eqb size (region w)) _ _
       (λ fit. by_not Given (start_ok at (region w) (several w) w.device.alignment) _ _
       (λ starts. k (eqb-true (length slots) (region_rows w) (and_left _ _ fit)) starts)
       (λ _. bad-start))
       (λ _. bad-range)
 
-  pub size_cases : (mib : ℕ) → P (refused 1 w [])
+  pub size_cases : (mib : ℕ) → P (refused WrongSize w [])
       → (mib * 1048576 ≤ region w → mib * 1048576 % block_size w ≡ 0 → P (resized (device_of (requested_to (mib * 1048576) w.device) w)))
       → P (set_requested_size w mib)
   unfolding set_requested_size
@@ -274,14 +270,14 @@ module _ (P : Outcome → Type 0) (w : World) where
       (λ fits. k (size_within _ _ _ fits) (size_whole _ _ _ fits))
       (λ _. bad)
 
-  pub read_cases : (offset : ℕ) (buffer : List ℕ) → (shaped_of w.device ≡ false → P (refused 12 w buffer))
+  pub read_cases : (offset : ℕ) (buffer : List ℕ) → (shaped_of w.device ≡ false → P (refused NoShape w buffer))
       → P (record { world = w; answer = Done; bytes = put buffer 0 (drop offset (config_bytes w.device.config)) })
       → P (read_config w offset buffer)
   unfolding read_config
   read_cases offset buffer bad good =
       by_not P (shaped_of w.device) _ _ (λ _. good) bad
 
-  pub write_cases : (buffer : List ℕ) → (shaped_of w.device ≡ false → P (refused 12 w buffer))
+  pub write_cases : (buffer : List ℕ) → (shaped_of w.device ≡ false → P (refused NoShape w buffer))
       → P (record { world = w; answer = Done; bytes = buffer }) → P (write_config w buffer)
   unfolding write_config
   write_cases buffer bad good =

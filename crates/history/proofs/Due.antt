@@ -63,7 +63,7 @@ pub row_due_lem : (w : World) → row_due w.device.pending w.rows ≡ true → E
 unfolding row_due
 row_due_lem w h =
     record {
-      refuses = λ c n _ _. h;
+      refuses = λ c r _ _. h;
       reads = λ offset buffer bytes. h;
       writes = λ offset buffer. h;
       unserves = λ a reason. h;

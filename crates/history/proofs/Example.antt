@@ -1,5 +1,6 @@
 -- SPDX-License-Identifier: Apache-2.0 AND BSD-3-Clause
 -- The whole example (R12.12) as a run, guest bytes and all, a second run with every kind of event, a builder that plugs again after a failed unplug-all (R10.13), and a run that goes on from a restore. All begin with a newly made device, so what is said of every run is said of something. Computed, by `refl`.
+use Rattle.std.specs.Prelude.{None}
 use Prim.Native.Nat.{ℕ}
 use mathlib.Core.Path.{◌≡◌, refl}
 use mathlib.Core.Bool.{true, false}
@@ -20,7 +21,7 @@ use Rattle.record.specs.declared.HostCall.TheVariants.{Create, Discard}
 use Rattle.record.specs.Shape.{alignment_ok, region_ok, size_ok, span_of, start_ok, several_ok, pending_ok, shaped_of}
 use Rattle.resize.specs.Resize.{new_size, growth_of}
 use Rattle.change.specs.Change.{inside_of, range_of, host_sum, host_in, host_of, legal_at, change_in, state_in, state_of}
-use Rattle.change.specs.Why.{range_why, failed_discard}
+use Rattle.change.specs.declared.Reason.TheVariants.{FailedDiscard}
 use Rattle.step.specs.declared.Answer.{Answer}
 use Rattle.step.specs.declared.Answer.TheVariants.{Wants, Sized}
 use Rattle.step.specs.Answers.{served_with, refusal, response}
@@ -131,10 +132,10 @@ pub record Example : Type 0 where
       ∷ Sized
       ∷ served_with ack 10
       ∷ served_with nack 10
-      ∷ served_with (verdict 0 2 0) 10
+      ∷ served_with (verdict 0 2 None) 10
       ∷ Wants (Discard (record { 0 = 0 }) 4194304 (record { 0 = 140737488355328 }))
       ∷ Wants (Discard (record { 0 = 4194304 }) 4194304 (record { 0 = 140737492549632 }))
-      ∷ served_with (error failed_discard) 10
+      ∷ served_with (error FailedDiscard) 10
       ∷ Sized
       ∷ []
   pub told : (after (begun device) calls).events ≡ Discarded 0 ∷ PlugAck 0 2 ∷ []
@@ -160,7 +161,7 @@ pub record Example : Type 0 where
       ∷ served_with ack 10
       ∷ Wants (Discard (record { 0 = 0 }) 4194304 (record { 0 = 140737488355328 }))
       ∷ Wants (Discard (record { 0 = 4194304 }) 4194304 (record { 0 = 140737492549632 }))
-      ∷ served_with (error failed_discard) 10
+      ∷ served_with (error FailedDiscard) 10
       ∷ served_with ack 10
       ∷ []
   pub again_told : (after (begun device) again).events ≡ PlugAck 0 1 ∷ Discarded 0 ∷ PlugAck 0 4 ∷ []
@@ -177,7 +178,7 @@ pub record Example : Type 0 where
   pub resumed_counted : ones (used (after resumed on_with).world) ≡ 2
 
 pub example : Example
-unfolding device chain_to chain place_it calls more again saved resumed on_with answers map_regions every fill first_from ones value little_endian part put request_at response_bytes virtq_desc descriptor_at descriptor_addr inside link_at link_after with_second with_first parsed reaches delivered mapping_of fill_rows rows_laid alignment_ok region_ok size_ok span_of start_ok several_ok pending_ok shaped_of new_size growth_of inside_of range_of host_sum host_in host_of legal_at change_in state_in state_of tables_fit ready_refusal unplaced_refusal pending_refusal range_refusal unless plug_as plug unplug_as one_as next_as state_type range_why serve request resizes placing place set_requested_size host_answer step ack_to_type ack_to_request ack_to_host acknowledges discard_of reports response refusal events_of opened_by_type opened_by_request goes_on opened_by asked_by open_after next after was_plug marks counts could marked counted all_could all_plugs
+unfolding device chain_to chain place_it calls more again saved resumed on_with answers map_regions every fill first_from ones value little_endian part put request_at response_bytes virtq_desc descriptor_at descriptor_addr inside link_at link_after with_second with_first parsed reaches delivered mapping_of fill_rows rows_laid alignment_ok region_ok size_ok span_of start_ok several_ok pending_ok shaped_of new_size growth_of inside_of range_of host_sum host_in host_of legal_at change_in state_in state_of tables_fit ready_refusal unplaced_refusal pending_refusal range_refusal unless plug_as plug unplug_as one_as next_as state_type serve request resizes placing place set_requested_size host_answer step ack_to_type ack_to_request ack_to_host acknowledges discard_of reports response refusal events_of opened_by_type opened_by_request goes_on opened_by asked_by open_after next after was_plug marks counts could marked counted all_could all_plugs
 example =
     record {
       answered = refl;

@@ -1,6 +1,6 @@
 -- SPDX-License-Identifier: Apache-2.0 AND BSD-3-Clause
 -- No host call is asked twice or left unanswered: questions and the answers taken balance, and what is asked for is due.
-use Prim.Native.Nat.{ℕ, ◌+◌}
+use Prim.Native.Nat.{◌+◌}
 use mathlib.Core.Path.{◌≡◌, refl}
 use mathlib.Core.Bool.{true}
 use mathlib.Core.List.{List, [], ◌∷◌}
@@ -9,6 +9,8 @@ use borrow.Author.Tests.{ne_eqb}
 use Rattle.record.specs.declared.Pending.{Pending}
 use Rattle.record.specs.declared.Pending.TheVariants.{Nothing, Create, Discard, DiscardOne}
 use Rattle.record.specs.Shape.{is_idle}
+use Rattle.refusal.specs.declared.Refusal.{Refusal}
+use Rattle.refusal.specs.Refusal.{number}
 use Rattle.step.specs.declared.Answer.TheVariants.{Refused}
 use Rattle.step.specs.Answers.{question, refusal}
 use Rattle.step.specs.World.{World, Call, Place, SetRequestedSize, Request, HostAnswer, ReadConfig, WriteConfig, Outcome}
@@ -25,24 +27,24 @@ idle_waits (Create first last) e = clash e refl
 idle_waits (Discard first count status) e = clash e refl
 idle_waits (DiscardOne block status) e = clash e refl
 
-refused_takes : (c : Call) (n : ℕ) → (n ≡ 10 → ⊥) → takes_answer c (Refused n) ≡ 0
+refused_takes : (c : Call) (r : Refusal) → (number r ≡ 10 → ⊥) → takes_answer c (Refused r) ≡ 0
 unfolding takes_answer refusal
-refused_takes (Place at size slots blocks rows) n h = refl
-refused_takes (SetRequestedSize mib) n h = refl
-refused_takes (Request guest descriptors head) n h = refl
-refused_takes (HostAnswer guest ok host) n h = rw (ne_eqb n 10 h)
-refused_takes (ReadConfig offset buffer) n h = refl
-refused_takes (WriteConfig offset buffer) n h = refl
+refused_takes (Place at size slots blocks rows) r h = refl
+refused_takes (SetRequestedSize mib) r h = refl
+refused_takes (Request guest descriptors head) r h = refl
+refused_takes (HostAnswer guest ok host) r h = rw (ne_eqb (number r) 10 h)
+refused_takes (ReadConfig offset buffer) r h = refl
+refused_takes (WriteConfig offset buffer) r h = refl
 
 abbrev Balanced : World → Call → Outcome → List Event → Type 0
 Balanced w c o new = asks o.answer + waits w.device.pending ≡ takes_answer c o.answer + waits o.world.device.pending
 
 balanced : (w : World) → Endings w (Balanced w)
-unfolding question takes_answer refusal waits
+unfolding question takes_answer refusal number waits
 balanced w =
     let p = w.device.pending in
     record {
-      refuses = λ c n h _. rw (refused_takes c n h);
+      refuses = λ c r h _. rw (refused_takes c r h);
       reads = λ offset buffer bytes. refl;
       writes = λ offset buffer. refl;
       unserves = λ a reason. refl;
@@ -78,11 +80,11 @@ abbrev Stays : World → Call → Outcome → List Event → Type 0
 Stays w c o new = PendingStays w c o
 
 stays : (w : World) → Endings w (Stays w)
-unfolding question takes_answer refusal
+unfolding question takes_answer refusal number
 stays w =
     let p = w.device.pending in
     record {
-      refuses = λ c n _ _ _ _. refl;
+      refuses = λ c r _ _ _ _. refl;
       reads = λ offset buffer bytes _ _. refl;
       writes = λ offset buffer _ _. refl;
       unserves = λ a reason _ _. refl;

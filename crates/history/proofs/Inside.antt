@@ -34,7 +34,7 @@ marked w first count v h p = rw (fill_length w.blocks first count v) (h p)
 pub keeps_fitting : (w : World) → Endings w (KeepsFitting w)
 keeps_fitting w =
     record {
-      refuses = λ c n _ _ h. h;
+      refuses = λ c r _ _ h. h;
       reads = λ offset buffer bytes h. h;
       writes = λ offset buffer h. h;
       unserves = λ a reason h. h;
@@ -91,7 +91,7 @@ module _ (w : World) where
   pub keeps_inside : Endings w (KeepsInside w)
   keeps_inside =
       record {
-        refuses = λ c n _ _ h. h;
+        refuses = λ c r _ _ h. h;
         reads = λ offset buffer bytes h. h;
         writes = λ offset buffer h. h;
         unserves = λ a reason h. h;

@@ -40,7 +40,7 @@ module _ (w : World) (es : List Event) (h : Inv w es) where
   unfolding discarding Asked
   kept =
       record {
-        refuses = λ c n _ _. h;
+        refuses = λ c r _ _. h;
         reads = λ offset buffer bytes. h;
         writes = λ offset buffer. h;
         unserves = λ a reason. h;

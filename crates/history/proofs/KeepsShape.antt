@@ -81,7 +81,7 @@ module _ (w : World) (s : Parts w.device) where
       let over = awaiting d s Nothing (nothing_ok _ _ _ _) in
       let positive = region_positive (region w) d.alignment s.region in
       record {
-        refuses = λ c n _ _. s;
+        refuses = λ c r _ _. s;
         reads = λ offset buffer bytes. s;
         writes = λ offset buffer. s;
         unserves = λ a reason. s;

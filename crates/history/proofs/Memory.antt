@@ -1,6 +1,6 @@
 -- SPDX-License-Identifier: Apache-2.0 AND BSD-3-Clause
 -- Every call keeps that the host has memory for the whole usable size.
-use Rattle.std.specs.Prelude.{None}
+use Rattle.std.specs.Prelude.{None, Ok, Err, Result}
 use Prim.Native.Nat.{ℕ, ◌+◌, ◌-◌, ◌*◌, ◌≤◌, ◌<◌}
 use mathlib.Core.Path.{◌≡◌, refl, ap}
 use mathlib.Core.Bool.{Bool, true, false}
@@ -12,8 +12,8 @@ use borrow.Author.Tests.{leb-true, leb-false, ltb-false}
 use Rattle.units.specs.Numbers.{top, map_region, map_regions}
 use Rattle.units.proofs.Tests.{by_test}
 use Rattle.wire.specs.declared.VirtioMemReq.{VirtioMemReq}
-use Rattle.chain.specs.declared.Parsed.{Parsed}
-use Rattle.chain.specs.declared.Parsed.TheVariants.{Request as Got, Bad}
+use Rattle.chain.specs.declared.Asked.{Asked}
+use Rattle.chain.specs.declared.NoRequest.{NoRequest}
 use Rattle.chain.specs.Chain.{parsed}
 use Rattle.rows.specs.declared.MapRow.{MapRow}
 use Rattle.rows.specs.Rows.{row_at, mapped_at, rows_filled, rows_laid}
@@ -159,10 +159,10 @@ module _ (w : World) (m : InMemory w) where
       (λ _ _ _. m)
       m
 
-  request_stays : Parts w.device → (chain : Parsed) (g : Guest) → Stays (request chain w g)
+  request_stays : Parts w.device → (chain : Result Asked NoRequest) (g : Guest) → Stays (request chain w g)
   unfolding request
-  request_stays s (Bad reason) g = m
-  request_stays s (Got req status) g = serve_stays s req status.0 g
+  request_stays s (Err reason) g = m
+  request_stays s (Ok asked) g = serve_stays s asked.request asked.status.0 g
 
   answer_stays : (p : Pending) (g : Guest) (ok : Bool) (host : ℕ) → w.device.pending ≡ p → Entered w.device (length w.blocks) (length w.rows) false → Stays (host_answer p w g ok host)
   unfolding host_answer is_creation
@@ -180,7 +180,7 @@ module _ (w : World) (m : InMemory w) where
   pub memory_kept : (c : Call) → Stays (step w c)
   unfolding step placing
   memory_kept (Place at size slots bs rows) =
-      on_unplaced Stays w [] _ (λ n _ _. m) (length bs) (length rows)
+      on_unplaced Stays w [] _ (λ r _ _. m) (length bs) (length rows)
       (λ p e. place_cases Stays w at size slots bs rows m m
       (λ n _.
       let w₁ = placed w at slots bs rows in
@@ -190,15 +190,15 @@ module _ (w : World) (m : InMemory w) where
       (λ s. resized_ways Stays w₁ (λ x. sized_memory w₁ laid_out e.pending_is_idle rows_fit (λ f. clash s f) x) (λ i last size x. asks_memory w₁ i last size laid_out (λ _. x)))
       (λ s. asks_memory w₁ 0 0 (region w) laid_out (λ f. clash f s))))
   memory_kept (SetRequestedSize mib) =
-      on_ready Stays w [] _ (λ n _ _. m) (length w.blocks) (length w.rows)
+      on_ready Stays w [] _ (λ r _ _. m) (length w.blocks) (length w.rows)
       (λ p e. size_cases Stays w mib m
       (λ _ _.
       let w₁ = device_of (requested_to (mib * 1048576) w.device) w in
       let asked : InMemory w₁ = idle_memory (new_usable w₁) e.pending_is_idle m in
       resized_ways Stays w₁ (λ x. sized_memory w₁ asked e.pending_is_idle e.has_rows (λ _. p) x) (λ i last size x. asks_memory w₁ i last size asked (λ _. x))))
   memory_kept (Request g descriptors head) =
-      on_ready Stays w g.mem _ (λ n _ _. m) (length w.blocks) (length w.rows) (λ _ e. request_stays e.is_shaped (parsed g.mem g.base descriptors head) g)
+      on_ready Stays w g.mem _ (λ r _ _. m) (length w.blocks) (length w.rows) (λ _ e. request_stays e.is_shaped (parsed g.mem g.base descriptors head) g)
   memory_kept (HostAnswer g ok host) =
-      on_pending Stays w g.mem _ (λ n _ _. m) (length w.blocks) (length w.rows) (λ e. answer_stays w.device.pending g ok host refl e)
+      on_pending Stays w g.mem _ (λ r _ _. m) (length w.blocks) (length w.rows) (λ e. answer_stays w.device.pending g ok host refl e)
   memory_kept (ReadConfig offset buffer) = read_cases Stays w offset buffer (λ _. m) m
   memory_kept (WriteConfig offset buffer) = write_cases Stays w buffer (λ _. m) m

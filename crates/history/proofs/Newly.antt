@@ -1,20 +1,19 @@
 -- SPDX-License-Identifier: Apache-2.0 AND BSD-3-Clause
 -- Every device that is made is a newly made device in the sense of the runs, so demand 3 holds from making on.
-use Rattle.std.specs.Prelude.{Option}
+use Rattle.std.specs.Prelude.{Option, Ok}
 use Prim.Native.Nat.{ℕ}
 use mathlib.Core.Path.{◌≡◌}
 use mathlib.Core.Bool.{Bool}
 use mathlib.Core.List.{List}
 use Rattle.record.specs.declared.Device.{Device}
 use Rattle.step.specs.World.{Call}
-use Rattle.making.specs.declared.Made.TheVariants.{Device as MadeDevice}
 use Rattle.making.specs.Made.{made}
 use Rattle.making.proofs.Newly.{made_new}
 use Rattle.history.specs.History.{Fresh, Demand3, after, begun}
 use Rattle.history.specs.Reached.{from_making}
 use Rattle.history.proofs.Demand3.{demand_3, reached_after}
 
-module _ (capacity requested : ℕ) (several : Bool) (node : Option ℕ) (boot : ℕ) (d : Device) (e : made capacity requested several node boot ≡ MadeDevice d) where
+module _ (capacity requested : ℕ) (several : Bool) (node : Option ℕ) (boot : ℕ) (d : Device) (e : made capacity requested several node boot ≡ Ok d) where
   pub made_fresh : Fresh d
   made_fresh =
       let new = made_new capacity requested several node boot d e in

@@ -1,5 +1,6 @@
 -- SPDX-License-Identifier: Apache-2.0 AND BSD-3-Clause
 -- What an observer of calls and answers holds open is what the record has pending.
+use Rattle.std.specs.Prelude.{Ok, Err, Result}
 use Prim.Native.Nat.{ℕ, ◌+◌, ◌*◌, ◌<◌}
 use mathlib.Core.Path.{◌≡◌, refl, ap, sym}
 use mathlib.Core.Bool.{Bool, true, false}
@@ -9,8 +10,8 @@ use native.Mathlib.Nat.{mul-div_cancel}
 use lib.Dec.{ltb}
 use lib.ListN.{length}
 use Rattle.units.specs.Numbers.{top, bytes_of, blocks_in}
-use Rattle.chain.specs.declared.Parsed.{Parsed}
-use Rattle.chain.specs.declared.Parsed.TheVariants.{Request as Got, Bad}
+use Rattle.chain.specs.declared.Asked.{Asked}
+use Rattle.chain.specs.declared.NoRequest.{NoRequest as Unasked}
 use Rattle.chain.specs.Chain.{parsed}
 use Rattle.record.specs.declared.Pending.{Pending}
 use Rattle.record.specs.declared.Pending.TheVariants.{Nothing, Create, Discard, DiscardOne}
@@ -43,14 +44,16 @@ module _ (w : World) where
   Sees p c o = open_of o.world.device.pending ≡ open_after w (open_of p) c o.answer
 
   -- the same of a request, by what its chain holds
-  abbrev SeesChain : Parsed → Guest → (descriptors head : ℕ) → Type 0
+  abbrev SeesChain : Result Asked Unasked → Guest → (descriptors head : ℕ) → Type 0
   SeesChain p g descriptors head = parsed g.mem g.base descriptors head ≡ p → Entered w.device (length w.blocks) (length w.rows) true
       → Sees w.device.pending (Request g descriptors head) (request p w g)
 
-  sees_request : (p : Parsed) (g : Guest) (descriptors head : ℕ) → SeesChain p g descriptors head
+  sees_request : (p : Result Asked Unasked) (g : Guest) (descriptors head : ℕ) → SeesChain p g descriptors head
   unfolding request open_after asked_by opened_by opened_by_request opened_by_type open_of
-  sees_request (Bad reason) g descriptors head q e = idle_open w.device.pending e.pending_is_idle
-  sees_request (Got req status) g descriptors head q e =
+  sees_request (Err reason) g descriptors head q e = idle_open w.device.pending e.pending_is_idle
+  sees_request (Ok asked) g descriptors head q e =
+      let req = asked.request in
+      let status = asked.status in
       let quiet = idle_open w.device.pending e.pending_is_idle in
       let P = Sees w.device.pending (Request g descriptors head) in
       serve_cases P w req status.0 g
@@ -86,19 +89,19 @@ module _ (w : World) where
   unfolding step open_after asked_by open_of
   sees (Place at size slots bs rows) =
       let P = Sees w.device.pending (Place at size slots bs rows) in
-      on_unplaced P w [] _ (λ n _ _. refl) (length bs) (length rows)
+      on_unplaced P w [] _ (λ r _ _. refl) (length bs) (length rows)
       (λ _ e. place_cases P w at size slots bs rows refl refl
       (λ _ _. placing_cases P (placed w at slots bs rows) (idle_open w.device.pending e.pending_is_idle) (λ _ _ _ _. refl) (λ _. refl)))
   sees (SetRequestedSize mib) =
       let P = Sees w.device.pending (SetRequestedSize mib) in
-      on_ready P w [] _ (λ n _ _. refl) (length w.blocks) (length w.rows)
+      on_ready P w [] _ (λ r _ _. refl) (length w.blocks) (length w.rows)
       (λ _ e. size_cases P w mib refl
       (λ _ _. resized_cases P (device_of (requested_to (mib * 1048576) w.device) w) (idle_open w.device.pending e.pending_is_idle) (λ _ _ _ _. refl)))
   sees (Request g descriptors head) =
-      on_ready (Sees w.device.pending (Request g descriptors head)) w g.mem _ (λ n _ _. refl) (length w.blocks) (length w.rows)
+      on_ready (Sees w.device.pending (Request g descriptors head)) w g.mem _ (λ r _ _. refl) (length w.blocks) (length w.rows)
       (λ _ e. sees_request (parsed g.mem g.base descriptors head) g descriptors head refl e)
   sees (HostAnswer g ok host) =
-      on_pending (Sees w.device.pending (HostAnswer g ok host)) w g.mem _ (λ n _ _. refl) (length w.blocks) (length w.rows)
+      on_pending (Sees w.device.pending (HostAnswer g ok host)) w g.mem _ (λ r _ _. refl) (length w.blocks) (length w.rows)
       (λ e. sees_host w.device.pending g ok host refl e)
   sees (ReadConfig offset buffer) = read_cases (Sees w.device.pending (ReadConfig offset buffer)) w offset buffer (λ _. refl) refl
   sees (WriteConfig offset buffer) = write_cases (Sees w.device.pending (WriteConfig offset buffer)) w buffer (λ _. refl) refl

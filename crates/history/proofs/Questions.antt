@@ -1,6 +1,6 @@
 -- SPDX-License-Identifier: Apache-2.0 AND BSD-3-Clause
 -- The host is asked for exactly what is then pending, and for a discard only by an unplug or an unplug-all; so a size change discards nothing.
-use Rattle.std.specs.Prelude.{None}
+use Rattle.std.specs.Prelude.{None, Ok}
 use Prim.Native.Nat.{ℕ, ◌+◌, ◌*◌}
 use mathlib.Core.Path.{◌≡◌, refl, ap, sym}
 use mathlib.Core.Bool.{Bool, true, false, cond}
@@ -14,7 +14,6 @@ use Rattle.record.specs.declared.HostCall.{HostCall}
 use Rattle.record.specs.declared.HostCall.TheVariants.{Create as CreateCall, Discard as DiscardCall}
 use Rattle.resize.specs.Resize.{growth_of, creation}
 use Rattle.resize.proofs.Laws.{asking}
-use Rattle.change.specs.declared.HostRange.TheVariants.{At}
 use Rattle.change.specs.Change.{host_of}
 use Rattle.step.specs.declared.Answer.{Answer}
 use Rattle.step.specs.declared.Answer.TheVariants.{Wants}
@@ -34,7 +33,7 @@ unfolding question
 silent a call h e = let one : asks a ≡ 1 = ap asks e in absurd (omega arith)
 
 discard_asked : (w : World) (first count offset host : ℕ) (call : HostCall) → offset ≡ bytes_of (block_size w) first
-    → host_of (several w) w.rows offset (bytes_of (block_size w) count) ≡ At (record { 0 = host })
+    → host_of (several w) w.rows offset (bytes_of (block_size w) count) ≡ Ok (record { 0 = host })
     → Wants (DiscardCall (record { 0 = offset }) (bytes_of (block_size w) count) (record { 0 = host })) ≡ Wants call → IsDiscard w first count call
 discard_asked w first count offset host call at maps e =
     let q : DiscardCall (record { 0 = offset }) (bytes_of (block_size w) count) (record { 0 = host }) ≡ call = cc in

@@ -1,13 +1,17 @@
 -- SPDX-License-Identifier: Apache-2.0 AND BSD-3-Clause
 -- A refused call changes nothing; 10 is given for a creation that failed, and leaves what R2.9 and R2.10 say.
+use Rattle.std.specs.Prelude.{Ok, Err, Result, ⊤}
 use Prim.Native.Nat.{ℕ, ◌≤◌}
 use mathlib.Core.Path.{◌≡◌, refl, ap}
-use mathlib.Core.Bool.{Bool, true, false, cond}
+use mathlib.Core.Bool.{Bool, true, false}
 use mathlib.Core.List.{List, []}
 use native.Mathlib.Omega.{arith}
 use lib.ListN.{length}
 use borrow.Author.Tests.{le-leb}
 use Rattle.bitmap.proofs.Laws.{fill_length}
+use Rattle.refusal.specs.declared.Refusal.{Refusal}
+use Rattle.refusal.specs.declared.Refusal.TheVariants.{WrongSize, WrongRange, WrongStart, CreationFailed as Ten}
+use Rattle.refusal.specs.Refusal.{number}
 use Rattle.rows.specs.declared.MapRow.{MapRow}
 use Rattle.rows.proofs.Laws.{laid_length}
 use Rattle.record.specs.declared.Pending.TheVariants.{Nothing}
@@ -40,27 +44,27 @@ IsLeft w c o new = Left w c o
 -- an ending that is no refusal
 done : (w : World) (c : Call) (o : Outcome) → present (refusal o.answer) ≡ false → Left w c o
 unfolding refusal
-done w c o h = record { same = λ n e _. clash (ap (λ a. present (refusal a)) e) h; ten = λ e. clash (ap (λ a. present (refusal a)) e) h }
+done w c o h = record { same = λ r e _. clash (ap (λ a. present (refusal a)) e) h; ten = λ e. clash (ap (λ a. present (refusal a)) e) h }
 
 left : (w : World) → Endings w (IsLeft w)
-unfolding refusal lent_bytes
+unfolding refusal lent_bytes number
 left w =
     record {
-      refuses = λ c n not-ten _. record { same = λ m e _. (refl, refl); ten = λ e. let ten : n ≡ 10 = cc in absurd (not-ten ten) };
+      refuses = λ c r not-ten _. record { same = λ s e _. (refl, refl); ten = λ e. let ten : r ≡ Ten = cc in absurd (not-ten (ap number ten)) };
       reads = λ offset buffer bytes. done w _ _ refl;
       writes = λ offset buffer. done w _ _ refl;
       unserves = λ a reason. done w _ _ refl;
       responds = λ a resp. done w _ _ refl;
       plugs_range = λ a addr count first offset _ _. done w _ _ refl;
       asks_range = λ a addr count first offset host _ _ _. done w _ _ refl;
-      spoils = λ a addr count first offset _ _. record { same = λ m e _. (refl, refl); ten = λ e. let ten : ◌≡◌ {A = ℕ} 12 10 = cc in absurd (omega arith) };
+      spoils = λ a addr count first offset _ _. record { same = λ s e _. (refl, refl); ten = λ e. let z : ◌≡◌ {A = ℕ} 0 1 = cc in absurd (omega arith) };
       ends_at_once = λ a r. done w _ _ refl;
       asks_first = λ a block offset host r _. done w _ _ refl;
       stops_at_once = λ a. done w _ _ refl;
       maps = λ i last a. done w _ _ refl;
       create_fails_lem = λ i last a.
           record {
-            same = λ n e not-ten. let ten : n ≡ 10 = cc in absurd (not-ten ten);
+            same = λ r e not-ten. let ten : r ≡ Ten = cc in absurd (not-ten ten);
             ten = λ _.
                 record {
                   first = i;
@@ -108,8 +112,8 @@ pub ten_in_size_change : TenInSizeChange
 unfolding step question
 ten_in_size_change w mib call asked g host =
     let P : Outcome → Type 0 = λ o. o.answer ≡ Wants call → SizeChangeFailed w mib (step o.world (HostAnswer g false host)) in
-    on_ready P w [] _ (λ n _ _ e. silent (Refused n) call refl e) (length w.blocks) (length w.rows)
-    (λ p entry. size_cases P w mib (λ e. silent (Refused 1) call refl e)
+    on_ready P w [] _ (λ r _ _ e. silent (Refused r) call refl e) (length w.blocks) (length w.rows)
+    (λ p entry. size_cases P w mib (λ e. silent (Refused WrongSize) call refl e)
     (λ q r.
     let a : Resizing w = record { mib = mib; is_placed = p; entry = entry; in_region = q; whole = r } in
     resized_cases P (resized_by a) (λ e. silent Sized call refl e)
@@ -119,9 +123,10 @@ ten_in_size_change w mib call asked g host =
     asked
 
 -- ---- placing, tried again
-answer_of_lem : (t : Bool) (o p : Outcome) → (cond t o p).answer ≡ cond t o.answer p.answer
-answer_of_lem true o p = refl
-answer_of_lem false o p = refl
+answer_of_lem : (x : Result ⊤ Refusal) (w w' : World) (bytes : List ℕ) (o o' : Outcome) → o.answer ≡ o'.answer → (unless x w bytes o).answer ≡ (unless x w' bytes o').answer
+unfolding unless
+answer_of_lem (Ok admitted) w w' bytes o o' e = e
+answer_of_lem (Err refusal) w w' bytes o o' e = refl
 
 module _ (w : World) (at : ℕ) (slots : List ℕ) (bs : List Bool) (rows : List MapRow) (s : shaped_of w.device ≡ true) (fits : start_ok at (region w) (several w) w.device.alignment ≡ true) where
   abbrev tried : World
@@ -132,8 +137,8 @@ module _ (w : World) (at : ℕ) (slots : List ℕ) (bs : List Bool) (rows : List
   same_refusal n m = rw (s, start_keeps w.device s at fits)
 
   placing_again : (c : Call) → is_place c ≡ true → (step tried c).answer ≡ (step w c).answer
-  unfolding step unless place range_refusal is_place
-  placing_again (Place at' size' slots' bs' rows') e = simp (same_refusal (length bs') (length rows'), answer_of_lem)
+  unfolding step place range_refusal is_place
+  placing_again (Place at' size' slots' bs' rows') e = rw (same_refusal (length bs') (length rows')) (answer_of_lem _ tried w [] _ _ (answer_of_lem _ tried w [] _ _ refl))
   placing_again (SetRequestedSize mib) e = clash e refl
   placing_again (Request guest descriptors head) e = clash e refl
   placing_again (HostAnswer guest ok host) e = clash e refl
@@ -160,8 +165,8 @@ pub ten_in_placing : TenInPlacing
 unfolding step question
 ten_in_placing w at size slots bs rows call asked g host =
     let P : Outcome → Type 0 = λ o. o.answer ≡ Wants call → PlacingFailed w at slots bs rows (step o.world (HostAnswer g false host)) in
-    on_unplaced P w [] _ (λ n _ _ e. silent (Refused n) call refl e) (length bs) (length rows)
-    (λ p entry. place_cases P w at size slots bs rows (λ e. silent (Refused 3) call refl e) (λ e. silent (Refused 4) call refl e)
+    on_unplaced P w [] _ (λ r _ _ e. silent (Refused r) call refl e) (length bs) (length rows)
+    (λ p entry. place_cases P w at size slots bs rows (λ e. silent (Refused WrongRange) call refl e) (λ e. silent (Refused WrongStart) call refl e)
     (λ n f.
     let a : Placing w = record { at = at; size = size; slots = slots; bits = bs; table = rows; not_placed_lem = p; entry = entry; slots_fit = n; start_fits = f } in
     let shaped = stays_shaped w entry.is_shaped in

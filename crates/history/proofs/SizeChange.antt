@@ -9,6 +9,8 @@ use lib.Dec.{eqb}
 use lib.ListN.{length}
 use borrow.Author.Tests.{eqb-false, ne_eqb}
 use Rattle.units.proofs.Tests.{by_test}
+use Rattle.refusal.specs.declared.Refusal.{Refusal}
+use Rattle.refusal.specs.declared.Refusal.TheVariants.{WrongSize}
 use Rattle.record.specs.Changes.{requested_to}
 use Rattle.resize.specs.Resize.{new_size}
 use Rattle.resize.proofs.Laws.{asking}
@@ -21,12 +23,12 @@ use Rattle.history.proofs.Cases.{on_ready, size_cases, resized_cases}
 -- what holds of a refusal, of a usable size that settles and of a creation that is asked for holds of a size change
 module _ (P : Outcome → Type 0) (w : World) (mib : ℕ) where
   by_size :
-      ((n : ℕ) → P (refused n w []))
+      ((r : Refusal) → P (refused r w []))
       → (block_size w ≡ 4194304 → P (resized (device_of (requested_to (mib * 1048576) w.device) w)))
       → P (step w (SetRequestedSize mib))
   unfolding step
   by_size refusal ready =
-      on_ready P w [] _ (λ n _ _. refusal n) (length w.blocks) (length w.rows) (λ _ e. size_cases P w mib (refusal 1) (λ _ _. ready (block_is _ e.is_shaped)))
+      on_ready P w [] _ (λ r _ _. refusal r) (length w.blocks) (length w.rows) (λ _ e. size_cases P w mib (refusal WrongSize) (λ _ _. ready (block_is _ e.is_shaped)))
 
 pub size_change_touches_nothing : FromEveryWorld SizeChangeTouchesNothing
 unfolding is_size_change

@@ -8,6 +8,7 @@ use mathlib.Core.Option.{Option, some, none}
 use native.Mathlib.Omega.{arith}
 use lib.Dec.{eqb}
 use borrow.Author.Tests.{ne_eqb}
+use Rattle.refusal.specs.Refusal.{number}
 use Rattle.step.specs.Answers.{refusal}
 use Rattle.step.specs.World.{World, Call, Outcome}
 use Rattle.step.specs.Step.{block_size, region, usable, plugged, requested, region_blocks}
@@ -35,10 +36,10 @@ are_counted b s c a n p q = rw (q, ← p) (omega arith)
 
 module _ (w : World) (s : Parts w.device) (es : List Event) (h : Inv w es) where
   not_12 : Endings w Not12
-  unfolding refusal
+  unfolding refusal number
   not_12 =
       record {
-        refuses = λ c n _ spoilt. ne_eqb n 12 (λ e. clash (shaped-when w.device s) (spoilt e));
+        refuses = λ c r _ spoilt. ne_eqb (number r) 12 (λ e. clash (shaped-when w.device s) (spoilt e));
         reads = λ offset buffer bytes. refl;
         writes = λ offset buffer. refl;
         unserves = λ a reason. refl;
@@ -68,7 +69,7 @@ module _ (w : World) (s : Parts w.device) (es : List Event) (h : Inv w es) where
       }
 
 pub never_12 : FromEveryGood Never12
-unfolding refusal
+unfolding refusal number
 never_12 s r c e = clash (ap (λ a. is12 (refusal a)) e) (each_call s.world Not12 (not_12 s.world (is_shaped s r) s.events (invariant s r)) c)
 
 -- ---- the block that an unplug-all waits for is counted
@@ -93,7 +94,7 @@ moved : (w : World) → Endings w (IsMoved w)
 unfolding is_size_change
 moved w =
     record {
-      refuses = λ c n _ _. calm w c _ (omega arith) (omega arith) refl refl refl (λ p. p);
+      refuses = λ c r _ _. calm w c _ (omega arith) (omega arith) refl refl refl (λ p. p);
       reads = λ offset buffer bytes. calm w _ _ (omega arith) (omega arith) refl refl refl (λ p. p);
       writes = λ offset buffer. calm w _ _ (omega arith) (omega arith) refl refl refl (λ p. p);
       unserves = λ a reason. calm w _ _ (omega arith) (omega arith) refl refl refl (λ p. p);

@@ -1,13 +1,13 @@
 -- SPDX-License-Identifier: Apache-2.0 AND BSD-3-Clause
 -- Demand 3's words: a newly made device, calls from it on, the events that their answers tell, the last event on a block, and how many blocks are plugged.
-use Rattle.std.specs.Prelude.{ℕ, ◌+◌, ◌-◌, ◌<◌, ◌≡◌, Bool, true, false, cond, ◌&&◌, List, [], ◌∷◌, ◌++◌, leb, ltb, eqb, take}
+use Rattle.std.specs.Prelude.{ℕ, ◌+◌, ◌-◌, ◌<◌, ◌≡◌, Bool, true, false, cond, ◌&&◌, List, [], ◌∷◌, ◌++◌, leb, ltb, eqb, take, Ok, Err, Result}
 use Rattle.std.proofs.Math.Option.{Option, some, none}
 use Rattle.units.specs.Numbers.{bytes_of, blocks_in}
 use Rattle.bitmap.specs.Blocks.{block_at, ones}
 use Rattle.wire.specs.declared.VirtioMemReq.{VirtioMemReq}
 use Rattle.wire.specs.declared.VirtioMemResp.{VirtioMemResp}
-use Rattle.chain.specs.declared.Parsed.{Parsed}
-use Rattle.chain.specs.declared.Parsed.TheVariants.{Request as Got, Bad}
+use Rattle.chain.specs.declared.Asked.{Asked}
+use Rattle.chain.specs.declared.NoRequest.{NoRequest as Unasked}
 use Rattle.chain.specs.Chain.{parsed}
 use Rattle.record.specs.declared.Device.{Device}
 use Rattle.record.specs.declared.Pending.{Pending}
@@ -54,9 +54,9 @@ ack_to_type w req =
     (cond (eqb req.req_type 1) []
     (cond (eqb req.req_type 2) (UnplugAllAck ∷ []) []))
 
-unfoldable pub ack_to_request : World → Parsed → List Event
-ack_to_request w (Bad reason) = []
-ack_to_request w (Got req status) = ack_to_type w req
+unfoldable pub ack_to_request : World → Result Asked Unasked → List Event
+ack_to_request w (Err reason) = []
+ack_to_request w (Ok asked) = ack_to_type w asked.request
 
 -- what an ACK to a host answer acknowledges
 unfoldable pub ack_to_host : Open → List Event
@@ -112,9 +112,9 @@ unfoldable pub opened_by_type : World → VirtioMemReq → (block : ℕ) → Ope
 opened_by_type w req block =
     cond (eqb req.req_type 1) (Unplugging (block_of w req.addr.0) req.nb_blocks) (UnpluggingAll block)
 
-unfoldable pub opened_by_request : World → Parsed → (block : ℕ) → Open
-opened_by_request w (Bad reason) block = NoRequest
-opened_by_request w (Got req status) block = opened_by_type w req block
+unfoldable pub opened_by_request : World → Result Asked Unasked → (block : ℕ) → Open
+opened_by_request w (Err reason) block = NoRequest
+opened_by_request w (Ok asked) block = opened_by_type w asked.request block
 
 -- an unplug-all goes on with another block
 unfoldable pub goes_on : Open → (block : ℕ) → Open
@@ -135,7 +135,7 @@ asked_by w o c (Create guest size slot) = NoRequest
 asked_by w o c (Discard offset size host) = opened_by w o c (blocks_in (block_size w) offset.0)
 
 unfoldable pub open_after : World → Open → Call → Answer → Open
-open_after w o c (Refused n) = o
+open_after w o c (Refused refused) = o
 open_after w o c (Wants call) = asked_by w o c call
 open_after w o c Sized = NoRequest
 open_after w o c (Unserved reason) = NoRequest

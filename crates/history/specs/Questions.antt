@@ -1,12 +1,12 @@
 -- SPDX-License-Identifier: Apache-2.0 AND BSD-3-Clause
 -- What the host is asked: exactly what is then pending, and a discard only for an unplug or an unplug-all of the guest's. Of every call c from every world w, and of its outcome o.
-use Rattle.std.specs.Prelude.{ℕ, ◌+◌, ◌*◌, ◌≡◌, Bool, true, false, cond, ◌&&◌, ◌||◌, List, eqb, None}
-use Rattle.std.proofs.Math.Option.{Option, some, none}
+use Rattle.std.specs.Prelude.{ℕ, ◌+◌, ◌*◌, ◌≡◌, Bool, true, false, cond, ◌&&◌, ◌||◌, List, eqb, Option, None, Ok, Err, Result}
+use Rattle.std.proofs.Math.Option.{Option as Maybe, some, none}
 use Rattle.units.specs.Numbers.{bytes_of, map_region}
 use Rattle.units.specs.declared.RegionOffset.{RegionOffset}
 use Rattle.units.specs.declared.HostAddr.{HostAddr}
-use Rattle.chain.specs.declared.Parsed.{Parsed}
-use Rattle.chain.specs.declared.Parsed.TheVariants.{Request as Got, Bad}
+use Rattle.chain.specs.declared.Asked.{Asked}
+use Rattle.chain.specs.declared.NoRequest.{NoRequest as Unasked}
 use Rattle.chain.specs.Chain.{parsed}
 use Rattle.rows.specs.declared.MapRow.{MapRow}
 use Rattle.rows.specs.Rows.{row_at}
@@ -16,7 +16,6 @@ use Rattle.record.specs.declared.HostCall.{HostCall}
 use Rattle.record.specs.declared.HostCall.TheVariants.{Create as CreateCall, Discard as DiscardCall}
 use Rattle.resize.specs.declared.Creation.{Creation}
 use Rattle.resize.specs.Resize.{growth_of, creation}
-use Rattle.change.specs.declared.HostRange.TheVariants.{At}
 use Rattle.change.specs.Change.{host_of}
 use Rattle.step.specs.declared.Answer.{Answer}
 use Rattle.step.specs.declared.Answer.TheVariants.{Wants}
@@ -29,7 +28,7 @@ use Rattle.history.specs.Rules.{DiscardsNothing}
 -- the discard of `count` blocks from `first` on: their offset, their size, and the host address that the row of the map table gives
 pub record IsDiscard (w : World) (first count : ℕ) (call : HostCall) : Type 0 where
   pub host : HostAddr
-  pub host_is : host_of (several w) w.rows (bytes_of (block_size w) first) (bytes_of (block_size w) count) ≡ At host
+  pub host_is : host_of (several w) w.rows (bytes_of (block_size w) first) (bytes_of (block_size w) count) ≡ Ok host
   pub call_is : call ≡ DiscardCall (record { 0 = bytes_of (block_size w) first }) (bytes_of (block_size w) count) host
 
 -- the creation that is due, its rows and its size: with several regions as R6.4 to R6.6 say; of a single region the whole, in placing (R5.3)
@@ -55,12 +54,12 @@ AsksForPending w c o = (call : HostCall) → o.answer ≡ Wants call → WaitsFo
 
 -- ---- R18.10: a discard is asked for by an unplug, by an unplug-all, and by the host's yes while an unplug-all is open
 -- the type of the request that a chain holds
-unfoldable pub type_of : Parsed → Option ℕ
-type_of (Bad reason) = none
-type_of (Got req status) = some req.req_type
+unfoldable pub type_of : Result Asked Unasked → Maybe ℕ
+type_of (Err reason) = none
+type_of (Ok asked) = some asked.request.req_type
 
 -- R7.4
-unfoldable pub is_unplug : Option ℕ → Bool
+unfoldable pub is_unplug : Maybe ℕ → Bool
 is_unplug none = false
 is_unplug (some type) = eqb type 1 || eqb type 2
 

@@ -12,8 +12,8 @@ use Rattle.wire.specs.Standard.{virtio_mem_req}
 use Rattle.wire.specs.Layout.{request_at}
 use Rattle.descriptors.specs.Standard.{virtq_desc, descriptor_at, descriptor_addr}
 use Rattle.descriptors.specs.Descriptors.{inside, link_at, link_after}
-use Rattle.chain.specs.declared.Parsed.TheVariants.{Request as Got}
-use Rattle.chain.specs.Chain.{with_second, with_first, parsed}
+use Rattle.chain.specs.declared.Asked.{Asked}
+use Rattle.chain.specs.Chain.{asked, with_second, with_first, parsed}
 use Rattle.chain.proofs.Laws.{parsed_cases}
 use Rattle.step.specs.World.{Guest, Request}
 use Rattle.in_parts.specs.InParts.{plug_request, AnyUpTo65535, NoneAbove65535}
@@ -30,7 +30,7 @@ pub any_up_to_65535 : AnyUpTo65535
 unfolding asking virtq_desc virtio_mem_req little_endian part value descriptor_at descriptor_addr inside link_at link_after with_second with_first parsed request_at
 any_up_to_65535 addr count a c =
     let g = asking addr count in
-    let read : parsed g.mem g.base 0 0 ≡ Got (plug_request (value (little_endian 8 addr)) (value (little_endian 2 count))) (record { 0 = 56 }) = refl in
+    let read : parsed g.mem g.base 0 0 ≡ asked (plug_request (value (little_endian 8 addr)) (value (little_endian 2 count))) (record { 0 = 56 }) = refl in
     record {
       call = Request g 0 0;
       asks = record {
@@ -39,7 +39,7 @@ any_up_to_65535 addr count a c =
         head = 0;
         status = record { 0 = 56 };
         is_request = refl;
-        reads = read ∙ ap (λ (req : VirtioMemReq). Got req (record { 0 = 56 })) (read_back addr count (omega arith) (omega arith));
+        reads = read ∙ ap (λ (req : VirtioMemReq). asked req (record { 0 = 56 })) (read_back addr count (omega arith) (omega arith));
       };
     }
 
@@ -47,11 +47,11 @@ any_up_to_65535 addr count a c =
 pub none_above_65535 : NoneAbove65535
 unfolding request_at
 none_above_65535 c addr count a bytes =
-    parsed_cases (λ p. p ≡ Got (plug_request addr count) a.status → count ≤ 65535)
+    parsed_cases (λ p. p ≡ asked (plug_request addr count) a.status → count ≤ 65535)
     (λ reason _ _ e. let z : ◌≡◌ {A = ℕ} 0 1 = cc in absurd (omega arith))
     a.guest.mem a.guest.base a.descriptors a.head
     (λ at status e.
-    let same : request_at a.guest.mem at ≡ plug_request addr count = cc e in
-    let blocks : value (part a.guest.mem (at + 16) 2) ≡ count = ap (λ (req : VirtioMemReq). req.nb_blocks) same in
+    let same : record { request = request_at a.guest.mem at; status = status } ≡ record { request = plug_request addr count; status = a.status } = cc e in
+    let blocks : value (part a.guest.mem (at + 16) 2) ≡ count = ap (λ (found : Asked). found.request.nb_blocks) same in
     omega (arith, value_below a.guest.mem bytes (at + 16) 2))
     a.reads

@@ -14,8 +14,7 @@ use Rattle.wire.specs.Standard.{virtio_mem_req}
 use Rattle.wire.specs.Layout.{request_at, response_bytes}
 use Rattle.descriptors.specs.Standard.{virtq_desc, descriptor_at, descriptor_addr}
 use Rattle.descriptors.specs.Descriptors.{inside, link_at, link_after}
-use Rattle.chain.specs.declared.Parsed.TheVariants.{Request as Got}
-use Rattle.chain.specs.Chain.{with_second, with_first, parsed, reaches, delivered}
+use Rattle.chain.specs.Chain.{asked, with_second, with_first, parsed, reaches, delivered}
 use Rattle.rows.specs.Rows.{mapping_of}
 use Rattle.record.specs.declared.Pending.TheVariants.{Nothing}
 use Rattle.record.specs.Shape.{alignment_ok, region_ok, size_ok, span_of, start_ok, several_ok, pending_ok, shaped_of}
@@ -59,7 +58,7 @@ plugs block count = Request (asking (4294967296 + block * 4194304) count) 0 0
 pub halves : List Piece
 halves = record { blocks = 1; call = plugs 0 1 } ∷ record { blocks = 1; call = plugs 1 1 } ∷ []
 
-asks : (g : Guest) (addr count : ℕ) → parsed g.mem g.base 0 0 ≡ Got (plug_request addr count) (record { 0 = 56 }) → Asks (Request g 0 0) addr count
+asks : (g : Guest) (addr count : ℕ) → parsed g.mem g.base 0 0 ≡ asked (plug_request addr count) (record { 0 = 56 }) → Asks (Request g 0 0) addr count
 asks g addr count e = record { guest = g; descriptors = 0; head = 0; status = record { 0 = 56 }; is_request = refl; reads = e }
 
 nack_no_ack : some VIRTIO_MEM_RESP_NACK ≡ some VIRTIO_MEM_RESP_ACK → ⊥

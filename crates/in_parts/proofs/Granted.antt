@@ -1,13 +1,14 @@
 -- SPDX-License-Identifier: Apache-2.0 AND BSD-3-Clause
 -- A plug that is acknowledged, opened: what is so of the world, whatever chain asks for it.
+use Rattle.std.specs.Prelude.{Ok, Err, Result, ⊤}
 use Prim.Native.Nat.{ℕ, ◌+◌, ◌-◌, ◌%◌, ◌≤◌, ◌<◌}
 use mathlib.Core.Path.{◌≡◌, refl, ap, ◌∙◌}
 use mathlib.Core.Bool.{true}
 use native.Mathlib.Nat.{add-mul, add-mul-div_right}
 use native.Mathlib.Omega.{arith}
-use lib.Dec.{ltb, eqb}
+use lib.Dec.{ltb}
 use lib.ListN.{length}
-use borrow.Author.Tests.{le-ltb, ltb-false, eqb-true}
+use borrow.Author.Tests.{le-ltb, ltb-false}
 use Rattle.units.specs.Numbers.{bytes_of, blocks_in, map_region}
 use Rattle.units.specs.declared.RegionOffset.{RegionOffset}
 use Rattle.units.specs.declared.HostAddr.{HostAddr}
@@ -17,7 +18,8 @@ use Rattle.bitmap.proofs.Laws.{fill_length, fill_split, fill_swap, clear_before,
 use Rattle.record.specs.Changes.{plugged_to}
 use Rattle.record.proofs.Laws.{shaped_is, parts, whole}
 use Rattle.change.specs.declared.Change.{Change}
-use Rattle.change.specs.declared.Change.TheVariants.{Legal, Outside, WrongState, NoHost}
+use Rattle.change.specs.declared.Reason.{Reason}
+use Rattle.refusal.specs.declared.Refusal.{Refusal}
 use Rattle.change.proofs.Laws.{IsLegal, legal_is, legal_when}
 use Rattle.change.proofs.Split.{legal_first, legal_second, legal_joined, no_seam}
 use Rattle.step.specs.Answers.{response}
@@ -61,13 +63,11 @@ module _ (w : World) (addr count : ℕ) (first : ℕ) (offset : RegionOffset) (h
       }
 
 module _ (w : World) (addr count status : ℕ) (g : Guest) where
-  within_granted : (c : Change) → changing w addr count true ≡ c → plugged w + bytes_of (block_size w) count ≤ requested w → Acknowledged (plug_as c w count status g) → Granted w addr count
+  within_granted : (c : Result Change Reason) → changing w addr count true ≡ c → plugged w + bytes_of (block_size w) count ≤ requested w → Acknowledged (plug_as c w count status g) → Granted w addr count
   unfolding plug_as response
-  within_granted (Legal first offset host) q h a =
-      granted w addr count first offset host h (legal_is (block_size w) (start w) (usable w) (several w) addr count true w.blocks w.rows first offset host q)
-  within_granted (Outside part) q h a = let y : ◌≡◌ {A = ℕ} 0 1 = cc in absurd (omega arith)
-  within_granted WrongState q h a = let y : ◌≡◌ {A = ℕ} 0 1 = cc in absurd (omega arith)
-  within_granted (NoHost part) q h a = let y : ◌≡◌ {A = ℕ} 0 1 = cc in absurd (omega arith)
+  within_granted (Ok change) q h a =
+      granted w addr count change.first change.offset change.host h (legal_is (block_size w) (start w) (usable w) (several w) addr count true w.blocks w.rows change.first change.offset change.host q)
+  within_granted (Err why) q h a = let y : ◌≡◌ {A = ℕ} 0 1 = cc in absurd (omega arith)
 
   plug_granted : Acknowledged (plug w addr count status g) → Granted w addr count
   unfolding plug response
@@ -87,11 +87,9 @@ module _ (w : World) (addr count status : ℕ) (g : Guest) where
   unfolding plug plug_as response
   plug_error h never = rw (le-ltb (requested w) (plugged w + bytes_of (block_size w) count) h) (go (changing w addr count true) refl)
     where
-      go : (c : Change) → changing w addr count true ≡ c → Rejected (plug_as c w count status g)
-      go (Legal first offset host) q = absurd (never (within_granted (Legal first offset host) q h refl))
-      go (Outside part) q = refl
-      go WrongState q = refl
-      go (NoHost part) q = refl
+      go : (c : Result Change Reason) → changing w addr count true ≡ c → Rejected (plug_as c w count status g)
+      go (Ok change) q = absurd (never (within_granted (Ok change) q h refl))
+      go (Err why) q = refl
 
 -- ---- the parts of a range, and the range of two parts
 module _ (w : World) (addr k m : ℕ) (positive : 0 < block_size w) where
@@ -180,10 +178,11 @@ module _ (w : World) (c : Call) (addr count : ℕ) (a : Asks c addr count) where
   -- only a device that is ready acknowledges
   pub acknowledged_reached : Acknowledged (step w c) → Reached w
   unfolding step unless response
-  acknowledged_reached e =
-      by_test (eqb (ready_refusal w.device (length w.blocks) (length w.rows)) 0)
-      (λ t. ready_is w.device (length w.blocks) (length w.rows) (eqb-true _ 0 t))
-      (λ t. let z = rw (a.is_request, t) at e in let y : ◌≡◌ {A = ℕ} 0 1 = cc in absurd (omega arith))
+  acknowledged_reached e = go (ready_refusal w.device (length w.blocks) (length w.rows)) refl
+    where
+      go : (x : Result ⊤ Refusal) → ready_refusal w.device (length w.blocks) (length w.rows) ≡ x → Reached w
+      go (Ok admitted) q = ready_is w.device (length w.blocks) (length w.rows) q
+      go (Err refusal) q = let z = rw (a.is_request, q) at e in let y : ◌≡◌ {A = ℕ} 0 1 = cc in absurd (omega arith)
 
   pub acknowledged_granted : Acknowledged (step w c) → Granted w addr count
   acknowledged_granted e = plug_granted w addr count a.status.0 a.guest (rw (reached_serves (acknowledged_reached e)) at e)

@@ -1,6 +1,6 @@
 -- SPDX-License-Identifier: Apache-2.0 AND BSD-3-Clause
 -- The device and the clauses M2 to M5 and M7: the features and the config fields.
-use Rattle.std.specs.Prelude.{Option, Some, None}
+use Rattle.std.specs.Prelude.{Option, Some, None, Ok, Err}
 use Prim.Native.Nat.{ℕ, ◌*◌, ◌%◌, max, ◌≤◌}
 use mathlib.Core.Path.{◌≡◌, refl, ◌∙◌}
 use mathlib.Core.Bool.{Bool, true, false, not, ◌||◌}
@@ -15,7 +15,8 @@ use Rattle.record.specs.declared.Device.{Device}
 use Rattle.record.specs.Shape.{size_ok}
 use Rattle.record.proofs.Laws.{Shaped as Facts, shaped_is as facts-of, whole as shaped-when}
 use Rattle.resize.specs.Resize.{new_size}
-use Rattle.making.specs.declared.Made.TheVariants.{Device as MadeDevice, Refused as MadeRefused}
+use Rattle.refusal.specs.declared.Refusal.{Refusal}
+use Rattle.refusal.specs.declared.Refusal.TheVariants.{WrongSize, CapacityTooLarge}
 use Rattle.making.specs.Made.{new_device, made}
 use Rattle.step.specs.World.{World, Call, Outcome}
 use Rattle.step.specs.Step.{step, read_config, block_size, region, usable, requested}
@@ -66,7 +67,7 @@ module _ (w : World) where
       let as_before : (before : Bool) → before ≡ true → before ≡ true = λ before e. e in
       let unsettled : (before : Bool) → false ≡ true → before ≡ true = λ before e. clash e refl in
       record {
-        refuses = λ c n _ _. quiet _ _ (constants _ refl refl refl (λ _. refl) refl) refl refl as_before;
+        refuses = λ c r _ _. quiet _ _ (constants _ refl refl refl (λ _. refl) refl) refl refl as_before;
         reads = λ offset buffer bytes. quiet _ _ (constants _ refl refl refl (λ _. refl) refl) refl refl as_before;
         writes = λ offset buffer. quiet _ _ (constants _ refl refl refl (λ _. refl) refl) refl refl as_before;
         unserves = λ a reason. quiet _ _ (constants _ refl refl refl (λ _. refl) refl) refl refl as_before;
@@ -126,20 +127,20 @@ features_of_lem : (region requested alignment : ℕ) (several : Bool) (node : Op
 features_of_lem region requested alignment several None = record { with_node = refl; node_is = refl; accessible = refl }
 features_of_lem region requested alignment several (Some n) = record { with_node = refl; node_is = refl; accessible = refl }
 
-made_features : (capacity requested : ℕ) (several : Bool) (node : Option ℕ) (boot : ℕ) (d : Device) → made capacity requested several node boot ≡ MadeDevice d → Features node d
+made_features : (capacity requested : ℕ) (several : Bool) (node : Option ℕ) (boot : ℕ) (d : Device) → made capacity requested several node boot ≡ Ok d → Features node d
 unfolding made
 made_features capacity requested several node boot d e =
     let alignment = alignment_of boot in
     let region = capacity_of capacity alignment in
-    by_test (ltb 1048576 capacity) (λ t. never 2 (rw t at e))
-    (λ t. by_test (eqb capacity 0 || not (size_ok 4194304 (requested * 1048576) region)) (λ u. never 1 (rw (t, u) at e))
+    by_test (ltb 1048576 capacity) (λ t. never CapacityTooLarge (rw t at e))
+    (λ t. by_test (eqb capacity 0 || not (size_ok 4194304 (requested * 1048576) region)) (λ u. never WrongSize (rw (t, u) at e))
     (λ u.
-    let f : MadeDevice (new_device region (requested * 1048576) alignment several node) ≡ MadeDevice d = rw (t, u) at e in
+    let f : Ok (new_device region (requested * 1048576) alignment several node) ≡ Ok d = rw (t, u) at e in
     let same : new_device region (requested * 1048576) alignment several node ≡ d = cc in
     rw same at (features_of_lem region (requested * 1048576) alignment several node)))
   where
-    never : (n : ℕ) → MadeRefused n ≡ MadeDevice d → Features node d
-    never n q = let z : ◌≡◌ {A = ℕ} 0 1 = cc in absurd (omega arith)
+    never : (r : Refusal) → Err r ≡ Ok d → Features node d
+    never r q = let z : ◌≡◌ {A = ℕ} 0 1 = cc in absurd (omega arith)
 
 features_stay : (node : Option ℕ) (w w' : World) → Constant w w' → Features node w.device → Features node w'.device
 features_stay n w w' k f = record { with_node = rw k.same_features f.with_node; node_is = k.same_node ∙ f.node_is; accessible = rw k.same_features f.accessible }

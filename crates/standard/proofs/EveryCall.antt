@@ -1,5 +1,6 @@
 -- SPDX-License-Identifier: Apache-2.0 AND BSD-3-Clause
 -- Every call in every world, as the standard sees it: a request that is heard, the host's answer to a discard, and all else, which gives no response and asks for no discard. By it M8, M12 and M17, and what waits for the host.
+use Rattle.std.specs.Prelude.{Ok, Err, Result}
 use Prim.Native.Nat.{ℕ, ◌+◌, ◌*◌, ◌≤◌}
 use mathlib.Core.Path.{◌≡◌, refl}
 use mathlib.Core.Bool.{Bool, true, false, cond, ◌||◌}
@@ -13,8 +14,10 @@ use Rattle.units.specs.Numbers.{top, map_region}
 use Rattle.units.specs.declared.GuestAddr.{GuestAddr}
 use Rattle.wire.specs.declared.VirtioMemReq.{VirtioMemReq}
 use Rattle.step.specs.declared.Verdict.{Verdict}
-use Rattle.chain.specs.declared.Parsed.{Parsed}
-use Rattle.chain.specs.declared.Parsed.TheVariants.{Request as Got, Bad}
+use Rattle.refusal.specs.declared.Refusal.{Refusal}
+use Rattle.refusal.specs.declared.Refusal.TheVariants.{WrongSize, WrongRange, WrongStart, NothingPending, HostPastTop, NoShape}
+use Rattle.chain.specs.declared.Asked.{Asked}
+use Rattle.chain.specs.declared.NoRequest.{NoRequest}
 use Rattle.chain.specs.Chain.{parsed, reaches, delivered}
 use Rattle.record.specs.declared.HostCall.{HostCall}
 use Rattle.record.specs.declared.HostCall.TheVariants.{Create as CreateCall, Discard as DiscardCall}
@@ -153,9 +156,9 @@ module _ (w : World) (K : Call → Outcome → Type 0) (k : Ways w K) where
   idle : (c : Call) (o : Outcome) → o.world ≡ w → speaks o.answer ≡ false → (is_config_call c ≡ false → o.bytes ≡ (lent_by c).mem) → ((call : HostCall) → AsksFor o call → ⊥) → K c o
   idle c o same mute bytes never = hush c o mute bytes never (λ _. rw same)
 
-  refusal : (c : Call) (n : ℕ) (bytes : List ℕ) → (is_config_call c ≡ false → bytes ≡ (lent_by c).mem) → K c (refused n w bytes)
+  refusal : (c : Call) (r : Refusal) (bytes : List ℕ) → (is_config_call c ≡ false → bytes ≡ (lent_by c).mem) → K c (refused r w bytes)
   unfolding response question
-  refusal c n bytes same = idle c _ refl refl same (λ call e. let z : ◌≡◌ {A = ℕ} 0 1 = cc in omega arith)
+  refusal c r bytes same = idle c _ refl refl same (λ call e. let z : ◌≡◌ {A = ℕ} 0 1 = cc in omega arith)
 
   -- the usable size is worked out in the world w₁, or a creation is asked for there
   sizing : (c : Call) (w₁ : World) → (lent_by c).mem ≡ [] → ((is_place c ≡ true → w.device.placed ≡ true) → w₁.blocks ≡ w.blocks) → K c (sizes w₁)
@@ -177,9 +180,9 @@ module _ (w : World) (K : Call → Outcome → Type 0) (k : Ways w K) where
 
   by_pending : (g : Guest) (ok : Bool) (host : ℕ) (p : Pending) → w.device.pending ≡ p → Entered w.device (length w.blocks) (length w.rows) false → K (HostAnswer g ok host) (host_answer p w g ok host)
   unfolding host_answer response question lent_by is_config_call
-  by_pending g ok host Nothing q e = refusal (HostAnswer g ok host) 8 g.mem (λ _. refl)
+  by_pending g ok host Nothing q e = refusal (HostAnswer g ok host) NothingPending g.mem (λ _. refl)
   by_pending g true host (Create i last) q e =
-      by_cond (K (HostAnswer g true host)) (ltb top (host + covered_by w i last)) _ _ (λ _. refusal (HostAnswer g true host) 9 g.mem (λ _. refl))
+      by_cond (K (HostAnswer g true host)) (ltb top (host + covered_by w i last)) _ _ (λ _. refusal (HostAnswer g true host) HostPastTop g.mem (λ _. refl))
       (λ _. hush (HostAnswer g true host) _ refl (λ _. refl) (λ call f. let z : ◌≡◌ {A = ℕ} 0 1 = cc in omega arith) (λ _. refl))
   by_pending g false host (Create i last) q e =
       hush (HostAnswer g false host) _ refl (λ _. refl) (λ call f. let z : ◌≡◌ {A = ℕ} 0 1 = cc in omega arith) (λ _. refl)
@@ -189,11 +192,13 @@ module _ (w : World) (K : Call → Outcome → Type 0) (k : Ways w K) where
       let a : Awaits w (DiscardOne j status) = record { shaped = shaped-when w.device e.is_shaped; waits = q; fits = fitting w false e } in
       k.one_ends j status a g ok host _ (rw (answered w (DiscardOne j status) a refl g ok host) at (one_standard w j status a g ok host)) (leaf_one w g e.is_shaped j status ok host)
 
-  by_chain : (g : Guest) (descriptors head : ℕ) (p : Parsed) → parsed g.mem g.base descriptors head ≡ p → w.device.placed ≡ true → Entered w.device (length w.blocks) (length w.rows) true
+  by_chain : (g : Guest) (descriptors head : ℕ) (p : Result Asked NoRequest) → parsed g.mem g.base descriptors head ≡ p → w.device.placed ≡ true → Entered w.device (length w.blocks) (length w.rows) true
       → K (Request g descriptors head) (request p w g)
   unfolding request response question lent_by is_config_call
-  by_chain g descriptors head (Bad reason) q p e = idle (Request g descriptors head) _ refl refl (λ _. refl) (λ call f. let z : ◌≡◌ {A = ℕ} 0 1 = cc in omega arith)
-  by_chain g descriptors head (Got req status) q p e =
+  by_chain g descriptors head (Err reason) q p e = idle (Request g descriptors head) _ refl refl (λ _. refl) (λ call f. let z : ◌≡◌ {A = ℕ} 0 1 = cc in omega arith)
+  by_chain g descriptors head (Ok asked) q p e =
+      let req = asked.request in
+      let status = asked.status in
       let h : Hears w g descriptors head req status = record { shaped = shaped-when w.device e.is_shaped; pending_is_idle = e.pending_is_idle; is_placed = p; fits = fitting w true e; reads = q } in
       let is = heard w g descriptors head req status h in
       rw is at (k.hears g descriptors head req status h (rw is (leaf_serve w g status.0 e.is_shaped req)))
@@ -202,8 +207,8 @@ module _ (w : World) (K : Call → Outcome → Type 0) (k : Ways w K) where
   unfolding step placing response question lent_by is_config_call status_of_pending status_for is_place
   each_way (Place at size slots bs rows) =
       let P = K (Place at size slots bs rows) in
-      on_unplaced P w [] _ (λ n _ _. refusal (Place at size slots bs rows) n [] (λ _. refl)) (length bs) (length rows)
-      (λ p e. place_cases P w at size slots bs rows (refusal _ 3 [] (λ _. refl)) (refusal _ 4 [] (λ _. refl))
+      on_unplaced P w [] _ (λ r _ _. refusal (Place at size slots bs rows) r [] (λ _. refl)) (length bs) (length rows)
+      (λ p e. place_cases P w at size slots bs rows (refusal _ WrongRange [] (λ _. refl)) (refusal _ WrongStart [] (λ _. refl))
       (λ _ _.
       let c = Place at size slots bs rows in
       let w₁ = placed w at slots bs rows in
@@ -214,21 +219,21 @@ module _ (w : World) (K : Call → Outcome → Type 0) (k : Ways w K) where
   each_way (SetRequestedSize mib) =
       let c = SetRequestedSize mib in
       let P = K c in
-      on_ready P w [] _ (λ n _ _. refusal c n [] (λ _. refl)) (length w.blocks) (length w.rows)
-      (λ _ e. size_cases P w mib (refusal _ 1 [] (λ _. refl))
+      on_ready P w [] _ (λ r _ _. refusal c r [] (λ _. refl)) (length w.blocks) (length w.rows)
+      (λ _ e. size_cases P w mib (refusal _ WrongSize [] (λ _. refl))
       (λ _ _.
       let w₁ = device_of (requested_to (mib * 1048576) w.device) w in
       resized_cases P w₁ (sizing c w₁ refl (λ _. refl))
       (λ i last n x. creating c w₁ i last n refl refl (λ m. asks_outside w₁ i last n m.below (facts-of w.device (shaped-when w.device e.is_shaped)).rows_some x) (λ _. refl))))
   each_way (Request g descriptors head) =
-      on_ready (K (Request g descriptors head)) w g.mem _ (λ n _ _. refusal (Request g descriptors head) n g.mem (λ _. refl)) (length w.blocks) (length w.rows)
+      on_ready (K (Request g descriptors head)) w g.mem _ (λ r _ _. refusal (Request g descriptors head) r g.mem (λ _. refl)) (length w.blocks) (length w.rows)
       (λ p e. by_chain g descriptors head (parsed g.mem g.base descriptors head) refl p e)
   each_way (HostAnswer g ok host) =
-      on_pending (K (HostAnswer g ok host)) w g.mem _ (λ n _ _. refusal (HostAnswer g ok host) n g.mem (λ _. refl)) (length w.blocks) (length w.rows)
+      on_pending (K (HostAnswer g ok host)) w g.mem _ (λ r _ _. refusal (HostAnswer g ok host) r g.mem (λ _. refl)) (length w.blocks) (length w.rows)
       (λ e. by_pending g ok host w.device.pending refl e)
   each_way (ReadConfig offset buffer) =
-      read_cases (K (ReadConfig offset buffer)) w offset buffer (λ _. refusal (ReadConfig offset buffer) 12 buffer (λ f. clash refl f))
+      read_cases (K (ReadConfig offset buffer)) w offset buffer (λ _. refusal (ReadConfig offset buffer) NoShape buffer (λ f. clash refl f))
       (idle (ReadConfig offset buffer) _ refl refl (λ f. clash refl f) (λ call f. let z : ◌≡◌ {A = ℕ} 0 1 = cc in omega arith))
   each_way (WriteConfig offset buffer) =
-      write_cases (K (WriteConfig offset buffer)) w buffer (λ _. refusal (WriteConfig offset buffer) 12 buffer (λ f. clash refl f))
+      write_cases (K (WriteConfig offset buffer)) w buffer (λ _. refusal (WriteConfig offset buffer) NoShape buffer (λ f. clash refl f))
       (idle (WriteConfig offset buffer) _ refl refl (λ f. clash refl f) (λ call f. let z : ◌≡◌ {A = ℕ} 0 1 = cc in omega arith))

@@ -1,6 +1,6 @@
 -- SPDX-License-Identifier: Apache-2.0 AND BSD-3-Clause
 -- The device and the clauses M10 to M16: the outcome of each request is as specs/Requests.antt says of its type.
-use Rattle.std.specs.Prelude.{Option, Some, None}
+use Rattle.std.specs.Prelude.{Option, Some, None, Ok, Err, Result}
 use Prim.Native.Nat.{ℕ, zero, suc, ◌+◌, ◌-◌, ◌*◌, ◌%◌, ◌≤◌, ◌<◌}
 use mathlib.Core.Path.{◌≡◌, refl, ap, ◌∙◌, sym}
 use mathlib.Core.Bool.{Bool, true, false, not, beq}
@@ -14,7 +14,6 @@ use borrow.Author.Tests.{leb-true, leb-false, ltb-true, ltb-false, le-leb, le-lt
 use Rattle.units.specs.Numbers.{blocks_in}
 use Rattle.units.specs.declared.GuestAddr.{GuestAddr}
 use Rattle.units.specs.declared.RegionOffset.{RegionOffset}
-use Rattle.units.specs.declared.HostAddr.{HostAddr}
 use Rattle.units.proofs.Tests.{by_test, and_left}
 use Rattle.bitmap.specs.Blocks.{block_at, all_are, range, every, fill, next_set}
 use Rattle.bitmap.proofs.Laws.{all_at, at_inside, at_before, at_after, range-take, all_clear_at, next_at, next_nothing}
@@ -27,10 +26,10 @@ use Rattle.record.specs.Shape.{shaped_of, is_idle, pending_ok}
 use Rattle.record.specs.Changes.{pending_to}
 use Rattle.record.proofs.Laws.{Shaped as Facts, shaped_is as facts-of, parts as parts-of, whole as shaped-when, discard_one_is}
 use Rattle.change.specs.declared.Change.{Change}
-use Rattle.change.specs.declared.Change.TheVariants.{Legal, Outside, WrongState, NoHost}
-use Rattle.change.specs.declared.Range.{Range}
-use Rattle.change.specs.declared.Range.TheVariants.{Inside, Outside as NotInside}
-use Rattle.change.specs.Change.{range_of, state_of, state_in}
+use Rattle.change.specs.declared.Reason.{Reason}
+use Rattle.change.specs.Change.{range_of, legal, state_of, state_in}
+use Rattle.refusal.specs.declared.Refusal.TheVariants.{NoShape}
+use Rattle.chain.specs.declared.NoRequest.TheVariants.{UnknownType}
 use Rattle.change.proofs.Laws.{InRange, inside_is, inside_when, host_is, legal_is, legal_when, whole_blocks}
 use Rattle.step.specs.declared.Answer.TheVariants.{Refused}
 use Rattle.step.specs.Answers.{response}
@@ -69,16 +68,14 @@ all_when [] (suc first) count v h l = absurd (omega arith)
 only_type : (types : List ℕ) (given type : ℕ) → among types given ≡ true → some given ≡ some type → among types type ≡ true
 only_type types given type e q = let same : given ≡ type = cc in rw (← same) e
 
-state_among : (r : Range) → among (0 ∷ 3 ∷ []) (state_type r) ≡ true
+state_among : (r : Result RegionOffset Reason) → among (0 ∷ 3 ∷ []) (state_type r) ≡ true
 unfolding among state_type
-state_among (Inside o) = refl
-state_among (NotInside part) = refl
+state_among (Ok o) = refl
+state_among (Err why) = refl
 
-unfoldable is_legal : Change → Bool
-is_legal (Legal first offset host) = true
-is_legal (Outside part) = false
-is_legal WrongState = false
-is_legal (NoHost part) = false
+unfoldable is_legal : Result Change Reason → Bool
+is_legal (Ok change) = true
+is_legal (Err why) = false
 
 -- ---- a record of the shape, and tables of its length
 pub record Sound (w : World) : Type 0 where
@@ -99,7 +96,7 @@ module _ (w : World) (sound : Sound w) where
   awaits p ok = record { shaped = shaped-when _ (awaiting w.device (parts-of w.device sound.shaped) p ok); waits = refl; fits = sound.fits }
 
 -- the host's answer to a call that waits for it
-not_refused : (w : World) (p : Pending) → Awaits w p → is_idle p ≡ false → pending_refusal w.device (length w.blocks) (length w.rows) ≡ 0
+not_refused : (w : World) (p : Pending) → Awaits w p → is_idle p ≡ false → pending_refusal w.device (length w.blocks) (length w.rows) ≡ Ok tt
 not_refused w p a busy = waits_when _ _ _ (record { shaped = a.shaped; not_idle = rw a.waits busy; fits = a.fits })
 
 pub answered : (w : World) (p : Pending) → Awaits w p → is_idle p ≡ false → (g : Guest) (ok : Bool) (host : ℕ) → step w (HostAnswer g ok host) ≡ host_answer p w g ok host
@@ -146,7 +143,7 @@ module _ (w : World) (req : VirtioMemReq) (sound : Sound w) where
 
   -- a valid range whose every block is in the other state, in one mapping, is legal to change
   legal_change : (wanted : Bool) (v : Valid w req) → ((i : ℕ) → Covers w req i → block_at w.blocks i ≡ not wanted) → (m : OneMapping w (offset_of w req) (size_of w req))
-      → changing w req.addr.0 req.nb_blocks wanted ≡ Legal (blocks_in (block_size w) (offset_of w req)) (record { 0 = offset_of w req }) m.host
+      → changing w req.addr.0 req.nb_blocks wanted ≡ legal (blocks_in (block_size w) (offset_of w req)) (record { 0 = offset_of w req }) m.host
   legal_change wanted v all m =
       let b = (facts w sound).block_size in
       let enough = long w sound in
@@ -162,24 +159,25 @@ module _ (w : World) (req : VirtioMemReq) (sound : Sound w) where
       })
 
   -- and what is legal to change is such a range
-  record Opened (wanted : Bool) (first : ℕ) (offset : RegionOffset) (host : HostAddr) : Type 0 where
-    pub spans : Spans first
+  record Opened (wanted : Bool) (change : Change) : Type 0 where
+    pub spans : Spans change.first
     pub blocks_are : (i : ℕ) → Covers w req i → block_at w.blocks i ≡ not wanted
-    pub offset_is : offset ≡ record { 0 = offset_of w req }
+    pub offset_is : change.offset ≡ record { 0 = offset_of w req }
     pub mapped : OneMapping w (offset_of w req) (size_of w req)
-    pub host_is : mapped.host ≡ host
+    pub host_is : mapped.host ≡ change.host
 
-  opened : (wanted : Bool) (first : ℕ) (offset : RegionOffset) (host : HostAddr) → changing w req.addr.0 req.nb_blocks wanted ≡ Legal first offset host → Opened wanted first offset host
-  opened wanted first offset host e =
-      let l = legal_is (block_size w) (start w) (usable w) (several w) req.addr.0 req.nb_blocks wanted w.blocks w.rows first offset host e in
-      let sp : Spans first = rw (← l.first_is) at (spans_of offset.0 l.in_range) in
+  opened : (wanted : Bool) (change : Change) → changing w req.addr.0 req.nb_blocks wanted ≡ Ok change → Opened wanted change
+  opened wanted change e =
+      let first = change.first in
+      let l = legal_is (block_size w) (start w) (usable w) (several w) req.addr.0 req.nb_blocks wanted w.blocks w.rows first change.offset change.host e in
+      let sp : Spans first = rw (← l.first_is) at (spans_of change.offset.0 l.in_range) in
       let o = l.in_range.offset_is in
       let enough = long w sound in
       record {
         spans = sp;
         blocks_are = λ i c. all_at w.blocks first req.nb_blocks (not wanted) i l.not-wanted (sp.covered i c).0 (sp.covered i c).1 (omega (arith, sp.ends, (sp.covered i c).1));
         offset_is = ap (λ (n : ℕ). record { 0 = n }) o;
-        mapped = record { host = host; maps = rw o at l.host_at };
+        mapped = record { host = change.host; maps = rw o at l.host_at };
         host_is = refl;
       }
 
@@ -215,8 +213,9 @@ module _ (w : World) (req : VirtioMemReq) (sound : Sound w) where
       })
       (λ u. go (changing w req.addr.0 req.nb_blocks true) refl (ltb-false (requested w) (plugged w + size_of w req) u))
     where
-      legal : (first : ℕ) (offset : RegionOffset) (host : HostAddr) → Opened true first offset host → plugged w + size_of w req ≤ requested w → Plug w req (plugs w first req.nb_blocks status g)
-      legal first offset host o fits =
+      good : (change : Change) → Opened true change → plugged w + size_of w req ≤ requested w → Plug w req (plugs w change.first req.nb_blocks status g)
+      good change o fits =
+          let first = change.first in
           let sp = o.spans in
           record {
             over = λ h. absurd (omega arith);
@@ -240,24 +239,22 @@ module _ (w : World) (req : VirtioMemReq) (sound : Sound w) where
             responses = λ type e. only_type (0 ∷ 1 ∷ 3 ∷ []) 0 type refl e;
           }
 
-      bad : {why : ℕ} (c : Change) → changing w req.addr.0 req.nb_blocks true ≡ c → is_legal c ≡ false → plugged w + size_of w req ≤ requested w → Plug w req (served (error why) status w g)
-      bad c e illegal fits =
+      bad : (why : Reason) → changing w req.addr.0 req.nb_blocks true ≡ Err why → plugged w + size_of w req ≤ requested w → Plug w req (served (error why) status w g)
+      bad why e fits =
           record {
             over = λ h. absurd (omega arith);
             only_over = λ e. let z : ◌≡◌ {A = ℕ} 0 1 = cc in absurd (omega arith);
             bad_range = λ _ _. refl;
             already = λ _ i _ _. refl;
-            granted = λ can. clash (ap is_legal (sym e ∙ legal_change true can.valid can.each_unplugged can.mapped)) illegal;
+            granted = λ can. clash (ap is_legal (sym e ∙ legal_change true can.valid can.each_unplugged can.mapped)) refl;
             only_granted = λ e. let z : ◌≡◌ {A = ℕ} 0 1 = cc in absurd (omega arith);
             whole = record { acknowledged = λ e. let z : ◌≡◌ {A = ℕ} 0 1 = cc in absurd (omega arith); otherwise = λ _. record { same_blocks = refl; same_config = refl } };
             responses = λ type e. only_type (0 ∷ 1 ∷ 3 ∷ []) 3 type refl e;
           }
 
-      go : (c : Change) → changing w req.addr.0 req.nb_blocks true ≡ c → plugged w + size_of w req ≤ requested w → Plug w req (plug_as c w req.nb_blocks status g)
-      go (Legal first offset host) e fits = legal first offset host (opened true first offset host e) fits
-      go (Outside part) e fits = bad (Outside part) e refl fits
-      go WrongState e fits = bad WrongState e refl fits
-      go (NoHost part) e fits = bad (NoHost part) e refl fits
+      go : (c : Result Change Reason) → changing w req.addr.0 req.nb_blocks true ≡ c → plugged w + size_of w req ≤ requested w → Plug w req (plug_as c w req.nb_blocks status g)
+      go (Ok change) e fits = good change (opened true change e) fits
+      go (Err why) e fits = bad why e fits
 
   -- ---- UNPLUG
   unplug_at : req.req_type ≡ VIRTIO_MEM_REQ_UNPLUG → (status : ℕ) (g : Guest) → Unplug w req (unplug_as (changing w req.addr.0 req.nb_blocks false) w req.nb_blocks status g)
@@ -267,10 +264,10 @@ module _ (w : World) (req : VirtioMemReq) (sound : Sound w) where
       unchanged : (o : Outcome) → (Responds o 0 → ⊥) → Unchanged w o.world → WholeOrNothing w req o
       unchanged o no-ack same = record { acknowledged = λ e. absurd (no-ack e); otherwise = λ _. same }
 
-      bad : {why : ℕ} (c : Change) → changing w req.addr.0 req.nb_blocks false ≡ c → is_legal c ≡ false → Unplug w req (served (error why) status w g)
-      bad {why} c e illegal =
+      bad : (why : Reason) → changing w req.addr.0 req.nb_blocks false ≡ Err why → Unplug w req (served (error why) status w g)
+      bad why e =
           let never : (call : HostCall) → AsksFor (served (error why) status w g) call → ⊥ = λ call f. let z : ◌≡◌ {A = ℕ} 0 1 = cc in omega arith in
-          let not-can : CanUnplug w req → ⊥ = λ can. clash (ap is_legal (sym e ∙ legal_change false can.valid can.all_plugged can.mapped)) illegal in
+          let not-can : CanUnplug w req → ⊥ = λ can. clash (ap is_legal (sym e ∙ legal_change false can.valid can.all_plugged can.mapped)) refl in
           record {
             bad_range = λ _. refl;
             already = λ i _ _. refl;
@@ -283,11 +280,11 @@ module _ (w : World) (req : VirtioMemReq) (sound : Sound w) where
           }
 
       -- nothing is wrong with the request: there is no response yet
-      waits : (first : ℕ) (offset : RegionOffset) (host : HostAddr) → Opened false first offset host → (o : Outcome) → response_of o.answer ≡ none → Unchanged w o.world
+      waits : (change : Change) → Opened false change → (o : Outcome) → response_of o.answer ≡ none → Unchanged w o.world
           → ((can : CanUnplug w req) → size_of w req ≤ plugged w → AsksFor o (DiscardCall (record { 0 = offset_of w req }) (size_of w req) can.mapped.host))
-          → (plugged w < size_of w req → o.answer ≡ Refused 12)
+          → (plugged w < size_of w req → o.answer ≡ Refused NoShape)
           → ((call : HostCall) → AsksFor o call → (g : Guest) (ok : Bool) (host : ℕ) → UnplugAnswered w req ok (step o.world (HostAnswer g ok host))) → Unplug w req o
-      waits first offset host found o silent same asks spoils ends =
+      waits change found o silent same asks spoils ends =
           record {
             bad_range = λ wrong. absurd (wrong found.spans.valid);
             already = λ i c u. clash (found.blocks_are i c) u;
@@ -299,15 +296,16 @@ module _ (w : World) (req : VirtioMemReq) (sound : Sound w) where
             answered = ends;
           }
 
-      ends : (first : ℕ) (offset : RegionOffset) (host : HostAddr) → Opened false first offset host → size_of w req ≤ plugged w → (g' : Guest) (ok : Bool) (h : ℕ)
-          → UnplugAnswered w req ok (step (asks_discard w first req.nb_blocks offset.0 host.0 status g).world (HostAnswer g' ok h))
-      ends first offset host found enough g' ok h =
+      ends : (change : Change) → Opened false change → size_of w req ≤ plugged w → (g' : Guest) (ok : Bool) (h : ℕ)
+          → UnplugAnswered w req ok (step (asks_discard w change.first req.nb_blocks change.offset.0 change.host.0 status g).world (HostAnswer g' ok h))
+      ends change found enough g' ok h =
+          let first = change.first in
           let p = Discard first req.nb_blocks (record { 0 = status }) in
           let fine : pending_ok p (block_size w) (region w) (several w) (plugged w) ≡ true =
           rw (le-leb (first + req.nb_blocks) (region_blocks w) found.spans.ends) (le-leb (size_of w req) (plugged w) enough) in
           rw (answered _ p (awaits w sound p fine) refl g' ok h) (by_ok ok)
         where
-          by_ok : (ok : Bool) → UnplugAnswered w req ok (host_answer (Discard first req.nb_blocks (record { 0 = status })) (asks_discard w first req.nb_blocks offset.0 host.0 status g).world g' ok h)
+          by_ok : (ok : Bool) → UnplugAnswered w req ok (host_answer (Discard change.first req.nb_blocks (record { 0 = status })) (asks_discard w change.first req.nb_blocks change.offset.0 change.host.0 status g).world g' ok h)
           by_ok true =
               record {
                 ok_acknowledged = λ _. refl;
@@ -316,9 +314,9 @@ module _ (w : World) (req : VirtioMemReq) (sound : Sound w) where
                   acknowledged = λ _.
                       record {
                         plugs = λ u. absurd (omega arith);
-                        unplugs = λ _. (λ i c. filled_covered first found.spans false i c, omega arith);
+                        unplugs = λ _. (λ i c. filled_covered change.first found.spans false i c, omega arith);
                         tells = λ u. absurd (omega arith);
-                        others = λ i c. filled_others first found.spans false i c;
+                        others = λ i c. filled_others change.first found.spans false i c;
                         same_usable = refl;
                         same_requested = refl;
                       };
@@ -332,28 +330,26 @@ module _ (w : World) (req : VirtioMemReq) (sound : Sound w) where
                 whole = unchanged _ (λ f. let z : ◌≡◌ {A = ℕ} 0 1 = cc in omega arith) (record { same_blocks = refl; same_config = refl });
               }
 
-      go : (c : Change) → changing w req.addr.0 req.nb_blocks false ≡ c → Unplug w req (unplug_as c w req.nb_blocks status g)
-      go (Legal first offset host) e =
-          let o = opened false first offset host e in
+      go : (c : Result Change Reason) → changing w req.addr.0 req.nb_blocks false ≡ c → Unplug w req (unplug_as c w req.nb_blocks status g)
+      go (Ok change) e =
+          let o = opened false change e in
           by_cond (Unplug w req) (ltb (plugged w) (size_of w req)) _ _
           (λ u.
           let less = ltb-true (plugged w) (size_of w req) u in
-          waits first offset host o _ refl (record { same_blocks = refl; same_config = refl }) (λ _ h. absurd (omega arith)) (λ _. refl)
+          waits change o _ refl (record { same_blocks = refl; same_config = refl }) (λ _ h. absurd (omega arith)) (λ _. refl)
           (λ call f _ _ _. let z : ◌≡◌ {A = ℕ} 0 1 = cc in absurd (omega arith)))
           (λ u.
           let enough = ltb-false (plugged w) (size_of w req) u in
-          waits first offset host o _ refl (record { same_blocks = refl; same_config = refl })
-          (λ can _. let same : host ≡ can.mapped.host = cc in rw (o.offset_is, same)) (λ less. absurd (omega arith))
-          (λ call f g' ok h. ends first offset host o enough g' ok h))
-      go (Outside part) e = bad (Outside part) e refl
-      go WrongState e = bad WrongState e refl
-      go (NoHost part) e = bad (NoHost part) e refl
+          waits change o _ refl (record { same_blocks = refl; same_config = refl })
+          (λ can _. let same : change.host ≡ can.mapped.host = cc in rw (o.offset_is, same)) (λ less. absurd (omega arith))
+          (λ call f g' ok h. ends change o enough g' ok h))
+      go (Err why) e = bad why e
 
   -- ---- STATE
-  state_type_lem : (r : Range) → range_of (block_size w) (start w) (usable w) req.addr.0 req.nb_blocks ≡ r → (Valid w req → ⊥) → state_type r ≡ 3
+  state_type_lem : (r : Result RegionOffset Reason) → range_of (block_size w) (start w) (usable w) req.addr.0 req.nb_blocks ≡ r → (Valid w req → ⊥) → state_type r ≡ 3
   unfolding state_type
-  state_type_lem (Inside o) e bad = absurd (bad (spans_of o.0 (inside_is (block_size w) (start w) (usable w) req.addr.0 req.nb_blocks o e)).valid)
-  state_type_lem (NotInside part) e bad = refl
+  state_type_lem (Ok o) e bad = absurd (bad (spans_of o.0 (inside_is (block_size w) (start w) (usable w) req.addr.0 req.nb_blocks o e)).valid)
+  state_type_lem (Err why) e bad = refl
 
   valid_type : Valid w req → state_type (range_of (block_size w) (start w) (usable w) req.addr.0 req.nb_blocks) ≡ 0
   unfolding state_type
@@ -427,7 +423,7 @@ whole_block b n i e u h = let h' = rw e at h in rw e (omega arith)
 module _ (w : World) (sound : Sound w) where
   -- a block that is plugged can be discarded exactly if its unplug is legal
   one_legal : (i : ℕ) → IsPlugged w i → (can : CanDiscard w i)
-      → changing w (address_of w i) 1 false ≡ Legal (blocks_in (block_size w) (offset_of w (one_block w i))) (record { 0 = offset_of w (one_block w i) }) can.mapped.host
+      → changing w (address_of w i) 1 false ≡ legal (blocks_in (block_size w) (offset_of w (one_block w i))) (record { 0 = offset_of w (one_block w i) }) can.mapped.host
   one_legal i plugged-there can =
       let s = facts w sound in
       let b = s.block_size in
@@ -443,9 +439,9 @@ module _ (w : World) (sound : Sound w) where
       (λ k c. let t = block_of (block_size w) (start w) i 1 (address_of w i) k b refl c.begins c.ends in let e : k ≡ i = omega arith in rw e plugged-there)
       (record { host = can.mapped.host; maps = rw (there, one) can.mapped.maps })
 
-  can_discard : (i first : ℕ) (offset : RegionOffset) (host : HostAddr) → changing w (address_of w i) 1 false ≡ Legal first offset host → CanDiscard w i
-  can_discard i first offset host e =
-      let o = opened w (one_block w i) sound false first offset host e in
+  can_discard : (i : ℕ) (change : Change) → changing w (address_of w i) 1 false ≡ Ok change → CanDiscard w i
+  can_discard i change e =
+      let o = opened w (one_block w i) sound false change e in
       let b = (facts w sound).block_size in
       let there : offset_of w (one_block w i) ≡ i * block_size w = omega arith in
       let one : 1 * block_size w ≡ block_size w = omega arith in
@@ -468,8 +464,8 @@ module _ (w : World) (sound : Sound w) where
       all_clear : next_set w.blocks from (region_blocks w) ≡ None → NoneFrom w from
       all_clear e i p q = all_clear_at w.blocks from (region_blocks w - from) i (next_nothing true w.blocks from (region_blocks w) e) p (omega arith)
 
-      stopped : {why : ℕ} (block : ℕ) → Lowest w from block → (CanDiscard w block → ⊥) → UnplugsFrom w from (stops why w status g)
-      stopped {why} block l cannot-be =
+      stopped : (why : Reason) (block : ℕ) → Lowest w from block → (CanDiscard w block → ⊥) → UnplugsFrom w from (stops why w status g)
+      stopped why block l cannot-be =
           let not-acknowledged : Responds (stops why w status g) 0 → ⊥ = λ r. let z : ◌≡◌ {A = ℕ} 0 1 = cc in omega arith in
           record {
             none_left = λ all. clash l.is_plugged (all block l.from_there l.in_region);
@@ -483,12 +479,13 @@ module _ (w : World) (sound : Sound w) where
             responses = λ type r. only_type (0 ∷ 3 ∷ []) 3 type refl r;
           }
 
-      asks_for : (block first : ℕ) (offset : RegionOffset) (host : HostAddr) → Lowest w from block → CanDiscard w block → changing w (address_of w block) 1 false ≡ Legal first offset host
-          → AsksLowest w from (asks_one w block offset.0 host.0 status g)
-      asks_for block first offset host l found e =
-          let legal = one_legal block l.is_plugged found in
-          let at_offset : offset ≡ record { 0 = offset_of w (one_block w block) } = cc in
-          let at-host : host ≡ found.mapped.host = cc in
+      asks_for : (block : ℕ) (change : Change) → Lowest w from block → CanDiscard w block → changing w (address_of w block) 1 false ≡ Ok change
+          → AsksLowest w from (asks_one w block change.offset.0 change.host.0 status g)
+      asks_for block change l found e =
+          let by_one = one_legal block l.is_plugged found in
+          let same : change ≡ record { first = blocks_in (block_size w) (offset_of w (one_block w block)); offset = record { 0 = offset_of w (one_block w block) }; host = found.mapped.host } = cc in
+          let at_offset : change.offset ≡ record { 0 = offset_of w (one_block w block) } = ap (λ (c : Change). c.offset) same in
+          let at-host : change.host ≡ found.mapped.host = ap (λ (c : Change). c.host) same in
           let there : offset_of w (one_block w block) ≡ block * block_size w = omega arith in
           let one_size : 1 * block_size w ≡ block_size w = omega arith in
           record {
@@ -500,12 +497,12 @@ module _ (w : World) (sound : Sound w) where
             awaits = awaits w sound (DiscardOne block (record { 0 = status })) (lt-ltb block (region_blocks w) l.in_region);
           }
 
-      asked : (block first : ℕ) (offset : RegionOffset) (host : HostAddr) → Lowest w from block → changing w (address_of w block) 1 false ≡ Legal first offset host
-          → UnplugsFrom w from (asks_one w block offset.0 host.0 status g)
-      asked block first offset host l e =
+      asked : (block : ℕ) (change : Change) → Lowest w from block → changing w (address_of w block) 1 false ≡ Ok change
+          → UnplugsFrom w from (asks_one w block change.offset.0 change.host.0 status g)
+      asked block change l e =
           let silent : (type : ℕ) → none ≡ some type → ⊥ = λ type r. let z : ◌≡◌ {A = ℕ} 0 1 = cc in omega arith in
-          let found = can_discard block first offset host e in
-          let asks = asks_for block first offset host l found e in
+          let found = can_discard block change e in
+          let asks = asks_for block change l found e in
           record {
             none_left = λ all. clash l.is_plugged (all block l.from_there l.in_region);
             only_none_left = λ r. absurd (silent 0 r);
@@ -518,14 +515,12 @@ module _ (w : World) (sound : Sound w) where
             responses = λ type r. absurd (silent type r);
           }
 
-      illegal : (block : ℕ) (c : Change) → Lowest w from block → changing w (address_of w block) 1 false ≡ c → is_legal c ≡ false → CanDiscard w block → ⊥
-      illegal block c l e n can = clash (ap is_legal (sym e ∙ one_legal block l.is_plugged can)) n
+      illegal : (why : Reason) (block : ℕ) → Lowest w from block → changing w (address_of w block) 1 false ≡ Err why → CanDiscard w block → ⊥
+      illegal why block l e can = clash (ap is_legal (sym e ∙ one_legal block l.is_plugged can)) refl
 
-      one : (block : ℕ) (c : Change) → Lowest w from block → changing w (address_of w block) 1 false ≡ c → UnplugsFrom w from (one_as c w block status g)
-      one block (Legal first offset host) l e = asked block first offset host l e
-      one block (Outside part) l e = stopped block l (illegal block (Outside part) l e refl)
-      one block WrongState l e = stopped block l (illegal block WrongState l e refl)
-      one block (NoHost part) l e = stopped block l (illegal block (NoHost part) l e refl)
+      one : (block : ℕ) (c : Result Change Reason) → Lowest w from block → changing w (address_of w block) 1 false ≡ c → UnplugsFrom w from (one_as c w block status g)
+      one block (Ok change) l e = asked block change l e
+      one block (Err why) l e = stopped why block l (illegal why block l e)
 
       go : (f : Option ℕ) → next_set w.blocks from (region_blocks w) ≡ f → UnplugsFrom w from (next_as f w status g)
       go None e =
@@ -567,7 +562,7 @@ module _ (w : World) (g : Guest) (descriptors head : ℕ) (req : VirtioMemReq) (
   unfolding serve
   to_unplug_all t = heard ∙ rw t
 
-  to_none : 3 < req.req_type → step w (Request g descriptors head) ≡ unserved 0 w g
+  to_none : 3 < req.req_type → step w (Request g descriptors head) ≡ unserved UnknownType w g
   unfolding serve
   to_none t =
       heard
@@ -611,7 +606,7 @@ one_standard w j status a g ok host = rw (answered w (DiscardOne j status) a ref
     sound : Sound w
     sound = record { shaped = a.shaped; fits = a.fits }
 
-    taken : pending_refusal w.device (length w.blocks) (length w.rows) ≡ 0
+    taken : pending_refusal w.device (length w.blocks) (length w.rows) ≡ Ok tt
     taken = not_refused w (DiscardOne j status) a refl
 
     unplugs_one : OneUnplugged w j (cleared w j)
@@ -638,7 +633,7 @@ one_standard w j status a g ok host = rw (answered w (DiscardOne j status) a ref
         }
 
 -- ---- tried against M11, M14 and M15: a device that answers ERROR always
-module _ (w : World) (req : VirtioMemReq) (why status : ℕ) (g : Guest) where
+module _ (w : World) (req : VirtioMemReq) (why : Reason) (status : ℕ) (g : Guest) where
   pub error_always_no_plug : CanPlug w req → Plug w req (served (error why) status w g) → ⊥
   unfolding response
   error_always_no_plug can p = let e = p.granted can in let z : ◌≡◌ {A = ℕ} 0 1 = cc in omega arith

@@ -1,11 +1,11 @@
 -- SPDX-License-Identifier: Apache-2.0 AND BSD-3-Clause
 -- The device and the clauses M8, M12 and M17, of every call in every world; and that nothing changes while a request waits for the host.
-use Rattle.std.specs.Prelude.{Option, Some, None}
+use Rattle.std.specs.Prelude.{Option, Some, None, Err, Result}
 use Prim.Native.Nat.{ℕ, ◌+◌, ◌^◌, ◌≤◌, ◌<◌}
 use mathlib.Core.Path.{◌≡◌, refl, ap, ◌∙◌, sym}
 use mathlib.Core.Bool.{Bool, true, false, cond, not, ◌||◌}
 use mathlib.Core.List.{List, [], ◌∷◌}
-use mathlib.Core.Option.{Option, some, none}
+use mathlib.Core.Option.{Option as Maybe, some, none}
 use native.Mathlib.Omega.{arith}
 use lib.Dec.{ltb, eqb}
 use lib.ListN.{length}
@@ -20,9 +20,9 @@ use Rattle.descriptors.specs.Descriptors.{inside, link_at, link_after}
 use Rattle.descriptors.proofs.Laws.{inside_facts}
 use Rattle.descriptors.specs.declared.Descriptor.{Descriptor}
 use Rattle.descriptors.specs.Standard.{is_write_only, is_indirect}
-use Rattle.chain.specs.declared.Parsed.{Parsed}
-use Rattle.chain.specs.declared.Parsed.TheVariants.{Request as Got, Bad}
-use Rattle.chain.specs.Chain.{with_second, with_first, parsed, reaches, delivered}
+use Rattle.chain.specs.declared.Asked.{Asked}
+use Rattle.chain.specs.declared.NoRequest.{NoRequest}
+use Rattle.chain.specs.Chain.{asked, with_second, with_first, parsed, reaches, delivered}
 use Rattle.chain.proofs.Laws.{length-delivered, delivered_reads, undelivered, delivered_before, delivered_behind}
 use Rattle.record.specs.declared.Pending.TheVariants.{Discard}
 use Rattle.step.specs.declared.Answer.{Answer}
@@ -76,7 +76,7 @@ delivers g status o (Silent n b) reply e = let z : none ≡ some reply.response.
 pub mute : (a : Answer) → speaks a ≡ false → response_of a ≡ none
 mute a e = go (response a) _ e
   where
-    go : (r : Option VirtioMemResp) (more : Bool) → (present r || more) ≡ false → type_field r ≡ none
+    go : (r : Maybe VirtioMemResp) (more : Bool) → (present r || more) ≡ false → type_field r ≡ none
     go none more q = refl
     go (some resp) more q = clash refl q
 
@@ -109,23 +109,23 @@ status_is_kept w c = each_way w (StatusIsKept w) (status_by w) c
 
 -- ---- Q4: where a response goes the driver lets the device write
 -- a test that must have failed, or nothing is found
-past : (t : Bool) (reason : ℕ) (p : Parsed) (req : VirtioMemReq) (status : GuestAddr) → cond t (Bad reason) p ≡ Got req status → (t ≡ false) × (p ≡ Got req status)
+past : (t : Bool) (reason : NoRequest) (p : Result Asked NoRequest) (req : VirtioMemReq) (status : GuestAddr) → cond t (Err reason) p ≡ asked req status → (t ≡ false) × (p ≡ asked req status)
 past true reason p req status e = let z : ◌≡◌ {A = ℕ} 0 1 = cc in absurd (omega arith)
 past false reason p req status e = (refl, e)
 
 module _ (g : Guest) (descriptors head : ℕ) (req : VirtioMemReq) (status : GuestAddr) where
   second_writable : (first : Descriptor) (found : VirtioMemReq) (l : Option Descriptor) → link_at g.mem g.base descriptors head ≡ Some first → link_after g.mem g.base descriptors first ≡ l
-      → with_second found l ≡ Got req status → WritableAt g descriptors head status
+      → with_second found l ≡ asked req status → WritableAt g descriptors head status
   unfolding with_second
   second_writable first found None h f e = let z : ◌≡◌ {A = ℕ} 0 1 = cc in absurd (omega arith)
   second_writable first found (Some second) h f e =
       let direct = past (is_indirect second) _ _ req status e in
       let writable = past (not (is_write_only second)) _ _ req status direct.1 in
       let long = past (ltb second.len 10) _ _ req status writable.1 in
-      let got = long.1 in
-      record { first = first; second = second; heads = h; follows = f; is_writable = not-false (is_write_only second) writable.0; is_long = ltb-false second.len 10 long.0; is_there = cc }
+      let same : record { request = found; status = second.addr } ≡ record { request = req; status = status } = cc long.1 in
+      record { first = first; second = second; heads = h; follows = f; is_writable = not-false (is_write_only second) writable.0; is_long = ltb-false second.len 10 long.0; is_there = ap (λ (a : Asked). a.status) same }
 
-  first_writable : (l : Option Descriptor) → link_at g.mem g.base descriptors head ≡ l → with_first g.mem g.base descriptors l ≡ Got req status → WritableAt g descriptors head status
+  first_writable : (l : Option Descriptor) → link_at g.mem g.base descriptors head ≡ l → with_first g.mem g.base descriptors l ≡ asked req status → WritableAt g descriptors head status
   unfolding with_first
   first_writable None h e = let z : ◌≡◌ {A = ℕ} 0 1 = cc in absurd (omega arith)
   first_writable (Some first) h e =
@@ -241,11 +241,11 @@ never_busy w c r = go (each_way w (IsGiven w) (given_by w) c _ r)
 pub waiting_stays : FromEveryWorld WaitingStays
 unfolding step is_host_answer
 waiting_stays w (Place at size slots bs rows) busy no_answer =
-    on_unplaced (λ o. o.world ≡ w) w [] _ (λ n _ _. refl) (length bs) (length rows) (λ p e. clash e.pending_is_idle busy)
+    on_unplaced (λ o. o.world ≡ w) w [] _ (λ r _ _. refl) (length bs) (length rows) (λ p e. clash e.pending_is_idle busy)
 waiting_stays w (SetRequestedSize mib) busy no_answer =
-    on_ready (λ o. o.world ≡ w) w [] _ (λ n _ _. refl) (length w.blocks) (length w.rows) (λ p e. clash e.pending_is_idle busy)
+    on_ready (λ o. o.world ≡ w) w [] _ (λ r _ _. refl) (length w.blocks) (length w.rows) (λ p e. clash e.pending_is_idle busy)
 waiting_stays w (Request g descriptors head) busy no_answer =
-    on_ready (λ o. o.world ≡ w) w g.mem _ (λ n _ _. refl) (length w.blocks) (length w.rows) (λ p e. clash e.pending_is_idle busy)
+    on_ready (λ o. o.world ≡ w) w g.mem _ (λ r _ _. refl) (length w.blocks) (length w.rows) (λ p e. clash e.pending_is_idle busy)
 waiting_stays w (HostAnswer g ok host) busy no_answer = clash refl no_answer
 waiting_stays w (ReadConfig offset buffer) busy no_answer = read_cases (λ o. o.world ≡ w) w offset buffer (λ _. refl) refl
 waiting_stays w (WriteConfig offset buffer) busy no_answer = write_cases (λ o. o.world ≡ w) w buffer (λ _. refl) refl

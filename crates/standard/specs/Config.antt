@@ -1,6 +1,6 @@
 -- SPDX-License-Identifier: Apache-2.0 AND BSD-3-Clause
 -- What Virtio 1.2 asks of the features and the config of a memory device: M2 to M7. The names M2, Q9, .. are clauses of sections 5.15 and 2.7, retold and numbered in docs/STANDARD.md. Where one is narrower here, a line says how.
-use Rattle.std.specs.Prelude.{ℕ, ◌+◌, ◌*◌, ◌/◌, ◌%◌, ◌^◌, ◌≤◌, ◌<◌, ◌≡◌, Bool, true, false, List, [], ◌∷◌, eqb, drop, replicate, Option}
+use Rattle.std.specs.Prelude.{ℕ, ◌+◌, ◌*◌, ◌/◌, ◌%◌, ◌^◌, ◌≤◌, ◌<◌, ◌≡◌, Bool, true, false, List, [], ◌∷◌, eqb, drop, replicate, Option, Ok}
 use Rattle.bitmap.specs.Blocks.{block_at, ones}
 use Rattle.little_endian.specs.Bytes.{put}
 use Rattle.wire.specs.Standard.{virtio_mem_config}
@@ -9,7 +9,6 @@ use Rattle.record.specs.declared.Device.{Device}
 use Rattle.record.specs.declared.HostCall.{HostCall}
 use Rattle.record.specs.declared.HostCall.TheVariants.{Create, Discard}
 use Rattle.record.specs.Shape.{shaped_of}
-use Rattle.making.specs.declared.Made.TheVariants.{Device as MadeDevice}
 use Rattle.making.specs.Made.{is_given, node_number, made}
 use Rattle.step.specs.declared.Answer.{Answer}
 use Rattle.step.specs.declared.Answer.TheVariants.{Refused, Wants, Sized, Unserved, Served, Done}
@@ -39,7 +38,7 @@ pub record Features (node : Option ℕ) (d : Device) : Type 0 where
 
 -- from making on, in every run: what is offered stays offered
 abbrev pub FeaturesFromMaking : Type 0
-FeaturesFromMaking = (capacity requested : ℕ) (several : Bool) (node : Option ℕ) (boot : ℕ) (s : Story) (r : Reached s) → made capacity requested several node boot ≡ MadeDevice (made_as r)
+FeaturesFromMaking = (capacity requested : ℕ) (several : Bool) (node : Option ℕ) (boot : ℕ) (s : Story) (r : Reached s) → made capacity requested several node boot ≡ Ok (made_as r)
     → Features node s.world.device
 
 -- ---- M3, the layout: what a config read gives from its offset on, as far as the buffer goes
@@ -88,7 +87,7 @@ settled_by_call before (Create guest size slot) = false
 settled_by_call before (Discard offset size host) = before
 
 unfoldable pub settled_by : Bool → Answer → Bool
-settled_by before (Refused n) = before
+settled_by before (Refused refused) = before
 settled_by before (Wants call) = settled_by_call before call
 settled_by before Sized = true
 settled_by before (Unserved reason) = before

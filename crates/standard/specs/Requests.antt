@@ -1,12 +1,12 @@
 -- SPDX-License-Identifier: Apache-2.0 AND BSD-3-Clause
 -- What Virtio 1.2 asks of the requests and of the response to each: M8 to M17. The names M8, Q4, .. are clauses of sections 5.15 and 2.7, retold and numbered in docs/STANDARD.md. Everything here holds in every world, whether or not a run leads there. Where a clause is narrower, a line says how, and docs/DIFFERENCES.md has the input.
-use Rattle.std.specs.Prelude.{ℕ, ◌+◌, ◌-◌, ◌*◌, ◌%◌, ◌^◌, ◌≤◌, ◌<◌, ◌≡◌, Bool, true, false, ◌||◌, List, [], ◌∷◌, eqb, length, Some}
+use Rattle.std.specs.Prelude.{ℕ, ◌+◌, ◌-◌, ◌*◌, ◌%◌, ◌^◌, ◌≤◌, ◌<◌, ◌≡◌, Bool, true, false, ◌||◌, List, [], ◌∷◌, eqb, length, Some, Ok, Err, Result}
 use Rattle.std.proofs.Math.Option.{Option, some, none}
 use Rattle.units.specs.declared.GuestAddr.{GuestAddr}
 use Rattle.units.specs.declared.HostAddr.{HostAddr}
 use Rattle.bitmap.specs.Blocks.{block_at}
 use Rattle.little_endian.specs.Bytes.{part}
-use Rattle.change.specs.declared.HostRange.TheVariants.{At}
+use Rattle.refusal.specs.declared.Refusal.TheVariants.{NoShape}
 use Rattle.change.specs.Change.{host_of}
 use Rattle.wire.specs.Standard.{virtio_mem_resp}
 use Rattle.wire.specs.declared.VirtioMemReq.{VirtioMemReq}
@@ -14,9 +14,10 @@ use Rattle.wire.specs.declared.VirtioMemResp.{VirtioMemResp}
 use Rattle.descriptors.specs.declared.Descriptor.{Descriptor}
 use Rattle.descriptors.specs.Standard.{is_write_only}
 use Rattle.descriptors.specs.Descriptors.{link_at, link_after}
-use Rattle.chain.specs.declared.Parsed.{Parsed}
-use Rattle.chain.specs.declared.Parsed.TheVariants.{Request as Got, Bad}
-use Rattle.chain.specs.Chain.{parsed}
+use Rattle.chain.specs.declared.Asked.{Asked}
+use Rattle.chain.specs.declared.NoRequest.{NoRequest}
+use Rattle.chain.specs.declared.NoRequest.TheVariants.{UnknownType}
+use Rattle.chain.specs.Chain.{asked, parsed}
 use Rattle.record.specs.declared.HostCall.{HostCall}
 use Rattle.record.specs.declared.HostCall.TheVariants.{Discard as DiscardCall}
 use Rattle.record.specs.declared.Pending.{Pending}
@@ -148,7 +149,7 @@ pub record Valid (w : World) (req : VirtioMemReq) : Type 0 where
 -- the host has memory for `size` bytes from this offset on, in one mapping: test (d), R10.6, of which the standard has nothing
 pub record OneMapping (w : World) (offset size : ℕ) : Type 0 where
   pub host : HostAddr
-  pub maps : host_of (several w) w.rows offset size ≡ At host
+  pub maps : host_of (several w) w.rows offset size ≡ Ok host
 
 -- where the request begins in the region
 abbrev pub offset_of : World → VirtioMemReq → ℕ
@@ -160,7 +161,7 @@ pub record Hears (w : World) (g : Guest) (descriptors head : ℕ) (req : VirtioM
   pub pending_is_idle : is_idle w.device.pending ≡ true
   pub is_placed : w.device.placed ≡ true
   pub fits : tables_fit w.device (length w.blocks) (length w.rows) ≡ true
-  pub reads : parsed g.mem g.base descriptors head ≡ Got req status
+  pub reads : parsed g.mem g.base descriptors head ≡ asked req status
 
 -- P holds of every such request, whose type is one of these, and its outcome
 abbrev pub OfEveryType : (these : ℕ → Type 0) → (World → VirtioMemReq → Outcome → Type 0) → Type 0
@@ -213,9 +214,9 @@ lent_by (ReadConfig offset buffer) = no_guest
 lent_by (WriteConfig offset buffer) = no_guest
 
 -- where a response goes: to the status address of the chain that the call brings, or of the request that waits for the host
-unfoldable pub status_of_chain : Parsed → Option ℕ
-status_of_chain (Bad reason) = none
-status_of_chain (Got req status) = some status.0
+unfoldable pub status_of_chain : Result Asked NoRequest → Option ℕ
+status_of_chain (Err reason) = none
+status_of_chain (Ok found) = some found.status.0
 
 unfoldable pub status_of_pending : Pending → Option ℕ
 status_of_pending Nothing = none
@@ -266,7 +267,7 @@ pub record WritableAt (g : Guest) (descriptors head : ℕ) (status : GuestAddr) 
   pub is_there : second.addr ≡ status
 
 abbrev pub StatusIsWritable : Type 0
-StatusIsWritable = (g : Guest) (descriptors head : ℕ) (req : VirtioMemReq) (status : GuestAddr) → parsed g.mem g.base descriptors head ≡ Got req status → WritableAt g descriptors head status
+StatusIsWritable = (g : Guest) (descriptors head : ℕ) (req : VirtioMemReq) (status : GuestAddr) → parsed g.mem g.base descriptors head ≡ asked req status → WritableAt g descriptors head status
 
 -- a request that waits for the host keeps the status address of its chain
 abbrev pub StatusIsKept : World → Call → Outcome → Type 0
@@ -338,7 +339,7 @@ pub record Unplug (w : World) (req : VirtioMemReq) (o : Outcome) : Type 0 where
   pub already : (i : ℕ) → Covers w req i → IsUnplugged w i → Rejected o
   -- otherwise the host is asked for the range, by its offset and size. Narrower: where one mapping of the host has it. A plugged_size that has not so much is spoiled, and in no run (`PluggedBlocksUnplug`)
   pub granted : (can : CanUnplug w req) → size_of w req ≤ plugged w → AsksToDiscard o (offset_of w req) (size_of w req) can.mapped.host
-  pub spoiled : CanUnplug w req → plugged w < size_of w req → o.answer ≡ Refused 12
+  pub spoiled : CanUnplug w req → plugged w < size_of w req → o.answer ≡ Refused NoShape
   pub only_granted : (call : HostCall) → AsksFor o call → CanUnplug w req
   -- there is no response yet, and nothing is unplugged (M10), until the host has answered
   pub responses : RespondsAmong o (VIRTIO_MEM_RESP_ERROR ∷ [])
@@ -419,7 +420,7 @@ pub record StateRequest (w : World) (req : VirtioMemReq) (o : Outcome) : Type 0 
 
 -- not the standard's: a request of a type that it does not have gets no response, and changes nothing
 pub record Unknown (w : World) (req : VirtioMemReq) (o : Outcome) : Type 0 where
-  pub no_response : o.answer ≡ Unserved 0
+  pub no_response : o.answer ≡ Unserved UnknownType
   pub not_changed : Unchanged w o.world
 
 -- ---- of every call
