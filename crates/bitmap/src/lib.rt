@@ -61,6 +61,7 @@ fn are(b: u8, k: usize, n: usize, v: bool) -> bool
 
 // Whether each block of these bytes is v: eight bytes at a time, then one. The first loop's test is the one that
 // `read_u64` makes, so the compiler drops the second.
+// Two loops over `as_chunks` were tried: about six instructions for eight bytes, where these execute about five.
 fn bytes_are(bytes: &[u8], v: bool) -> bool
     ensures { result ≡ every v (blocks bytes.now) }
 {
