@@ -1,6 +1,6 @@
 -- SPDX-License-Identifier: Apache-2.0 AND BSD-3-Clause
 -- The device and the clauses M10 to M16: the outcome of each request is as specs/Requests.antt says of its type.
-use Rattle.std.specs.Prelude.{Option, Some, None, Ok, Err, Result}
+use Rattle.std.specs.Prelude.{Option, Some, None, Ok, Err, Result, is_ok}
 use Prim.Native.Nat.{ℕ, zero, suc, ◌+◌, ◌-◌, ◌*◌, ◌%◌, ◌≤◌, ◌<◌}
 use mathlib.Core.Path.{◌≡◌, refl, ap, ◌∙◌, sym}
 use mathlib.Core.Bool.{Bool, true, false, not, beq}
@@ -72,10 +72,6 @@ state_among : (r : Result RegionOffset Reason) → among (0 ∷ 3 ∷ []) (state
 unfolding among state_type
 state_among (Ok o) = refl
 state_among (Err why) = refl
-
-unfoldable is_legal : Result Change Reason → Bool
-is_legal (Ok change) = true
-is_legal (Err why) = false
 
 -- ---- a record of the shape, and tables of its length
 pub record Sound (w : World) : Type 0 where
@@ -196,7 +192,7 @@ module _ (w : World) (req : VirtioMemReq) (sound : Sound w) where
 
   -- ---- PLUG
   plug_at : req.req_type ≡ VIRTIO_MEM_REQ_PLUG → (status : ℕ) (g : Guest) → Plug w req (plug w req.addr.0 req.nb_blocks status g)
-  unfolding plug plug_as response among is_legal
+  unfolding plug plug_as response among
   plug_at t status g =
       by_cond (Plug w req) (ltb (requested w) (plugged w + size_of w req)) _ _
       (λ u.
@@ -246,7 +242,7 @@ module _ (w : World) (req : VirtioMemReq) (sound : Sound w) where
             only_over = λ e. let z : ◌≡◌ {A = ℕ} 0 1 = cc in absurd (omega arith);
             bad_range = λ _ _. refl;
             already = λ _ i _ _. refl;
-            granted = λ can. clash (ap is_legal (sym e ∙ legal_change true can.valid can.each_unplugged can.mapped)) refl;
+            granted = λ can. clash (ap is_ok (sym e ∙ legal_change true can.valid can.each_unplugged can.mapped)) refl;
             only_granted = λ e. let z : ◌≡◌ {A = ℕ} 0 1 = cc in absurd (omega arith);
             whole = record { acknowledged = λ e. let z : ◌≡◌ {A = ℕ} 0 1 = cc in absurd (omega arith); otherwise = λ _. record { same_blocks = refl; same_config = refl } };
             responses = λ type e. only_type (0 ∷ 1 ∷ 3 ∷ []) 3 type refl e;
@@ -258,7 +254,7 @@ module _ (w : World) (req : VirtioMemReq) (sound : Sound w) where
 
   -- ---- UNPLUG
   unplug_at : req.req_type ≡ VIRTIO_MEM_REQ_UNPLUG → (status : ℕ) (g : Guest) → Unplug w req (unplug_as (changing w req.addr.0 req.nb_blocks false) w req.nb_blocks status g)
-  unfolding unplug_as response among is_legal host_answer pending_ok
+  unfolding unplug_as response among host_answer pending_ok
   unplug_at t status g = go (changing w req.addr.0 req.nb_blocks false) refl
     where
       unchanged : (o : Outcome) → (Responds o 0 → ⊥) → Unchanged w o.world → WholeOrNothing w req o
@@ -267,7 +263,7 @@ module _ (w : World) (req : VirtioMemReq) (sound : Sound w) where
       bad : (why : Reason) → changing w req.addr.0 req.nb_blocks false ≡ Err why → Unplug w req (served (error why) status w g)
       bad why e =
           let never : (call : HostCall) → AsksFor (served (error why) status w g) call → ⊥ = λ call f. let z : ◌≡◌ {A = ℕ} 0 1 = cc in omega arith in
-          let not-can : CanUnplug w req → ⊥ = λ can. clash (ap is_legal (sym e ∙ legal_change false can.valid can.all_plugged can.mapped)) refl in
+          let not-can : CanUnplug w req → ⊥ = λ can. clash (ap is_ok (sym e ∙ legal_change false can.valid can.all_plugged can.mapped)) refl in
           record {
             bad_range = λ _. refl;
             already = λ i _ _. refl;
@@ -448,7 +444,7 @@ module _ (w : World) (sound : Sound w) where
       record { in_usable = omega (arith, o.spans.valid.to_usable); mapped = record { host = o.mapped.host; maps = rw (there, one) at o.mapped.maps } }
 
   unplugs_from : (from status : ℕ) (g : Guest) → UnplugsFrom w from (unplug_all w from status g)
-  unfolding next_as one_as response among is_legal pending_ok
+  unfolding next_as one_as response among pending_ok
   unplugs_from from status g = go (next_set w.blocks from (region_blocks w)) refl
     where
       lowest : (block : ℕ) → next_set w.blocks from (region_blocks w) ≡ Some block → Lowest w from block
@@ -516,7 +512,7 @@ module _ (w : World) (sound : Sound w) where
           }
 
       illegal : (why : Reason) (block : ℕ) → Lowest w from block → changing w (address_of w block) 1 false ≡ Err why → CanDiscard w block → ⊥
-      illegal why block l e can = clash (ap is_legal (sym e ∙ one_legal block l.is_plugged can)) refl
+      illegal why block l e can = clash (ap is_ok (sym e ∙ one_legal block l.is_plugged can)) refl
 
       one : (block : ℕ) (c : Result Change Reason) → Lowest w from block → changing w (address_of w block) 1 false ≡ c → UnplugsFrom w from (one_as c w block status g)
       one block (Ok change) l e = asked block change l e
