@@ -18,6 +18,10 @@ Proposal = Result Plug Refusal
 abbrev pub plugging : GuestAddr → (count : ℕ) → Proposal
 plugging addr count = Ok (record { addr = addr; nb_blocks = count })
 
+-- R1.17: there is none to propose
+abbrev pub no_plug : Proposal
+no_plug = Err NothingToPlug
+
 -- R14.7: the block behind the 2 GiB border of offsets that comes next
 abbrev pub border_after : (b first : ℕ) → ℕ
 border_after b first = suc (first / blocks_in b map_region) * blocks_in b map_region
@@ -43,9 +47,9 @@ count_of b usable plugged requested bs first = min (stop_of b usable bs first - 
 
 -- R14.6, R14.8, R1.17: a plug from the lowest free block on, or 17
 unfoldable pub plan_at : Option ℕ → (b start usable plugged requested : ℕ) → List Bool → Proposal
-plan_at None b start usable plugged requested bs = Err NothingToPlug
+plan_at None b start usable plugged requested bs = no_plug
 plan_at (Some first) b start usable plugged requested bs =
-    cond (eqb (room_of b plugged requested) 0) (Err NothingToPlug)
+    cond (eqb (room_of b plugged requested) 0) no_plug
     (plugging (record { 0 = start + bytes_of b first }) (count_of b usable plugged requested bs first))
 
 -- R14.5: 12, 11, then 17 or the plug
