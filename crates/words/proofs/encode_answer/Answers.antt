@@ -4,7 +4,7 @@ use Prim.Native.Nat.{◌≤◌}
 use lib.ListN.{length, set, length-set}
 use borrow.Author.Tests.{le-leb, lt-leb}
 use Rattle.little_endian.specs.Bytes.{put}
-use Rattle.words.specs.Record.{after_answer}
+use Rattle.words.specs.Record.{bit, after_answer}
 use Rattle.words.proofs.Laws.{pending_laid}
 use Rattle.words.proofs.encode_answer.Goals as goal
 
@@ -18,7 +18,7 @@ returns c =
     let d = c.args.d in
     let ws = c.args.words.now in
     let h = c.if-words-lt-RECORD_WORDS.false in
-    let stored = (set (set (set ws 4 d.config.usable_region_size) 5 d.config.plugged_size) 10 c.bit.result) in
+    let stored = (set (set (set ws 4 d.config.usable_region_size) 5 d.config.plugged_size) 10 (bit d.placed)) in
     let long : 15 ≤ length stored = simp length-set h in
-    let laid = pending_laid stored _ d.pending long c.pending_words.ensures in
-    rw (le-leb 15 (length ws) h, c.copy_from_slice.ensures.after, laid, c.bit.ensures)
+    rw (le-leb 15 (length ws) h, c.copy_from_slice.ensures.after, c.bit.ensures)
+    (pending_laid stored _ d.pending long c.pending_words.ensures)

@@ -20,5 +20,5 @@ returns c =
     let h = c.if-words-lt-RECORD_WORDS.false in
     let stored = (set ws 5 d.config.plugged_size) in
     let long : 15 ≤ length stored = simp length-set h in
-    let laid = pending_laid stored _ d.pending long c.pending_words.ensures in
-    rw (le-leb 15 (length ws) h, c.copy_from_slice.ensures.after, laid)
+    rw (le-leb 15 (length ws) h, c.copy_from_slice.ensures.after)
+    (pending_laid stored _ d.pending long c.pending_words.ensures)
