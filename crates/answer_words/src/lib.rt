@@ -6,6 +6,7 @@ ghost use Rattle.std.specs.Prelude.{◌≡◌};
 ghost use Rattle.little_endian.specs.Bytes.{put};
 ghost use Rattle.step.specs.Answers.{answer_words, question_words, number_of};
 
+use change::why_number;
 use record::HostCall;
 use step::Answer;
 use words::write_all;
@@ -23,29 +24,26 @@ fn question_words(call: HostCall) -> [u64; ANSWER_WORDS]
     }
 }
 
-// An answer as words.
+// An answer as words. Its kind is a number here because an answer is words at the C interface.
 fn answer_words(answer: Answer) -> [u64; ANSWER_WORDS]
     ensures { result ≡ answer_words answer }
 {
     match answer {
-        Answer::Refused(number) => [0, number, 0, 0, 0, 0, 0, 0, 0],
+        Answer::Refused(refusal) => [0, refusal.number(), 0, 0, 0, 0, 0, 0, 0],
         Answer::Wants(call) => question_words(call),
         Answer::Sized => [3, 0, 0, 0, 0, 0, 0, 0, 0],
-        Answer::Unserved(reason) => [4, 0, 0, 0, 0, 0, 0, 0, reason],
-        Answer::Served(reply) => {
-            let resp = reply.response;
-            [
-                5,
-                0,
-                0,
-                0,
-                0,
-                resp.resp_type as u64,
-                resp.state as u64,
-                reply.used as u64,
-                reply.why,
-            ]
-        }
+        Answer::Unserved(reason) => [4, 0, 0, 0, 0, 0, 0, 0, reason.number()],
+        Answer::Served(reply) => [
+            5,
+            0,
+            0,
+            0,
+            0,
+            u64::from(reply.response.resp_type),
+            u64::from(reply.response.state),
+            u64::from(reply.used),
+            why_number(reply.why),
+        ],
         Answer::Done => [6, 0, 0, 0, 0, 0, 0, 0, 0],
     }
 }
@@ -54,8 +52,10 @@ fn answer_words(answer: Answer) -> [u64; ANSWER_WORDS]
 pub fn number_of(answer: Answer) -> u64
     ensures { result ≡ number_of answer }
 {
-    let all = answer_words(answer);
-    all[1]
+    match answer {
+        Answer::Refused(refusal) => refusal.number(),
+        _ => 0,
+    }
 }
 
 // Writes an answer as words, none past the end, and tells its number.

@@ -1,8 +1,8 @@
 -- SPDX-License-Identifier: Apache-2.0 AND BSD-3-Clause
 -- The laws of `specs/Text.antt` and `specs/Plan.antt`.
-use Rattle.std.specs.Prelude.{Option, Some, None}
+use Rattle.std.specs.Prelude.{Option, Some, None, Ok, Err}
 use Prim.Native.Nat.{ℕ, zero, suc, ◌+◌, ◌*◌, ◌/◌, ◌%◌, ◌^◌, ◌≤◌, ◌<◌}
-use mathlib.Core.Path.{◌≡◌, refl, ap, ◌∙◌, sym}
+use mathlib.Core.Path.{◌≡◌, refl, ap, ◌∙◌, sym, subst}
 use mathlib.Core.Bool.{Bool, true, false}
 use mathlib.Core.List.{List, [], ◌∷◌, ◌++◌}
 use native.Mathlib.Nat.{div-add-mod', div-mul-le_self, mod-lt, le-div_iff_mul-le}
@@ -22,10 +22,23 @@ use Rattle.wire.specs.Standard.{virtio_mem_req, virtio_mem_config}
 use Rattle.little_endian.proofs.Laws.{length-little_endian, value_fits, value_below, put_append, part-part}
 use Rattle.wire.proofs.Laws.{length_response, length_config}
 use Rattle.wire.proofs.Standard.{config}
-use Rattle.driver.specs.declared.GotResponse.TheVariants.{Response, Refused as NoResponse}
-use Rattle.driver.specs.declared.GotConfig.TheVariants.{Config, Refused as NoConfig}
-use Rattle.driver.specs.Text.{request_bytes, ResponseText, ReadsResponse, ConfigText, ReadsConfig}
+use Rattle.refusal.specs.declared.Refusal.TheVariants.{BadBytes}
+use Rattle.driver.specs.Text.{request_bytes, Reads, ResponseText, ReadsResponse, ConfigText, ReadsConfig}
 use Rattle.driver.specs.Plan.{limit_of, stop_at, count_of}
+
+-- ---- what is read
+-- 16, where no value has these bytes
+pub none_read : {V : Type 0} {IsText : V → Type 0} → ((v : V) → IsText v → ⊥) → Reads IsText (Err BadBytes)
+none_read f = record { read = λ v e. cc; only = λ v t. absurd (f v t); refused = λ why e. cc }
+
+-- the only value that has them
+pub one_read : {V : Type 0} {IsText : V → Type 0} (v : V) → IsText v → ((w : V) → IsText w → v ≡ w) → Reads IsText (Ok v)
+one_read {V} {IsText} v t same =
+    record {
+      read = λ w e. let q : v ≡ w = cc in subst IsText q t;
+      only = λ w u. ap Ok (same w u);
+      refused = λ why e. cc;
+    }
 
 -- ---- bytes and the number that they mean
 -- bytes are those of their number
@@ -114,32 +127,20 @@ response_text_lem xs v h m t s =
       state_known = s;
     }
 
--- 16, where no value has these bytes
-pub response_refused : (xs : List ℕ) → ((v : VirtioMemResp) → ResponseText xs v → ⊥) → ReadsResponse xs (NoResponse 16)
-response_refused xs f =
-    record {
-      read = λ v e. let z : ◌≡◌ {A = ℕ} 0 1 = cc in absurd (omega arith);
-      only = λ v t. absurd (f v t);
-      refused = λ n e. cc;
-    }
-
 same_response : (v w : VirtioMemResp) → v.resp_type ≡ w.resp_type → v.state ≡ w.state → v ≡ w
 same_response v w a b =
     let e : ◌≡◌ {A = VirtioMemResp} (record { resp_type = v.resp_type; state = v.state }) (record { resp_type = w.resp_type; state = w.state }) = rw (a, b) in
     e
 
-pub response_read : (xs : List ℕ) (v : VirtioMemResp) → ResponseText xs v → ReadsResponse xs (Response v)
+pub response_read : (xs : List ℕ) (v : VirtioMemResp) → ResponseText xs v → ReadsResponse xs (Ok v)
 response_read xs v t =
-    record {
-      read = λ w e. let q : v ≡ w = cc in rw (← q) t;
-      only = λ w u.
-          let m = response_means xs v t in
-          let n = response_means xs w u in
-          let a : v.resp_type ≡ w.resp_type = sym m.type_is ∙ n.type_is in
-          let b : v.state ≡ w.state = sym m.state_is ∙ n.state_is in
-          ap Response (same_response v w a b);
-      refused = λ n e. let z : ◌≡◌ {A = ℕ} 0 1 = cc in absurd (omega arith);
-    }
+    one_read v t
+    (λ w u.
+    let m = response_means xs v t in
+    let n = response_means xs w u in
+    let a : v.resp_type ≡ w.resp_type = sym m.type_is ∙ n.type_is in
+    let b : v.state ≡ w.state = sym m.state_is ∙ n.state_is in
+    same_response v w a b)
 
 -- ---- the config: seven numbers of eight bytes, of which the node has its padding above it
 config_words : (c : VirtioMemConfig) → c.node_id < 65536
@@ -224,40 +225,28 @@ config_text xs c h m =
       };
     }
 
-pub config_refused : (xs : List ℕ) → ((c : VirtioMemConfig) → ConfigText xs c → ⊥) → ReadsConfig xs (NoConfig 16)
-config_refused xs f =
-    record {
-      read = λ c e. let z : ◌≡◌ {A = ℕ} 0 1 = cc in absurd (omega arith);
-      only = λ c t. absurd (f c t);
-      refused = λ n e. cc;
-    }
-
 same_config : (c d : VirtioMemConfig) → c.block_size ≡ d.block_size → c.node_id ≡ d.node_id → c.addr.0 ≡ d.addr.0 → c.region_size ≡ d.region_size → c.usable_region_size ≡ d.usable_region_size → c.plugged_size ≡ d.plugged_size → c.requested_size ≡ d.requested_size → c ≡ d
 same_config c d f₀ f₁ f₂ f₃ f₄ f₅ f₆ =
     let e : ◌≡◌ {A = VirtioMemConfig} (record { block_size = c.block_size; node_id = c.node_id; addr = record { 0 = c.addr.0 }; region_size = c.region_size; usable_region_size = c.usable_region_size; plugged_size = c.plugged_size; requested_size = c.requested_size }) (record { block_size = d.block_size; node_id = d.node_id; addr = record { 0 = d.addr.0 }; region_size = d.region_size; usable_region_size = d.usable_region_size; plugged_size = d.plugged_size; requested_size = d.requested_size }) = rw (f₀, f₁, f₂, f₃, f₄, f₅, f₆) in
     e
 
-pub config_read : (xs : List ℕ) (c : VirtioMemConfig) → ConfigText xs c → ReadsConfig xs (Config c)
+pub config_read : (xs : List ℕ) (c : VirtioMemConfig) → ConfigText xs c → ReadsConfig xs (Ok c)
 config_read xs c t =
-    record {
-      read = λ d e. let q : c ≡ d = cc in rw (← q) t;
-      only = λ d u.
-          let m = config_means xs c t in
-          let n = config_means xs d u in
-          let f₀ : c.block_size ≡ d.block_size = sym m.block_is ∙ n.block_is in
-          let f₁ : c.node_id ≡ d.node_id = sym m.node_is ∙ n.node_is in
-          let f₂ : c.addr.0 ≡ d.addr.0 = sym m.start_is ∙ n.start_is in
-          let f₃ : c.region_size ≡ d.region_size = sym m.region_is ∙ n.region_is in
-          let f₄ : c.usable_region_size ≡ d.usable_region_size = sym m.usable_is ∙ n.usable_is in
-          let f₅ : c.plugged_size ≡ d.plugged_size = sym m.plugged_is ∙ n.plugged_is in
-          let f₆ : c.requested_size ≡ d.requested_size = sym m.requested_is ∙ n.requested_is in
-          ap Config (same_config c d f₀ f₁ f₂ f₃ f₄ f₅ f₆);
-      refused = λ n e. let z : ◌≡◌ {A = ℕ} 0 1 = cc in absurd (omega arith);
-    }
+    one_read c t
+    (λ d u.
+    let m = config_means xs c t in
+    let n = config_means xs d u in
+    let f₀ : c.block_size ≡ d.block_size = sym m.block_is ∙ n.block_is in
+    let f₁ : c.node_id ≡ d.node_id = sym m.node_is ∙ n.node_is in
+    let f₂ : c.addr.0 ≡ d.addr.0 = sym m.start_is ∙ n.start_is in
+    let f₃ : c.region_size ≡ d.region_size = sym m.region_is ∙ n.region_is in
+    let f₄ : c.usable_region_size ≡ d.usable_region_size = sym m.usable_is ∙ n.usable_is in
+    let f₅ : c.plugged_size ≡ d.plugged_size = sym m.plugged_is ∙ n.plugged_is in
+    let f₆ : c.requested_size ≡ d.requested_size = sym m.requested_is ∙ n.requested_is in
+    same_config c d f₀ f₁ f₂ f₃ f₄ f₅ f₆)
 
 -- ---- the plan
 pub stop_from : (bs : List Bool) (first limit : ℕ) → first ≤ limit → first ≤ stop_at (next_set bs first limit) limit
-unfolding stop_at
 stop_from bs first limit h = go (next_set bs first limit) refl
   where
     go : (x : Option ℕ) → next_set bs first limit ≡ x → first ≤ stop_at x limit
@@ -265,7 +254,6 @@ stop_from bs first limit h = go (next_set bs first limit) refl
     go (Some i) e = (next_at true bs first limit i e).from_on
 
 pub stop_to : (bs : List Bool) (first limit : ℕ) → stop_at (next_set bs first limit) limit ≤ limit
-unfolding stop_at
 stop_to bs first limit = go (next_set bs first limit) refl
   where
     go : (x : Option ℕ) → next_set bs first limit ≡ x → stop_at x limit ≤ limit

@@ -1,5 +1,6 @@
 -- SPDX-License-Identifier: Apache-2.0 AND BSD-3-Clause
 -- Each promise of the bytes leaves one outcome.
+use Rattle.std.specs.Prelude.{Result, Ok, Err}
 use Prim.Native.Nat.{ℕ}
 use mathlib.Core.Path.{◌≡◌, refl, sym, ap, ◌∙◌}
 use mathlib.Core.List.{List}
@@ -8,11 +9,10 @@ use lib.ListN.{length}
 use borrow.Author.Tests.{leb-true, leb-false}
 use Rattle.units.proofs.Tests.{by_test}
 use Rattle.wire.specs.declared.VirtioMemReq.{VirtioMemReq}
-use Rattle.driver.specs.declared.GotResponse.{GotResponse}
-use Rattle.driver.specs.declared.GotResponse.TheVariants.{Response, Refused as NoResponse}
-use Rattle.driver.specs.declared.GotConfig.{GotConfig}
-use Rattle.driver.specs.declared.GotConfig.TheVariants.{Config, Refused as NoConfig}
-use Rattle.driver.specs.Text.{Wrote, ReadsResponse, ReadsConfig}
+use Rattle.wire.specs.declared.VirtioMemResp.{VirtioMemResp}
+use Rattle.wire.specs.declared.VirtioMemConfig.{VirtioMemConfig}
+use Rattle.refusal.specs.declared.Refusal.{Refusal}
+use Rattle.driver.specs.Text.{Wrote, Reads, ReadsResponse, ReadsConfig}
 
 pub wrote_once : (q : VirtioMemReq) (entry xs ys : List ℕ) (r s : ℕ) → Wrote q entry xs r → Wrote q entry ys s → (r ≡ s) × (xs ≡ ys)
 wrote_once q entry xs ys r s a b =
@@ -24,12 +24,13 @@ wrote_once q entry xs ys r s a b =
     let h = leb-false 24 (length entry) t in
     ((a.short h).0 ∙ sym (b.short h).0, (a.short h).1 ∙ sym (b.short h).1))
 
-pub response_once : (xs : List ℕ) (r s : GotResponse) → ReadsResponse xs r → ReadsResponse xs s → r ≡ s
-response_once xs (Response v) s a b = sym (b.only v (a.read v refl))
-response_once xs (NoResponse n) (Response v) a b = a.only v (b.read v refl)
-response_once xs (NoResponse n) (NoResponse m) a b = ap NoResponse (a.refused n refl ∙ sym (b.refused m refl))
+reads_once : {V : Type 0} (IsText : V → Type 0) (r s : Result V Refusal) → Reads IsText r → Reads IsText s → r ≡ s
+reads_once IsText (Ok v) s a b = sym (b.only v (a.read v refl))
+reads_once IsText (Err n) (Ok v) a b = a.only v (b.read v refl)
+reads_once IsText (Err n) (Err m) a b = ap Err (a.refused n refl ∙ sym (b.refused m refl))
 
-pub config_once : (xs : List ℕ) (r s : GotConfig) → ReadsConfig xs r → ReadsConfig xs s → r ≡ s
-config_once xs (Config c) s a b = sym (b.only c (a.read c refl))
-config_once xs (NoConfig n) (Config c) a b = a.only c (b.read c refl)
-config_once xs (NoConfig n) (NoConfig m) a b = ap NoConfig (a.refused n refl ∙ sym (b.refused m refl))
+pub response_once : (xs : List ℕ) (r s : Result VirtioMemResp Refusal) → ReadsResponse xs r → ReadsResponse xs s → r ≡ s
+response_once xs r s a b = reads_once _ r s a b
+
+pub config_once : (xs : List ℕ) (r s : Result VirtioMemConfig Refusal) → ReadsConfig xs r → ReadsConfig xs s → r ≡ s
+config_once xs r s a b = reads_once _ r s a b

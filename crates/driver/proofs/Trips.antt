@@ -1,5 +1,6 @@
 -- SPDX-License-Identifier: Apache-2.0 AND BSD-3-Clause
 -- Reading what was written gives back the fields.
+use Rattle.std.specs.Prelude.{Result, Ok}
 use Prim.Native.Nat.{ℕ, ◌+◌, ◌≤◌, ◌<◌, ◌^◌}
 use mathlib.Core.Path.{◌≡◌, ap, ◌∙◌}
 use mathlib.Core.List.{List}
@@ -12,10 +13,7 @@ use Rattle.wire.specs.Layout.{request_at, response_bytes, config_bytes}
 use Rattle.little_endian.proofs.Laws.{part-put}
 use Rattle.wire.proofs.Laws.{request_part, length_response, length_config}
 use Rattle.wire.proofs.Standard.{request, request_size}
-use Rattle.driver.specs.declared.GotResponse.{GotResponse}
-use Rattle.driver.specs.declared.GotResponse.TheVariants.{Response}
-use Rattle.driver.specs.declared.GotConfig.{GotConfig}
-use Rattle.driver.specs.declared.GotConfig.TheVariants.{Config}
+use Rattle.refusal.specs.declared.Refusal.{Refusal}
 use Rattle.driver.specs.Text.{request_bytes, Wrote, ReadsResponse, ReadsConfig, ConfigFits}
 
 -- a text that was written where it fits stands there
@@ -35,13 +33,13 @@ wrote_back q entry exit w t a n h = ap (λ (l : List ℕ). request_at l 0) (w.wh
 
 -- ---- the driver reads the response that the device wrote
 pub response_back : (xs : List ℕ) (at : ℕ) (v : VirtioMemResp) → at + 10 ≤ length xs → v.resp_type ≤ 3 → v.state ≤ 2
-    → (r : GotResponse) → ReadsResponse (drop at (put xs at (response_bytes v))) r → r ≡ Response v
+    → (r : Result VirtioMemResp Refusal) → ReadsResponse (drop at (put xs at (response_bytes v))) r → r ≡ Ok v
 unfolding part
 response_back xs at v h t s r p =
     p.only v (record { text = written xs at (response_bytes v) 10 (length_response v) h; type_known = t; state_known = s })
 
 -- ---- the driver reads the config that the device wrote
 pub config_back : (xs : List ℕ) (c : VirtioMemConfig) → 56 ≤ length xs → ConfigFits c
-    → (r : GotConfig) → ReadsConfig (put xs 0 (drop 0 (config_bytes c))) r → r ≡ Config c
+    → (r : Result VirtioMemConfig Refusal) → ReadsConfig (put xs 0 (drop 0 (config_bytes c))) r → r ≡ Ok c
 unfolding part
 config_back xs c h f r p = p.only c (record { text = written xs 0 (config_bytes c) 56 (length_config c) h; fits = f })

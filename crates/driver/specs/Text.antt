@@ -1,16 +1,14 @@
 -- SPDX-License-Identifier: Apache-2.0 AND BSD-3-Clause
 -- The guest's side of the bytes (R14.1 to R14.3): what it writes, and that it reads a value exactly if the bytes are that value's text.
-use Rattle.std.specs.Prelude.{ℕ, ◌≤◌, ◌<◌, ◌^◌, ◌≡◌, List, length, take}
+use Rattle.std.specs.Prelude.{ℕ, ◌≤◌, ◌<◌, ◌^◌, ◌≡◌, List, length, take, Result, Ok, Err}
+use Rattle.refusal.specs.declared.Refusal.{Refusal}
+use Rattle.refusal.specs.declared.Refusal.TheVariants.{BadBytes}
 use Rattle.wire.specs.declared.VirtioMemReq.{VirtioMemReq}
 use Rattle.wire.specs.declared.VirtioMemResp.{VirtioMemResp}
 use Rattle.wire.specs.declared.VirtioMemConfig.{VirtioMemConfig}
 use Rattle.little_endian.specs.Bytes.{put}
 use Rattle.wire.specs.Layout.{response_bytes, config_bytes}
 use Rattle.wire.specs.Standard.{virtio_mem_req}
-use Rattle.driver.specs.declared.GotResponse.{GotResponse}
-use Rattle.driver.specs.declared.GotResponse.TheVariants.{Response, Refused as NoResponse}
-use Rattle.driver.specs.declared.GotConfig.{GotConfig}
-use Rattle.driver.specs.declared.GotConfig.TheVariants.{Config, Refused as NoConfig}
 
 -- R14.1: the 24 bytes of a request as the standard lays them out, its padding zero
 abbrev pub request_bytes : VirtioMemReq → List ℕ
@@ -27,11 +25,14 @@ pub record ResponseText (xs : List ℕ) (v : VirtioMemResp) : Type 0 where
   pub type_known : v.resp_type ≤ 3
   pub state_known : v.state ≤ 2
 
--- v is given exactly if the bytes are its text; otherwise 16
-pub record ReadsResponse (xs : List ℕ) (r : GotResponse) : Type 0 where
-  pub read : (v : VirtioMemResp) → r ≡ Response v → ResponseText xs v
-  pub only : (v : VirtioMemResp) → ResponseText xs v → r ≡ Response v
-  pub refused : (n : ℕ) → r ≡ NoResponse n → n ≡ 16
+-- v is given exactly if the bytes are its text; otherwise 16 (R1.16)
+pub record Reads {V : Type 0} (IsText : V → Type 0) (r : Result V Refusal) : Type 0 where
+  pub read : (v : V) → r ≡ Ok v → IsText v
+  pub only : (v : V) → IsText v → r ≡ Ok v
+  pub refused : (why : Refusal) → r ≡ Err why → why ≡ BadBytes
+
+abbrev pub ReadsResponse : List ℕ → Result VirtioMemResp Refusal → Type 0
+ReadsResponse xs r = Reads (ResponseText xs) r
 
 -- the fields of a config fit their places: what the types u64 and u16 say
 pub record ConfigFits (c : VirtioMemConfig) : Type 0 where
@@ -48,8 +49,5 @@ pub record ConfigText (xs : List ℕ) (c : VirtioMemConfig) : Type 0 where
   pub text : take 56 xs ≡ config_bytes c
   pub fits : ConfigFits c
 
--- c is given exactly if the bytes are its text; otherwise 16
-pub record ReadsConfig (xs : List ℕ) (r : GotConfig) : Type 0 where
-  pub read : (c : VirtioMemConfig) → r ≡ Config c → ConfigText xs c
-  pub only : (c : VirtioMemConfig) → ConfigText xs c → r ≡ Config c
-  pub refused : (n : ℕ) → r ≡ NoConfig n → n ≡ 16
+abbrev pub ReadsConfig : List ℕ → Result VirtioMemConfig Refusal → Type 0
+ReadsConfig xs r = Reads (ConfigText xs) r

@@ -1,21 +1,21 @@
 -- SPDX-License-Identifier: Apache-2.0 AND BSD-3-Clause
--- The ways that a call ends in: no room, a refusal, or the words of a value.
-use Prim.Native.Nat.{ℕ, ◌≤◌, ◌<◌}
-use mathlib.Core.Path.{◌≡◌}
+-- What is told of what was read: its words by `map`, and 16 of bytes that are no text.
+use Rattle.std.specs.Prelude.{Result, Ok, Err, MatchResult, IsOkAnd}
+use Prim.Native.Nat.{ℕ}
+use mathlib.Core.Path.{◌≡◌, ap}
 use mathlib.Core.List.{List}
+use lib.Dec.{leb}
 use lib.ListN.{length}
-use borrow.Author.Tests.{le-leb, lt-leb}
-use Rattle.little_endian.specs.Bytes.{put}
-use Rattle.driver_words.specs.Told.{WordsOrNumber, Words, Number, number_in, words_in, ToldWords}
+use Rattle.units.proofs.Tests.{by_test}
+use Rattle.refusal.specs.declared.Refusal.{Refusal}
+use Rattle.refusal.specs.declared.Refusal.TheVariants.{BadBytes}
+use Rattle.driver_words.specs.Told.{WordsOrRefusal, ToldWords, told_as}
 
-pub no_room : (n : ℕ) (g : WordsOrNumber) (words : List ℕ) → length words < n → ToldWords n g words words 16
-no_room n g words h = let t = lt-leb n (length words) h in record { numbered = rw t; written = rw t }
+pub told_by : {V : Type 0} (words : V → List ℕ) (read : Result V Refusal) (told : WordsOrRefusal)
+    → MatchResult read (λ v. IsOkAnd told (λ ws. ws ≡ words v)) (λ why. told ≡ Err why) → told ≡ told_as words read
+told_by words (Ok v) (Ok ws) k = ap Ok k
+told_by words (Ok v) (Err why) k = absurd k
+told_by words (Err why) told k = k
 
-pub refused : (n k : ℕ) (g : WordsOrNumber) (words : List ℕ) → n ≤ length words → g ≡ Number k → ToldWords n g words words k
-unfolding number_in words_in
-refused n k g words h e = let t = le-leb n (length words) h in record { numbered = rw (t, e); written = rw (t, e) }
-
-pub given : (n : ℕ) (g : WordsOrNumber) (ws words words' : List ℕ) → n ≤ length words → g ≡ Words ws → words' ≡ put words 0 ws
-    → ToldWords n g words words' 0
-unfolding number_in words_in
-given n g ws words words' h e p = let t = le-leb n (length words) h in record { numbered = rw (t, e); written = rw (t, e) p }
+pub no_text : (n : ℕ) (words : List ℕ) → ToldWords n (Err BadBytes) words words 16
+no_text n words = by_test (leb n (length words)) (λ t. record { numbered = simp t; written = simp t }) (λ t. record { numbered = simp t; written = simp t })

@@ -5,9 +5,9 @@ use mathlib.Core.Path.{◌≡◌, sym, ◌∙◌}
 use mathlib.Core.Bool.{Bool}
 use mathlib.Core.List.{List}
 use Rattle.driver.proofs.Once.{response_once, config_once}
-use Rattle.driver_words.specs.Told.{WordsOrNumber, ToldWords, ResponseTold, ConfigTold, PlanTold}
+use Rattle.driver_words.specs.Told.{WordsOrRefusal, ToldWords, ResponseTold, ConfigTold, PlanTold}
 
-told_once : {n : ℕ} {g : WordsOrNumber} {words xs ys : List ℕ} {r s : ℕ} → ToldWords n g words xs r → ToldWords n g words ys s → (r ≡ s) × (xs ≡ ys)
+told_once : {n : ℕ} {g : WordsOrRefusal} {words xs ys : List ℕ} {r s : ℕ} → ToldWords n g words xs r → ToldWords n g words ys s → (r ≡ s) × (xs ≡ ys)
 told_once a b = (a.numbered ∙ sym b.numbered, a.written ∙ sym b.written)
 
 pub response_told_once : (bytes words xs ys : List ℕ) (r s : ℕ) → ResponseTold bytes words xs r → ResponseTold bytes words ys s → (r ≡ s) × (xs ≡ ys)

@@ -20,14 +20,10 @@ use Rattle.record.specs.Shape.{config_shaped_of}
 use Rattle.record.proofs.Laws.{shaped_is}
 use Rattle.step.specs.World.{World, Guest, Request}
 use Rattle.step.specs.Step.{block_size, usable, plugged, requested, start, several, region_blocks, region_rows, tables_fit, ready_refusal, unless, plug_as, plug, serve, request, step}
-use Rattle.driver.specs.declared.Proposal.TheVariants.{Plug, Refused}
-use Rattle.driver.specs.Plan.{room_of, count_of, plan_at, plan_of}
+use Rattle.driver.specs.Plan.{plugging, room_of, count_of, plan_at, plan_of}
 use Rattle.step.proofs.Entry.{ready_when}
 use Rattle.driving.specs.Sound.{Ready, PlugAcknowledged}
 use Rattle.driving.proofs.Legal.{proposed, some_count}
-
-clash : {A : Type 0} {n m : ℕ} {a : GuestAddr} → Refused n ≡ Plug a m → A
-clash e = let z : ◌≡◌ {A = ℕ} 0 1 = cc in absurd (omega arith)
 
 -- ---- what a proposal says
 pub record Planned (c : VirtioMemConfig) (bs : List Bool) (addr : GuestAddr) (n : ℕ) : Type 0 where
@@ -57,11 +53,11 @@ module _ (c : VirtioMemConfig) (bs : List Bool) (addr : GuestAddr) (n : ℕ) whe
   short = ltb (length bs) (blocks_in b c.region_size)
 
   at_found : (x : Option ℕ) → config_shaped_of c ≡ true → short ≡ false → next_clear bs 0 end ≡ x
-      → plan_at x b c.addr.0 c.usable_region_size c.plugged_size c.requested_size bs ≡ Plug addr n → Planned c bs addr n
+      → plan_at x b c.addr.0 c.usable_region_size c.plugged_size c.requested_size bs ≡ plugging addr n → Planned c bs addr n
   unfolding plan_at
-  at_found None s l f e = clash e
+  at_found None s l f e = absurd (cc)
   at_found (Some i) s l f e =
-      by_test (eqb room 0) (λ t. clash (simp t at e))
+      by_test (eqb room 0) (λ t. let q = simp t at e in absurd (cc))
       (λ t.
       let q = simp t at e in
       record {
@@ -74,12 +70,12 @@ module _ (c : VirtioMemConfig) (bs : List Bool) (addr : GuestAddr) (n : ℕ) whe
         count_is = cc;
       })
 
-  pub plan_is : plan_of c bs ≡ Plug addr n → Planned c bs addr n
+  pub plan_is : plan_of c bs ≡ plugging addr n → Planned c bs addr n
   unfolding plan_of
   plan_is e =
-      by_test (not (config_shaped_of c)) (λ t. clash (simp t at e))
+      by_test (not (config_shaped_of c)) (λ t. let q = simp t at e in absurd (cc))
       (λ t.
-      by_test short (λ u. clash (simp (t, u) at e))
+      by_test short (λ u. let q = simp (t, u) at e in absurd (cc))
       (λ u. at_found (next_clear bs 0 end) (not-false (config_shaped_of c) t) u refl (simp (t, u) at e)))
 
 -- ---- a ready device is not refused
@@ -90,7 +86,7 @@ ready_zero w r h =
     (record { shaped = r.shaped; idle = r.idle; is_placed = r.placed; fits = rw (le-leb (region_blocks w) (length w.blocks) h) (le-leb (region_rows w) (length w.rows) r.rows_fit) })
 
 -- ---- as many blocks as proposed, or fewer, from the start of the proposal on
-module _ (w : World) (r : Ready w) (addr : GuestAddr) (n : ℕ) (e : plan_of w.device.config w.blocks ≡ Plug addr n)
+module _ (w : World) (r : Ready w) (addr : GuestAddr) (n : ℕ) (e : plan_of w.device.config w.blocks ≡ plugging addr n)
     (g : Guest) (descriptors head : ℕ) (status : GuestAddr) where
   up_to : (m : ℕ) → (n ≡ 0 → ⊥) × (0 < m → m ≤ n → parsed g.mem g.base descriptors head ≡ Got (record { req_type = 0; addr = addr; nb_blocks = m }) status → PlugAcknowledged w addr.0 m status.0 g (step w (Request g descriptors head)))
   unfolding step unless request serve plug plug_as
@@ -112,7 +108,7 @@ module _ (w : World) (r : Ready w) (addr : GuestAddr) (n : ℕ) (e : plan_of w.d
       )
 
 -- ---- R14.9: a device that is ready acknowledges what is proposed
-pub acknowledged : (w : World) → Ready w → (addr : GuestAddr) (n : ℕ) → plan_of w.device.config w.blocks ≡ Plug addr n
+pub acknowledged : (w : World) → Ready w → (addr : GuestAddr) (n : ℕ) → plan_of w.device.config w.blocks ≡ plugging addr n
     → (g : Guest) (descriptors head : ℕ) (status : GuestAddr) → parsed g.mem g.base descriptors head ≡ Got (record { req_type = 0; addr = addr; nb_blocks = n }) status
     → PlugAcknowledged w addr.0 n status.0 g (step w (Request g descriptors head))
 acknowledged w r addr n e g descriptors head status q =
@@ -121,7 +117,7 @@ acknowledged w r addr n e g descriptors head status q =
     u.1 s (omega arith) q
 
 -- ---- and the plug of one block at its start
-pub one_acknowledged : (w : World) → Ready w → (addr : GuestAddr) (n : ℕ) → plan_of w.device.config w.blocks ≡ Plug addr n
+pub one_acknowledged : (w : World) → Ready w → (addr : GuestAddr) (n : ℕ) → plan_of w.device.config w.blocks ≡ plugging addr n
     → (g : Guest) (descriptors head : ℕ) (status : GuestAddr) → parsed g.mem g.base descriptors head ≡ Got (record { req_type = 0; addr = addr; nb_blocks = 1 }) status
     → PlugAcknowledged w addr.0 1 status.0 g (step w (Request g descriptors head))
 one_acknowledged w r addr n e g descriptors head status q =

@@ -28,8 +28,7 @@ use Rattle.step.specs.declared.Answer.TheVariants.{Refused as Refuses, Wants, Si
 use Rattle.step.specs.Answers.{served_with}
 use Rattle.step.specs.World.{World, Guest, Request}
 use Rattle.step.specs.Step.{block_size, region, usable, plugged, requested, start, several, unless, changing, plug_as, plug, serve, request, step, ack}
-use Rattle.driver.specs.declared.Proposal.TheVariants.{Plug, Refused}
-use Rattle.driver.specs.Plan.{border_after, limit_of, stop_at, stop_of, room_of, count_of, plan_at, plan_of}
+use Rattle.driver.specs.Plan.{plugging, no_plug, border_after, limit_of, stop_at, stop_of, room_of, count_of, plan_at, plan_of}
 use Rattle.driver.proofs.Laws.{border, per_some}
 use Rattle.driving.specs.Sound.{Ready, Stops, Greatest}
 use Rattle.driving.proofs.Acks.{plan_is, ready_zero, not-false}
@@ -39,12 +38,6 @@ pub record Spent (c : VirtioMemConfig) (bs : List Bool) : Type 0 where
   pub shaped : config_shaped_of c ≡ true
   pub long : blocks_in c.block_size c.region_size ≤ length bs
   pub why : (next_clear bs 0 (blocks_in c.block_size c.usable_region_size) ≡ None) ⊎ (room_of c.block_size c.plugged_size c.requested_size ≡ 0)
-
-other : {A : Type 0} {n m : ℕ} → Refused n ≡ Refused m → (n ≡ m → ⊥) → A
-other {A} {n} {m} e f = let z : n ≡ m = cc in absurd (f z)
-
-not_plug : {A : Type 0} {n m : ℕ} {a : GuestAddr} → Plug a m ≡ Refused n → A
-not_plug e = let z : ◌≡◌ {A = ℕ} 0 1 = cc in absurd (omega arith)
 
 module _ (c : VirtioMemConfig) (bs : List Bool) where
   abbrev b : ℕ
@@ -60,20 +53,20 @@ module _ (c : VirtioMemConfig) (bs : List Bool) where
   short = ltb (length bs) (blocks_in b c.region_size)
 
   at_found : (x : Option ℕ) → config_shaped_of c ≡ true → short ≡ false → next_clear bs 0 end ≡ x
-      → plan_at x b c.addr.0 c.usable_region_size c.plugged_size c.requested_size bs ≡ Refused 17 → Spent c bs
+      → plan_at x b c.addr.0 c.usable_region_size c.plugged_size c.requested_size bs ≡ no_plug → Spent c bs
   unfolding plan_at
   at_found None s l f e = record { shaped = s; long = ltb-false (length bs) (blocks_in b c.region_size) l; why = inl f }
   at_found (Some i) s l f e =
       by_test (eqb room 0)
       (λ t. record { shaped = s; long = ltb-false (length bs) (blocks_in b c.region_size) l; why = inr (eqb-true room 0 t) })
-      (λ t. not_plug (simp t at e))
+      (λ t. let q = simp t at e in absurd (cc))
 
-  pub spent_is : plan_of c bs ≡ Refused 17 → Spent c bs
+  pub spent_is : plan_of c bs ≡ no_plug → Spent c bs
   unfolding plan_of
   spent_is e =
-      by_test (not (config_shaped_of c)) (λ t. other {n = 12} {m = 17} (simp t at e) (λ q. omega arith))
+      by_test (not (config_shaped_of c)) (λ t. let q = simp t at e in absurd (cc))
       (λ t.
-      by_test short (λ u. other {n = 11} {m = 17} (simp (t, u) at e) (λ q. omega arith))
+      by_test short (λ u. let q = simp (t, u) at e in absurd (cc))
       (λ u. at_found (next_clear bs 0 end) (not-false (config_shaped_of c) t) u refl (simp (t, u) at e)))
 
 -- ---- no clear block: each is set
@@ -102,7 +95,7 @@ type_in (Unserved reason) = 9
 type_in Done = 9
 
 -- ---- 17: no address has an acknowledged plug of one block
-module _ (w : World) (r : Ready w) (e : plan_of w.device.config w.blocks ≡ Refused 17) (addr : GuestAddr) (status : GuestAddr) (g : Guest) where
+module _ (w : World) (r : Ready w) (e : plan_of w.device.config w.blocks ≡ no_plug) (addr : GuestAddr) (status : GuestAddr) (g : Guest) where
   not_legal : (x : Change) → changing w addr.0 1 true ≡ x → plugged w + bytes_of (block_size w) 1 ≤ requested w → (len : ℕ) → (plug_as x w 1 status.0 g).answer ≡ served_with ack len → ⊥
   unfolding plug_as
   not_legal (Outside part) q t len a = let z : ◌≡◌ {A = ℕ} 3 0 = ap type_in a in omega arith
@@ -172,13 +165,13 @@ module _ (c : VirtioMemConfig) (bs : List Bool) (first n : ℕ) (bsz : c.block_s
       let k : n ≡ run = omega arith in
       at_stop (next_set bs first (limit_of c.block_size c.usable_region_size first)) refl k)
 
-pub plan_stops : (c : VirtioMemConfig) (bs : List Bool) (addr : GuestAddr) (n : ℕ) (e : plan_of c bs ≡ Plug addr n) → Stops c bs (plan_is c bs addr n e).first n
+pub plan_stops : (c : VirtioMemConfig) (bs : List Bool) (addr : GuestAddr) (n : ℕ) (e : plan_of c bs ≡ plugging addr n) → Stops c bs (plan_is c bs addr n e).first n
 plan_stops c bs addr n e =
     let p = plan_is c bs addr n e in
     let f = next_at false bs 0 (blocks_in c.block_size c.usable_region_size) p.first p.lowest in
     stops c bs p.first n (config_shaped_is c p.shaped).block_size f.before_end p.count_is
 
-pub greatest : (c : VirtioMemConfig) (bs : List Bool) (addr : GuestAddr) (n : ℕ) → plan_of c bs ≡ Plug addr n → Greatest c bs addr n
+pub greatest : (c : VirtioMemConfig) (bs : List Bool) (addr : GuestAddr) (n : ℕ) → plan_of c bs ≡ plugging addr n → Greatest c bs addr n
 greatest c bs addr n e =
     let p = plan_is c bs addr n e in
     let f = next_at false bs 0 (blocks_in c.block_size c.usable_region_size) p.first p.lowest in

@@ -31,8 +31,7 @@ use Rattle.record.proofs.Laws.{config_shaped_is}
 use Rattle.step.specs.Answers.{served_with}
 use Rattle.step.specs.World.{World, Guest, Request}
 use Rattle.step.specs.Step.{step, ack}
-use Rattle.driver.specs.declared.Proposal.TheVariants.{Plug, Refused}
-use Rattle.driver.specs.Plan.{plan_of}
+use Rattle.driver.specs.Plan.{plugging, no_plug, plan_of}
 use Rattle.driver.specs.Text.{request_bytes, Wrote}
 use Rattle.driver.proofs.Laws.{count_few, starts}
 use Rattle.driving.specs.Sound.{Ready, PlugAcknowledged}
@@ -204,7 +203,7 @@ wrote_stands q entry exit w g addr s =
     }
 
 -- ---- what the planner proposes fits a request
-module _ (c : VirtioMemConfig) (bs : List Bool) (addr : GuestAddr) (n : ℕ) (e : plan_of c bs ≡ Plug addr n) where
+module _ (c : VirtioMemConfig) (bs : List Bool) (addr : GuestAddr) (n : ℕ) (e : plan_of c bs ≡ plugging addr n) where
   pub proposal_fits : RequestFits (plug_of addr n)
   proposal_fits =
       let p = plan_is c bs addr n e in
@@ -221,7 +220,7 @@ module _ (c : VirtioMemConfig) (bs : List Bool) (addr : GuestAddr) (n : ℕ) (e 
       }
 
 -- ---- the theorems of Acks.antt and Exact.antt, for guest memory that holds the plug
-module _ (w : World) (r : Ready w) (addr : GuestAddr) (n : ℕ) (e : plan_of w.device.config w.blocks ≡ Plug addr n)
+module _ (w : World) (r : Ready w) (addr : GuestAddr) (n : ℕ) (e : plan_of w.device.config w.blocks ≡ plugging addr n)
     (g : Guest) (descriptors head : ℕ) (status : GuestAddr) where
   pub acknowledged_held : HoldsRequest g descriptors head (plug_of addr n) status → PlugAcknowledged w addr.0 n status.0 g (step w (Request g descriptors head))
   acknowledged_held h = acknowledged w r addr n e g descriptors head status (held_parses g descriptors head (plug_of addr n) status h)
@@ -229,7 +228,7 @@ module _ (w : World) (r : Ready w) (addr : GuestAddr) (n : ℕ) (e : plan_of w.d
   pub one_acknowledged_held : HoldsRequest g descriptors head (plug_of addr 1) status → PlugAcknowledged w addr.0 1 status.0 g (step w (Request g descriptors head))
   one_acknowledged_held h = one_acknowledged w r addr n e g descriptors head status (held_parses g descriptors head (plug_of addr 1) status h)
 
-pub none_acknowledged_held : (w : World) → Ready w → plan_of w.device.config w.blocks ≡ Refused 17
+pub none_acknowledged_held : (w : World) → Ready w → plan_of w.device.config w.blocks ≡ no_plug
     → (addr : GuestAddr) (g : Guest) (descriptors head : ℕ) (status : GuestAddr) → HoldsRequest g descriptors head (plug_of addr 1) status
     → (len : ℕ) → (step w (Request g descriptors head)).answer ≡ served_with ack len → ⊥
 none_acknowledged_held w r e addr g descriptors head status h = none_acknowledged w r e addr status g descriptors head (held_parses g descriptors head (plug_of addr 1) status h)

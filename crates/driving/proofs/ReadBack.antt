@@ -1,5 +1,6 @@
 -- SPDX-License-Identifier: Apache-2.0 AND BSD-3-Clause
 -- Every response and every config that the device gives is read back by the driver: by one walk over `step`, of what a response leaves.
+use Rattle.std.specs.Prelude.{Result, Ok, Err}
 use Prim.Native.Nat.{ℕ, ◌+◌, ◌≤◌, ◌<◌, ◌^◌}
 use mathlib.Core.Path.{◌≡◌, refl, sym, ap, ◌∙◌}
 use mathlib.Core.Bool.{Bool, true, false, cond}
@@ -37,11 +38,10 @@ use Rattle.step.specs.Answers.{served_with, OfReply}
 use Rattle.step.specs.World.{World, Guest, Call, Request, HostAnswer, ReadConfig, Outcome}
 use Rattle.step.specs.Step.{region, ack, error, served, state_type, request, host_answer, read_config, step}
 use Rattle.step.proofs.Served.{Of, Known, SaysAt, each_call, serve_of, unplug_ends, one_ends, create_of}
-use Rattle.driver.specs.declared.GotConfig.{GotConfig}
-use Rattle.driver.specs.declared.GotConfig.TheVariants.{Config}
-use Rattle.driver.specs.declared.Proposal.TheVariants.{Plug, Refused as NoPlug}
+use Rattle.refusal.specs.declared.Refusal.{Refusal}
+use Rattle.refusal.specs.declared.Refusal.TheVariants.{NoShape, TooShort}
 use Rattle.driver.specs.Text.{ReadsConfig, ConfigFits}
-use Rattle.driver.specs.Plan.{plan_of}
+use Rattle.driver.specs.Plan.{plugging, plan_of}
 use Rattle.driver.proofs.Trips.{config_back}
 use Rattle.driving.specs.Sound.{Ready, PlugAcknowledged}
 use Rattle.driving.specs.Chain.{HoldsRequest, plug_of, laid_in, in66, GoesTo, OfChain, OfUnplug, OfUnplugAll, ReadAt, ReadBack}
@@ -168,22 +168,22 @@ config_fits d e n =
 
 -- a whole read of it is read back; the node is a u16
 pub config_read_back : (w : World) → shaped_of w.device ≡ true → w.device.config.node_id < 65536 → (buffer : List ℕ) → 56 ≤ length buffer
-    → (r : GotConfig) → ReadsConfig (step w (ReadConfig 0 buffer)).bytes r → r ≡ Config w.device.config
+    → (r : Result VirtioMemConfig Refusal) → ReadsConfig (step w (ReadConfig 0 buffer)).bytes r → r ≡ Ok w.device.config
 unfolding step read_config
 config_read_back w e n buffer long r reads = config_back buffer w.device.config long (config_fits w.device e n) r (simp e at reads)
 
 -- the planner takes it: 12 is never its answer
 module _ (d : Device) (e : shaped_of d ≡ true) (bs : List Bool) where
-  pub never_12 : plan_of d.config bs ≡ NoPlug 12 → ⊥
+  pub never_12 : plan_of d.config bs ≡ Err NoShape → ⊥
   unfolding plan_of
   never_12 q =
       by_test (ltb (length bs) (blocks_in d.config.block_size d.config.region_size))
-      (λ t. let y : NoPlug 11 ≡ NoPlug 12 = simp (config-shaped_of d e, t) at q in let z : ◌≡◌ {A = ℕ} 11 12 = cc in omega arith)
-      (λ t. let z = found_17 _ _ _ _ _ _ bs 12 (simp (config-shaped_of d e, t) at q) in omega arith)
+      (λ t. let y = simp (config-shaped_of d e, t) at q in cc)
+      (λ t. let z = found_17 _ _ _ _ _ _ bs NoShape (simp (config-shaped_of d e, t) at q) in cc)
 
 -- ---- a whole turn
 -- the plug that is proposed, held by guest memory with room for the response, is acknowledged, and the driver reads the ACK
-pub ack_read : (w : World) → Ready w → (addr : GuestAddr) (n : ℕ) → plan_of w.device.config w.blocks ≡ Plug addr n
+pub ack_read : (w : World) → Ready w → (addr : GuestAddr) (n : ℕ) → plan_of w.device.config w.blocks ≡ plugging addr n
     → (g : Guest) (descriptors head : ℕ) (status : GuestAddr) → HoldsRequest g descriptors head (plug_of addr n) status → reaches g.mem g.base status.0 ≡ true
     → ReadAt g status (step w (Request g descriptors head)).bytes ack.response
 ack_read w r addr n e g descriptors head status h room =
@@ -192,8 +192,8 @@ ack_read w r addr n e g descriptors head status h room =
 
 -- the driver reads the config, plans, lays the plug into any 66 bytes of guest memory, and reads the ACK
 pub turn : (w : World) → Ready w → w.device.config.node_id < 65536
-    → (buffer : List ℕ) → 56 ≤ length buffer → (r : GotConfig) → ReadsConfig (step w (ReadConfig 0 buffer)).bytes r → (c : VirtioMemConfig) → r ≡ Config c
-    → (addr : GuestAddr) (n : ℕ) → plan_of c w.blocks ≡ Plug addr n
+    → (buffer : List ℕ) → 56 ≤ length buffer → (r : Result VirtioMemConfig Refusal) → ReadsConfig (step w (ReadConfig 0 buffer)).bytes r → (c : VirtioMemConfig) → r ≡ Ok c
+    → (addr : GuestAddr) (n : ℕ) → plan_of c w.blocks ≡ plugging addr n
     → (g : Guest) → 66 ≤ length g.mem → g.base + 66 ≤ 2 ^ 64
     → let p = in66 g.base in
     let g' = laid_in g p (plug_of addr n) in
@@ -204,9 +204,9 @@ turn w r node buffer long got reads c is addr n e g room low =
     let p = in66 g.base in
     let g' = laid_in g p (plug_of addr n) in
     let d = w.device.config in
-    let back : Config c ≡ Config d = sym is ∙ config_read_back w r.shaped node buffer long got reads in
+    let back : Ok c ≡ Ok d = sym is ∙ config_read_back w r.shaped node buffer long got reads in
     let same : d ≡ c = cc in
-    let plans : plan_of d w.blocks ≡ Plug addr n = ap (λ (k : VirtioMemConfig). plan_of k w.blocks) same ∙ e in
+    let plans : plan_of d w.blocks ≡ plugging addr n = ap (λ (k : VirtioMemConfig). plan_of k w.blocks) same ∙ e in
     let h = laid_holds g p (plug_of addr n) (in_66 g room low) (proposal_fits d w.blocks addr n plans) in
     let l = length_laid g p (plug_of addr n) in
     let lies = is_inside (length g'.mem) g.base p.status.0 10 (omega arith) (omega arith) (omega arith) in

@@ -1,6 +1,6 @@
 -- SPDX-License-Identifier: Apache-2.0 AND BSD-3-Clause
 -- Where planning and plugging ends, and in how many plugs: each fills a run of free blocks, or spends the requested size.
-use Rattle.std.specs.Prelude.{Option, Some, None}
+use Rattle.std.specs.Prelude.{Option, Some, None, Ok, Err}
 use Prim.Native.Nat.{ℕ, zero, suc, ◌+◌, ◌-◌, ◌*◌, ◌/◌, ◌%◌, ◌≤◌, ◌<◌, min}
 use mathlib.Core.Path.{◌≡◌, refl, ap, ◌∙◌}
 use mathlib.Core.Bool.{Bool, true, false, cond}
@@ -27,9 +27,9 @@ use Rattle.chain.specs.Chain.{parsed}
 use Rattle.change.proofs.Laws.{legal_is}
 use Rattle.step.specs.World.{World, Guest, Request, Outcome}
 use Rattle.step.specs.Step.{block_size, region, usable, plugged, requested, start, several, region_blocks, step}
-use Rattle.driver.specs.declared.Proposal.{Proposal}
-use Rattle.driver.specs.declared.Proposal.TheVariants.{Plug, Refused}
-use Rattle.driver.specs.Plan.{border_after, stop_of, room_of, plan_at, plan_of}
+use Rattle.refusal.specs.declared.Refusal.{Refusal}
+use Rattle.refusal.specs.declared.Refusal.TheVariants.{NothingToPlug}
+use Rattle.driver.specs.Plan.{Proposal, plugging, no_plug, border_after, stop_of, room_of, plan_at, plan_of}
 use Rattle.driving.specs.Sound.{Stops, Ready, planned, plugged_world, drive_at, drives, usable_blocks, plugged_blocks, Counted, There, begins_run, runs_below, free_runs}
 use Rattle.driving.proofs.Legal.{run, proposed, some_count}
 use Rattle.driving.proofs.Acks.{plan_is, acknowledged}
@@ -44,7 +44,7 @@ in_blocks w r =
     let fewer : usable_blocks w ≤ region_blocks w = rw s.block_size (omega arith) in
     omega (arith, fewer, r.blocks_fit)
 
-pub settled : (w : World) → Ready w → Counted w → planned w ≡ Refused 17 → min (requested w) (usable w) ≤ plugged w
+pub settled : (w : World) → Ready w → Counted w → planned w ≡ no_plug → min (requested w) (usable w) ≤ plugged w
 settled w r k e =
     let s = shaped_is w.device r.shaped in
     let bsz = s.block_size in
@@ -76,7 +76,7 @@ pub record Gains (w : World) (first n : ℕ) : Type 0 where
   pub free : all_are w.blocks first n false ≡ true
   pub stops : Stops w.device.config w.blocks first n
 
-pub gains : (w : World) → Ready w → (addr : GuestAddr) (n : ℕ) (e : planned w ≡ Plug addr n) → Gains w (plan_is w.device.config w.blocks addr n e).first n
+pub gains : (w : World) → Ready w → (addr : GuestAddr) (n : ℕ) (e : planned w ≡ plugging addr n) → Gains w (plan_is w.device.config w.blocks addr n e).first n
 gains w r addr n e =
     let p = plan_is w.device.config w.blocks addr n e in
     let s = shaped_is w.device r.shaped in
@@ -240,20 +240,20 @@ closer w r first n g =
     g.stops
 
 -- ---- a ready device is refused with 17 only
-pub found_17 : (x : Option ℕ) (b start usable plugged requested : ℕ) (bs : List Bool) (number : ℕ) → plan_at x b start usable plugged requested bs ≡ Refused number → number ≡ 17
+pub found_17 : (x : Option ℕ) (b start usable plugged requested : ℕ) (bs : List Bool) (why : Refusal) → plan_at x b start usable plugged requested bs ≡ Err why → why ≡ NothingToPlug
 unfolding plan_at
-found_17 None b start usable plugged requested bs number q = cc
-found_17 (Some i) b start usable plugged requested bs number q =
+found_17 None b start usable plugged requested bs why q = cc
+found_17 (Some i) b start usable plugged requested bs why q =
     by_test (eqb (room_of b plugged requested) 0) (λ t. let q' = simp t at q in cc)
-    (λ t. let q' = simp t at q in let z : ◌≡◌ {A = ℕ} 0 1 = cc in absurd (omega arith))
+    (λ t. let q' = simp t at q in absurd (cc))
 
 pub refused_is_17 : (d : Device) → shaped_of d ≡ true → (bs : List Bool) → blocks_in d.config.block_size d.config.region_size ≤ length bs
-    → (number : ℕ) → plan_of d.config bs ≡ Refused number → number ≡ 17
+    → (why : Refusal) → plan_of d.config bs ≡ Err why → why ≡ NothingToPlug
 unfolding plan_of
-refused_is_17 d e bs long number q = found_17 _ _ _ _ _ _ bs number (simp (config-shaped_of d e, le-ltb _ _ long) at q)
+refused_is_17 d e bs long why q = found_17 _ _ _ _ _ _ bs why (simp (config-shaped_of d e, le-ltb _ _ long) at q)
 
-pub only_17 : (w : World) → Ready w → (number : ℕ) → planned w ≡ Refused number → number ≡ 17
-only_17 w r number e = refused_is_17 w.device r.shaped w.blocks r.blocks_fit number e
+pub only_17 : (w : World) → Ready w → (why : Refusal) → planned w ≡ Err why → why ≡ NothingToPlug
+only_17 w r why e = refused_is_17 w.device r.shaped w.blocks r.blocks_fit why e
 
 -- ---- it gets there
 -- the block at an address
@@ -263,12 +263,12 @@ block_at_lem w r addr first e =
     let a : addr - start w ≡ bytes_of (block_size w) first = omega arith in
     rw a (mul-div_cancel first pos)
 
-there : (w : World) → Ready w → Counted w → (number : ℕ) → planned w ≡ Refused number → There w w
-there w r k number e =
-    let q : planned w ≡ Refused 17 = rw (only_17 w r number e) at e in
+there : (w : World) → Ready w → Counted w → (why : Refusal) → planned w ≡ Err why → There w w
+there w r k why e =
+    let q : planned w ≡ no_plug = rw (only_17 w r why e) at e in
     record { spent = q; size = omega (arith, settled w r k q); same_requested = refl; same_usable = refl }
 
-pub stays : (k : ℕ) (w : World) → planned w ≡ Refused 17 → drives k w ≡ w
+pub stays : (k : ℕ) (w : World) → planned w ≡ no_plug → drives k w ≡ w
 unfolding drives drive_at
 stays zero w e = refl
 stays (suc k) w e = rw e (stays k w e)
@@ -278,8 +278,10 @@ onward w first n q to t = record { spent = t.spent; size = omega (arith, t.size,
 
 -- no run is left
 last : (w : World) → Ready w → Counted w → free_runs w ≤ 0 → (x : Proposal) → planned w ≡ x → There w w
-last w r c h (Refused number) e = there w r c number e
-last w r c h (Plug addr n) e =
+last w r c h (Err why) e = there w r c why e
+last w r c h (Ok plug) e =
+    let addr = plug.addr in
+    let n : ℕ = plug.nb_blocks in
     let per : ℕ = blocks_in (block_size w) map_region in
     let first : ℕ = (plan_is w.device.config w.blocks addr n e).first in
     let low = (gains w r addr n e).lowest in
@@ -288,8 +290,8 @@ last w r c h (Plug addr n) e =
 
 -- the requested size is spent
 spent_there : (k : ℕ) (w : World) → Ready w → Counted w → room_of (block_size w) (plugged w) (requested w) ≡ 0 → (x : Proposal) → planned w ≡ x → There w (drives k w)
-spent_there k w r c z (Refused number) e = let t = there w r c number e in rw (stays k w t.spent) t
-spent_there k w r c z (Plug addr n) e = absurd ((plan_is w.device.config w.blocks addr n e).room z)
+spent_there k w r c z (Err why) e = let t = there w r c why e in rw (stays k w t.spent) t
+spent_there k w r c z (Ok plug) e = absurd ((plan_is w.device.config w.blocks plug.addr plug.nb_blocks e).room z)
 
 no_room : (w : World) → Ready w → (n : ℕ) → requested w < plugged w + bytes_of (block_size w) (suc n) → room_of (block_size w) (plugged w + bytes_of (block_size w) n) (requested w) ≡ 0
 no_room w r n h =
@@ -301,10 +303,12 @@ once : (k : ℕ) (w : World) → Ready w → Counted w → free_runs w ≤ suc k
     → ((w' : World) → Ready w' → Counted w' → free_runs w' ≤ k → There w' (drives k w'))
     → (x : Proposal) → planned w ≡ x → There w (drives (suc k) w)
 unfolding drives drive_at
-once k w r c h more (Refused number) e =
-    let t = there w r c number e in
+once k w r c h more (Err why) e =
+    let t = there w r c why e in
     rw (t.spent, stays k w t.spent) t
-once k w r c h more (Plug addr n) e =
+once k w r c h more (Ok plug) e =
+    let addr = plug.addr in
+    let n : ℕ = plug.nb_blocks in
     let p = plan_is w.device.config w.blocks addr n e in
     let g = gains w r addr n e in
     let q = kept w r c p.first n g in
@@ -347,14 +351,14 @@ pub runs_few : (w : World) → Ready w → free_runs w + plugged_blocks w ≤ us
 runs_few w r = few_runs (blocks_in (block_size w) map_region) w.blocks (usable_blocks w) (in_blocks w r)
 
 -- ---- the world that a proposal leads to is ready for the next, and `step` leads there
-pub drive_keeps : (w : World) → Ready w → Counted w → (addr : GuestAddr) (n : ℕ) → planned w ≡ Plug addr n → Ready (drive_at (planned w) w) × Counted (drive_at (planned w) w)
+pub drive_keeps : (w : World) → Ready w → Counted w → (addr : GuestAddr) (n : ℕ) → planned w ≡ plugging addr n → Ready (drive_at (planned w) w) × Counted (drive_at (planned w) w)
 unfolding drive_at
 drive_keeps w r c addr n e =
     let p = plan_is w.device.config w.blocks addr n e in
     let q = kept w r c p.first n (gains w r addr n e) in
     rw (e, block_at_lem w r addr.0 p.first p.addr_is) (q.ready, q.counts)
 
-pub step_drives : (w : World) → Ready w → (addr : GuestAddr) (n : ℕ) → planned w ≡ Plug addr n
+pub step_drives : (w : World) → Ready w → (addr : GuestAddr) (n : ℕ) → planned w ≡ plugging addr n
     → (g : Guest) (descriptors head : ℕ) (status : GuestAddr) → parsed g.mem g.base descriptors head ≡ Got (record { req_type = 0; addr = addr; nb_blocks = n }) status
     → (step w (Request g descriptors head)).world ≡ drive_at (planned w) w
 unfolding drive_at

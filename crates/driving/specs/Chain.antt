@@ -1,6 +1,6 @@
 -- SPDX-License-Identifier: Apache-2.0 AND BSD-3-Clause
 -- Guest memory that holds a request in the bytes of the standard's structs: what a driver lays there and reads back.
-use Rattle.std.specs.Prelude.{ℕ, ◌+◌, ◌-◌, ◌≤◌, ◌<◌, ◌^◌, ◌≡◌, Bool, true, List, ◌⊎◌, length, take}
+use Rattle.std.specs.Prelude.{ℕ, ◌+◌, ◌-◌, ◌≤◌, ◌<◌, ◌^◌, ◌≡◌, Bool, true, List, ◌⊎◌, length, take, Result, Ok}
 use Rattle.units.specs.declared.GuestAddr.{GuestAddr}
 use Rattle.little_endian.specs.Bytes.{part, put}
 use Rattle.wire.specs.declared.VirtioMemReq.{VirtioMemReq}
@@ -10,8 +10,7 @@ use Rattle.descriptors.specs.Descriptors.{inside}
 use Rattle.chain.specs.declared.Parsed.TheVariants.{Request as Got}
 use Rattle.chain.specs.Chain.{parsed}
 use Rattle.record.specs.declared.Pending.TheVariants.{Discard, DiscardOne}
-use Rattle.driver.specs.declared.GotResponse.{GotResponse}
-use Rattle.driver.specs.declared.GotResponse.TheVariants.{Response}
+use Rattle.refusal.specs.declared.Refusal.{Refusal}
 use Rattle.driver.specs.Text.{request_bytes, ReadsResponse}
 use Rattle.step.specs.declared.Reply.{Reply}
 use Rattle.step.specs.World.{World, Guest, Call, Request, HostAnswer}
@@ -120,7 +119,7 @@ pub data GoesTo (w : World) (c : Call) (g : Guest) (status : GuestAddr) : Type 0
 abbrev pub ReadAt : (g : Guest) (status : GuestAddr) (bytes : List ℕ) → VirtioMemResp → Type 0
 ReadAt g status bytes resp =
     (xs : List ℕ) → take 10 xs ≡ part bytes (status.0 - g.base) 10
-    → (r : GotResponse) → ReadsResponse xs r → r ≡ Response resp
+    → (r : Result VirtioMemResp Refusal) → ReadsResponse xs r → r ≡ Ok resp
 
 -- R14.4: a response that a call gives is a known one, and is read back where its used length is 10
 pub record ReadBack (w : World) (c : Call) (reply : Reply) (bytes : List ℕ) : Type 0 where

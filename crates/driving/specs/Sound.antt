@@ -1,6 +1,6 @@
 -- SPDX-License-Identifier: Apache-2.0 AND BSD-3-Clause
 -- What the theorems ask of a device: sound rows, and that it is ready for a request. What they say of a proposal, and where planning and plugging leads.
-use Rattle.std.specs.Prelude.{ℕ, zero, suc, ◌+◌, ◌-◌, ◌/◌, ◌%◌, ◌<◌, ◌≤◌, min, max, ◌≡◌, Bool, true, false, cond, not, ◌&&◌, ◌||◌, List, ◌⊎◌, eqb, length, take}
+use Rattle.std.specs.Prelude.{ℕ, zero, suc, ◌+◌, ◌-◌, ◌/◌, ◌%◌, ◌<◌, ◌≤◌, min, max, ◌≡◌, Bool, true, false, cond, not, ◌&&◌, ◌||◌, List, ◌⊎◌, eqb, length, take, Ok, Err}
 use Rattle.units.specs.Numbers.{top, bytes_of, blocks_in, map_region}
 use Rattle.units.specs.declared.GuestAddr.{GuestAddr}
 use Rattle.bitmap.specs.Blocks.{block_at, all_are, ones, fill}
@@ -8,9 +8,7 @@ use Rattle.rows.specs.declared.MapRow.{MapRow}
 use Rattle.rows.specs.Rows.{row_at}
 use Rattle.wire.specs.declared.VirtioMemConfig.{VirtioMemConfig}
 use Rattle.record.specs.Shape.{shaped_of, is_idle}
-use Rattle.driver.specs.declared.Proposal.{Proposal}
-use Rattle.driver.specs.declared.Proposal.TheVariants.{Plug, Refused}
-use Rattle.driver.specs.Plan.{border_after, plan_of}
+use Rattle.driver.specs.Plan.{Proposal, no_plug, border_after, plan_of}
 use Rattle.step.specs.World.{World, Guest, Outcome}
 use Rattle.record.specs.Changes.{plugged_to}
 use Rattle.step.specs.Step.{block_size, usable, plugged, requested, start, several, region_blocks, region_rows, plugs}
@@ -67,8 +65,8 @@ plugged_world w first count =
 
 -- the world that the plug of a proposal leaves, and planning and plugging k times
 unfoldable pub drive_at : Proposal → World → World
-drive_at (Plug addr n) w = plugged_world w (blocks_in (block_size w) (addr.0 - start w)) n
-drive_at (Refused number) w = w
+drive_at (Ok plug) w = plugged_world w (blocks_in (block_size w) (plug.addr.0 - start w)) plug.nb_blocks
+drive_at (Err why) w = w
 
 unfoldable pub drives : ℕ → World → World
 drives zero w = w
@@ -88,7 +86,7 @@ Counted w = plugged w ≡ bytes_of (block_size w) (plugged_blocks w)
 
 -- R14.11: planning and plugging has ended: the planner gives 17, and the plugged size is the smaller of the requested and the usable size, or what it was where that was more already; the requested and the usable size are as they were
 pub record There (from to : World) : Type 0 where
-  pub spent : planned to ≡ Refused 17
+  pub spent : planned to ≡ no_plug
   pub size : plugged to ≡ max (plugged from) (min (requested from) (usable from))
   pub same_requested : requested to ≡ requested from
   pub same_usable : usable to ≡ usable from

@@ -1,5 +1,6 @@
 -- SPDX-License-Identifier: Apache-2.0 AND BSD-3-Clause
 -- The planner and the device over every run: each theorem of the crate `driving`, in a good story.
+use Rattle.std.specs.Prelude.{Ok, Err}
 use Prim.Native.Nat.{ℕ, zero, suc, ◌+◌, ◌-◌, ◌≤◌, ◌<◌}
 use mathlib.Core.Path.{◌≡◌, refl, ap, ◌∙◌, sym}
 use mathlib.Core.Bool.{true}
@@ -9,8 +10,8 @@ use lib.ListN.{length}
 use borrow.Author.Tests.{le-leb}
 use Rattle.units.specs.Numbers.{blocks_in, map_region}
 use Rattle.units.specs.declared.GuestAddr.{GuestAddr}
-use Rattle.driver.specs.declared.Proposal.{Proposal}
-use Rattle.driver.specs.declared.Proposal.TheVariants.{Plug, Refused}
+use Rattle.refusal.specs.Refusal.{number}
+use Rattle.driver.specs.Plan.{Proposal, plugging, no_plug}
 use Rattle.driver.proofs.Laws.{count_few, starts}
 use Rattle.record.proofs.Laws.{shaped_is as facts-of, parts as parts-of}
 use Rattle.chain.specs.declared.Parsed.TheVariants.{Request as Got}
@@ -57,7 +58,7 @@ plain_ack w r g descriptors head addr count status q =
     (λ e. let z : ◌≡◌ {A = ℕ} 0 1 = cc in absurd (omega arith)))
 
 -- a request can ask for what is proposed, and for less
-askable : (w : World) → Ready w → (addr : GuestAddr) (n : ℕ) → planned w ≡ Plug addr n → (count : ℕ) → count ≤ 512 → Askable addr.0 count
+askable : (w : World) → Ready w → (addr : GuestAddr) (n : ℕ) → planned w ≡ plugging addr n → (count : ℕ) → count ≤ 512 → Askable addr.0 count
 askable w r addr n e count few =
     let p = plan_is w.device.config w.blocks addr n e in
     let s = facts-of w.device r.shaped in
@@ -65,7 +66,7 @@ askable w r addr n e count few =
     let l = starts w.blocks (block_size w) (usable w) p.first pos p.lowest in
     any_up_to_65535 addr.0 count (omega (arith, p.addr_is, l.bytes, s.usable_in, s.start_region)) (omega arith)
 
-few_enough : (w : World) → Ready w → (addr : GuestAddr) (n : ℕ) → planned w ≡ Plug addr n → n ≤ 512
+few_enough : (w : World) → Ready w → (addr : GuestAddr) (n : ℕ) → planned w ≡ plugging addr n → n ≤ 512
 few_enough w r addr n e =
     let p = plan_is w.device.config w.blocks addr n e in
     let bsz = (facts-of w.device r.shaped).block_size in
@@ -84,12 +85,14 @@ run_17_exactly s good c t =
           let x = plain_ack w r a.guest a.descriptors a.head addr 1 a.status a.reads k' in
           none_acknowledged w r e (record { 0 = addr }) a.status a.guest a.descriptors a.head a.reads x.0 x.1;
       said = λ none. go w r none (planned w) refl;
-      no_other = only_17 w r;
+      no_other = λ why e. ap number (only_17 w r why e);
     }
   where
-    go : (w : World) → Ready w → NothingToPlug w → (x : Proposal) → planned w ≡ x → planned w ≡ Refused 17
-    go w r none (Refused number) e = e ∙ ap Refused (only_17 w r number e)
-    go w r none (Plug addr n) e =
+    go : (w : World) → Ready w → NothingToPlug w → (x : Proposal) → planned w ≡ x → planned w ≡ no_plug
+    go w r none (Err why) e = e ∙ ap Err (only_17 w r why e)
+    go w r none (Ok plug) e =
+        let addr = plug.addr in
+        let n : ℕ = plug.nb_blocks in
         let x = askable w r addr n e 1 (omega arith) in
         let a = x.asks in
         let o = (one_acknowledged w r addr n e a.guest a.descriptors a.head a.status a.reads).outcome in
@@ -113,7 +116,7 @@ follow_drives (c ∷ cs) s r k f =
     follow_drives cs (next s c) more.0 more.1 f.1 ∙ ap (drives (length cs)) (followed s.world r c f.0)
 
 -- no more calls follow it than it takes to 17
-no_more : (plugs : List Call) (k : ℕ) (w : World) → Ready w → Counted w → FollowsPlanner w plugs → planned (drives k w) ≡ Refused 17 → length plugs ≤ k
+no_more : (plugs : List Call) (k : ℕ) (w : World) → Ready w → Counted w → FollowsPlanner w plugs → planned (drives k w) ≡ no_plug → length plugs ≤ k
 unfolding FollowsPlanner drives
 no_more [] k w r c f e = omega arith
 no_more (call ∷ cs) zero w r c f e = let proposes = f.0.proposes in let z : ◌≡◌ {A = ℕ} 0 1 = cc in absurd (omega arith)
@@ -135,10 +138,12 @@ record Plugs (k : ℕ) (s : Story) : Type 0 where
 
 one_more : (k : ℕ) (s : Story) → Ready s.world → Counted s.world → ((s' : Story) → Ready s'.world → Counted s'.world → Plugs k s') → (x : Proposal) → planned s.world ≡ x → Plugs (suc k) s
 unfolding after next FollowsPlanner drives
-one_more k s r c rest (Refused number) e =
-    let q : planned s.world ≡ Refused 17 = e ∙ ap Refused (only_17 s.world r number e) in
+one_more k s r c rest (Err why) e =
+    let q : planned s.world ≡ no_plug = e ∙ ap Err (only_17 s.world r why e) in
     record { plugs = []; follow = tt; at_most = omega arith; lead = sym (stays (suc k) s.world q) }
-one_more k s r c rest (Plug addr n) e =
+one_more k s r c rest (Ok plug) e =
+    let addr = plug.addr in
+    let n : ℕ = plug.nb_blocks in
     let x = askable s.world r addr n e n (few_enough s.world r addr n e) in
     let p : Proposed s.world x.call = record { addr = addr; count = n; proposes = e; asks = x.asks } in
     let more = goes_on s.world r c x.call p in

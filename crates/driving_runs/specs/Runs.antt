@@ -1,11 +1,13 @@
 -- SPDX-License-Identifier: Apache-2.0 AND BSD-3-Clause
 -- The planner and the device, in every good story and so in every run (R14.9 to R14.11): what it proposes is acknowledged, 17 says that nothing can be plugged, and it gets there. The planner has the device's config and bitmap; guest memory is any that holds the chain.
-use Rattle.std.specs.Prelude.{ℕ, ◌≤◌, ◌≡◌, true, List, [], ◌∷◌, length}
+use Rattle.std.specs.Prelude.{ℕ, ◌≤◌, ◌≡◌, true, List, [], ◌∷◌, length, Err}
 use Rattle.units.specs.declared.GuestAddr.{GuestAddr}
 use Rattle.record.specs.Shape.{is_idle}
 use Rattle.step.specs.World.{World, Call}
 use Rattle.step.specs.Step.{step}
-use Rattle.driver.specs.declared.Proposal.TheVariants.{Plug, Refused}
+use Rattle.refusal.specs.declared.Refusal.{Refusal}
+use Rattle.refusal.specs.Refusal.{number}
+use Rattle.driver.specs.Plan.{plugging, no_plug}
 use Rattle.driving.specs.Sound.{Ready, PlugAcknowledged, planned, Counted, There, free_runs}
 use Rattle.history.specs.History.{Story, after}
 use Rattle.history.specs.Rules.{InEveryRun}
@@ -27,7 +29,7 @@ AcksTo w c addr count = (a : Asks c addr.0 count)
     → PlugAcknowledged w addr.0 count a.status.0 a.guest (step w c)
 
 abbrev pub ProposalAcknowledged : Story → Call → Type 0
-ProposalAcknowledged s c = let w = s.world in TakesRequests w → (addr : GuestAddr) (count : ℕ) → planned w ≡ Plug addr count
+ProposalAcknowledged s c = let w = s.world in TakesRequests w → (addr : GuestAddr) (count : ℕ) → planned w ≡ plugging addr count
     → AcksTo w c addr count × AcksTo w c addr 1
 
 -- ---- R14.10: 17 is given exactly if no plug of one block is acknowledged, at whatever address; and no other refusal is given
@@ -35,9 +37,9 @@ abbrev pub NothingToPlug : World → Type 0
 NothingToPlug w = (c : Call) (addr : ℕ) → Asks c addr 1 → Responds (step w c) VIRTIO_MEM_RESP_ACK → ⊥
 
 pub record Exactly17 (w : World) : Type 0 where
-  pub says : planned w ≡ Refused 17 → NothingToPlug w
-  pub said : NothingToPlug w → planned w ≡ Refused 17
-  pub no_other : (number : ℕ) → planned w ≡ Refused number → number ≡ 17
+  pub says : planned w ≡ no_plug → NothingToPlug w
+  pub said : NothingToPlug w → planned w ≡ no_plug
+  pub no_other : (why : Refusal) → planned w ≡ Err why → number why ≡ 17
 
 abbrev pub SeventeenExactly : Story → Call → Type 0
 SeventeenExactly s c = TakesRequests s.world → Exactly17 s.world
@@ -47,7 +49,7 @@ SeventeenExactly s c = TakesRequests s.world → Exactly17 s.world
 pub record Proposed (w : World) (c : Call) : Type 0 where
   pub addr : GuestAddr
   pub count : ℕ
-  pub proposes : planned w ≡ Plug addr count
+  pub proposes : planned w ≡ plugging addr count
   pub asks : Asks c addr.0 count
 
 -- each of these calls does, after those before it
@@ -68,7 +70,7 @@ PlannerGetsThere s c = TakesRequests s.world → GetsThere s
 -- and none lead elsewhere: no more can follow the planner, and where it gives 17 they are there
 pub record NowhereElse (s : Story) (plugs : List Call) : Type 0 where
   pub no_more : length plugs ≤ free_runs s.world
-  pub there : planned (after s plugs).world ≡ Refused 17 → There s.world (after s plugs).world
+  pub there : planned (after s plugs).world ≡ no_plug → There s.world (after s plugs).world
 
 abbrev pub FollowingGetsThere : Story → Call → Type 0
 FollowingGetsThere s c = TakesRequests s.world → (plugs : List Call) → FollowsPlanner s.world plugs → NowhereElse s plugs

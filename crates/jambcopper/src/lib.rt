@@ -22,6 +22,7 @@ use making::{Made, Mem};
 use placing::{place, set_requested_size};
 use queue::{Taking, next_taking, queue_refusal, settle, took_head};
 use queue_words::{QUEUE_WORDS, decode_queue, encode_queue, ending_told, tell_queue};
+use refusal::code;
 use rings::Queue;
 use save_words::{tell_new, tell_old, tell_restore, tell_save, tell_save_length};
 use serving::{host_answer, request};
@@ -321,35 +322,33 @@ pub fn jambcopper_driver_write_request(
     ensures { Wrote (record { req_type = req_type; addr = record { 0 = addr }; nb_blocks = nb_blocks })
         bytes.old bytes.new result }
 {
-    write_request(
-        bytes,
-        VirtioMemReq {
-            req_type: req_type,
-            addr: GuestAddr(addr),
-            nb_blocks: nb_blocks,
-        },
-    )
+    let req = VirtioMemReq {
+        req_type,
+        addr: GuestAddr(addr),
+        nb_blocks,
+    };
+    code(write_request(bytes, req))
 }
 
 // The guest's side: reads a response.
 pub fn jambcopper_driver_read_response(bytes: &[u8], response: &mut [u64]) -> u64
     ensures { ResponseTold bytes.now response.old response.new result }
 {
-    tell_response(bytes, response)
+    code(tell_response(bytes, response))
 }
 
 // The guest's side: reads a config.
 pub fn jambcopper_driver_read_config(bytes: &[u8], config: &mut [u64]) -> u64
     ensures { ConfigTold bytes.now config.old config.new result }
 {
-    tell_config(bytes, config)
+    code(tell_config(bytes, config))
 }
 
 // The guest's side: proposes the next plug.
 pub fn jambcopper_driver_plan(config: &[u8], bitmap: &[u8], plug: &mut [u64]) -> u64
     ensures { PlanTold config.now (blocks bitmap.now) plug.old plug.new result }
 {
-    tell_plan(config, bitmap, plug)
+    code(tell_plan(config, bitmap, plug))
 }
 
 // How long the device's text is.

@@ -9,7 +9,6 @@ use Rattle.refusal.specs.declared.Refusal.TheVariants.{WrongSize, CapacityTooLar
 use Rattle.refusal.specs.Refusal.{number}
 
 pub numbered : (r : Refusal) → tag_of the_type r + 1 ≡ number r
-unfolding number
 numbered WrongSize = refl
 numbered CapacityTooLarge = refl
 numbered WrongRange = refl

@@ -1,11 +1,11 @@
 -- SPDX-License-Identifier: Apache-2.0 AND BSD-3-Clause
 -- The numbers of the refusals (R1).
-use Rattle.std.specs.Prelude.{ℕ}
+use Rattle.std.specs.Prelude.{ℕ, Result, Ok, Err}
 use Rattle.refusal.specs.declared.Refusal.{Refusal}
 use Rattle.refusal.specs.declared.Refusal.TheVariants.{WrongSize, CapacityTooLarge, WrongRange, WrongStart, NotPlaced, AlreadyPlaced, CallPending, NothingPending, HostPastTop, CreationFailed, TooShort, NoShape, BadLine, RingOutside, RingOverfull, BadBytes, NothingToPlug, NoState, LaterForm}
 
 -- rule R1.n gives the number n
-unfoldable pub number : Refusal → ℕ
+abbrev pub number : Refusal → ℕ
 number WrongSize = 1
 number CapacityTooLarge = 2
 number WrongRange = 3
@@ -25,3 +25,8 @@ number BadBytes = 16
 number NothingToPlug = 17
 number NoState = 18
 number LaterForm = 19
+
+-- R1.0: done is 0, and a refused call is told by its number
+abbrev pub code : {A : Type 0} → Result A Refusal → ℕ
+code (Ok x) = 0
+code (Err r) = number r

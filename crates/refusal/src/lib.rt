@@ -3,7 +3,7 @@
 #![tactic(auto)]
 
 ghost use Rattle.std.specs.Prelude.{◌≡◌};
-ghost use Rattle.refusal.specs.Refusal.{number};
+ghost use Rattle.refusal.specs.Refusal.{number, code};
 
 // What a refused call is refused for, by the rule R1 that says when.
 #[derive(Clone, Copy, Debug, PartialEq, Eq)]
@@ -54,5 +54,15 @@ impl Refusal {
         ensures { result ≡ number self }
     {
         self as u64
+    }
+}
+
+// What a call is told as, for callers that have no enums: 0 where it was done (R1.0), and else why it was refused.
+pub fn code(done: Result<(), Refusal>) -> u64
+    ensures { result ≡ code done }
+{
+    match done {
+        Ok(()) => 0,
+        Err(refusal) => refusal.number(),
     }
 }

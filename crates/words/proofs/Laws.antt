@@ -6,10 +6,12 @@ use mathlib.Core.Path.{◌≡◌, refl, sym, ap, ◌∙◌}
 use mathlib.Core.Bool.{Bool, true, false, ◌&&◌}
 use mathlib.Core.List.{List, [], ◌∷◌, ◌++◌}
 use native.Mathlib.Omega.{arith}
+use Rattle.std.proofs.Common.{append_assoc}
 use native.Mathlib.Numerals.{add-one}
 use lib.Dec.{leb, eqb}
-use lib.ListN.{length, drop, get_or, set, length-append, drop_of_length-le}
-use lib.Seq.{drop-cons, set-get_or, get_or-set_other}
+use lib.ListN.{length, take, drop, get_or, set, length-append, drop_of_length-le}
+use borrow.Rule.Slice.PartMut.{put_mid}
+use lib.Seq.{drop-drop, drop-cons, set-get_or, get_or-set_other}
 use borrow.Author.Tests.{le-leb, leb-true, eqb-true, eqb-false}
 use Rattle.units.proofs.Tests.{by_test, and_left, and_right}
 use Rattle.little_endian.specs.Bytes.{put}
@@ -41,6 +43,14 @@ four Nothing = refl
 four (Create first last) = refl
 four (Discard first count status) = refl
 four (DiscardOne block status) = refl
+
+-- they are laid where a record has them
+pub pending_laid : (ws ps : List ℕ) (p : Pending) → 15 ≤ length ws → ps ≡ pending_words p → put_mid 11 4 ws ps ≡ put ws 11 (pending_words p)
+pending_laid ws ps p h e =
+    let n : length (pending_words p) ≡ 4 = sym (ap length (four p)) in
+    let k : 11 + length (pending_words p) ≤ length ws = omega arith in
+    rw (e, put_fits ws 11 (pending_words p) k, n, append_assoc)
+    (ap (λ (rest : List ℕ). take 11 ws ++ (pending_words p ++ rest)) (drop-drop 4 11 ws))
 
 -- ---- the tests of a record
 
@@ -129,7 +139,7 @@ words_long d p rest = rw (length-append, length_words d p) (omega arith)
 
 words_back : (d : Device) (p : Pending) (rest : List ℕ) → d.config.node_id ≤ 65535
     → decoded_of (words_of (pending_to p d) ++ rest) ≡ Some (pending_to p d)
-unfolding words_of decoded_of is_record record_of pending_of pending_fits
+unfolding words_of decoded_of is_record record_of
 words_back d Nothing rest h =
     simp (
       le-leb _ _ (words_long d Nothing rest),
@@ -182,7 +192,6 @@ flag_written w h =
     (λ t. let n = eqb-false w 1 t in simp t (omega (arith, n)))
 
 pending_written : (k a b c : ℕ) → pending_fits k a b c ≡ true → pending_words (pending_of k a b c) ≡ k ∷ a ∷ b ∷ c ∷ []
-unfolding pending_fits pending_of
 pending_written k a b c h =
     by_test (eqb k 0)
     (λ t.

@@ -52,8 +52,12 @@ after_answer ws d =
     ws
 
 -- ---- and back
+-- the flag that a word is, if it is one
+abbrev pub flag_of : ℕ → Option Bool
+flag_of w = cond (leb w 1) (Some (eqb w 1)) None
+
 -- what four words mean as a pending call
-unfoldable pub pending_of : (kind first second status : ℕ) → Pending
+abbrev pub pending_of : (kind first second status : ℕ) → Pending
 pending_of kind first second status =
     cond (eqb kind 1) (Create first second)
     (cond (eqb kind 2) (Discard first second (record { 0 = status }))
@@ -61,7 +65,7 @@ pending_of kind first second status =
     Nothing))
 
 -- R19.2: a known kind, and 0 in each word that the kind has no use for
-unfoldable pub pending_fits : (kind first second status : ℕ) → Bool
+abbrev pub pending_fits : (kind first second status : ℕ) → Bool
 pending_fits kind first second status =
     cond (eqb kind 0) (eqb first 0 && (eqb second 0 && eqb status 0))
     (cond (eqb kind 1) (eqb status 0)

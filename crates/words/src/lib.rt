@@ -4,7 +4,7 @@
 
 ghost use Rattle.std.specs.Prelude.{◌≡◌, ◌≤◌, length, Some};
 ghost use Rattle.little_endian.specs.Bytes.{put};
-ghost use Rattle.words.specs.Record.{record_length, bit, pending_call, decoded_of, words_of, pending_words};
+ghost use Rattle.words.specs.Record.{record_length, bit, flag_of, pending_call, decoded_of, words_of, pending_words};
 ghost use Rattle.words.specs.Record.{after_request, after_answer};
 
 use record::{Device, Pending};
@@ -20,38 +20,35 @@ fn bit(flag: bool) -> u64
     u64::from(flag)
 }
 
-// The pending call that four words mean: a known kind, and 0 in each word that the kind has no use for.
+// The flag that a word is, if it is one.
+fn flag_of(word: u64) -> Option<bool>
+    ensures { result ≡ flag_of word }
+{
+    match word {
+        0 => Some(false),
+        1 => Some(true),
+        _ => None,
+    }
+}
+
+// The pending call that four words mean: a known kind, and 0 in each word that the kind has no use for. The kinds are
+// numbers here because the record is words at the C interface.
+#[tactic(auto, unfolding(crate::specs::Record::pending_call))]
 fn call_of(kind: u64, first: u64, second: u64, status: u64) -> Option<Pending>
     ensures { result ≡ pending_call kind first second status }
 {
-    if (kind == 0) & ((first == 0) & ((second == 0) & (status == 0))) {
-        return Some(Pending::Nothing);
-    }
-    match kind {
-        1 => {
-            if status != 0 {
-                return None;
-            }
-            Some(Pending::Create {
-                first: first,
-                last: second,
-            })
-        }
-        2 => Some(Pending::Discard {
-            first: first,
-            count: second,
+    match (kind, first, second, status) {
+        (0, 0, 0, 0) => Some(Pending::Nothing),
+        (1, first, last, 0) => Some(Pending::Create { first, last }),
+        (2, first, count, status) => Some(Pending::Discard {
+            first,
+            count,
             status: GuestAddr(status),
         }),
-        3 => {
-            let no_use = second != 0;
-            if no_use {
-                return None;
-            }
-            Some(Pending::DiscardOne {
-                block: first,
-                status: GuestAddr(status),
-            })
-        }
+        (3, block, 0, status) => Some(Pending::DiscardOne {
+            block,
+            status: GuestAddr(status),
+        }),
         _ => None,
     }
 }
@@ -60,45 +57,42 @@ fn call_of(kind: u64, first: u64, second: u64, status: u64) -> Option<Pending>
 pub fn decode(words: &[u64]) -> Option<Device>
     ensures { result ≡ decoded_of words.now }
 {
-    if words.len() < RECORD_WORDS {
-        return None;
-    }
-    let block_size = words[0];
-    let node = words[1];
-    let start = words[2];
-    let region = words[3];
-    let usable = words[4];
-    let plugged = words[5];
-    let requested = words[6];
-    let alignment = words[7];
-    let several = words[8];
-    let features = words[9];
-    let placed = words[10];
-    let kind = words[11];
-    let first = words[12];
-    let second = words[13];
-    let status = words[14];
-    let Some(pending) = call_of(kind, first, second, status) else {
+    let &[
+        block_size,
+        node,
+        start,
+        region_size,
+        usable_region_size,
+        plugged_size,
+        requested_size,
+        alignment,
+        several,
+        avail_features,
+        placed,
+        kind,
+        first,
+        second,
+        status,
+        ..
+    ] = words
+    else {
         return None;
     };
-    if !((node <= 65535) & ((several <= 1) & (placed <= 1))) {
-        return None;
-    }
     Some(Device {
         config: VirtioMemConfig {
-            block_size: block_size,
-            node_id: node as u16,
+            block_size,
+            node_id: u16::try_from(node).ok()?,
             addr: GuestAddr(start),
-            region_size: region,
-            usable_region_size: usable,
-            plugged_size: plugged,
-            requested_size: requested,
+            region_size,
+            usable_region_size,
+            plugged_size,
+            requested_size,
         },
-        alignment: alignment,
-        several: several == 1,
-        avail_features: features,
-        placed: placed == 1,
-        pending: pending,
+        alignment,
+        several: flag_of(several)?,
+        avail_features,
+        placed: flag_of(placed)?,
+        pending: call_of(kind, first, second, status)?,
     })
 }
 
@@ -144,11 +138,10 @@ pub fn encode(d: Device, words: &mut [u64])
     ensures words_after { words.new ≡ put words.old 0 (words_of d) }
     ensures words_after_2 { record_length ≤ length words.old → decoded_of words.new ≡ Some d }
 {
-    let p = d.pending;
-    let pending = pending_words(p);
+    let [kind, first, second, status] = pending_words(d.pending);
     let all: [u64; RECORD_WORDS] = [
         d.config.block_size,
-        d.config.node_id as u64,
+        u64::from(d.config.node_id),
         d.config.addr.0,
         d.config.region_size,
         d.config.usable_region_size,
@@ -158,10 +151,10 @@ pub fn encode(d: Device, words: &mut [u64])
         bit(d.several),
         d.avail_features,
         bit(d.placed),
-        pending[0],
-        pending[1],
-        pending[2],
-        pending[3],
+        kind,
+        first,
+        second,
+        status,
     ];
     write_words(words, &all);
 }
@@ -173,13 +166,8 @@ pub fn encode_request(d: Device, words: &mut [u64])
     if words.len() < RECORD_WORDS {
         return;
     }
-    let p = d.pending;
-    let pending = pending_words(p);
     words[5] = d.config.plugged_size;
-    words[11] = pending[0];
-    words[12] = pending[1];
-    words[13] = pending[2];
-    words[14] = pending[3];
+    words[11..RECORD_WORDS].copy_from_slice(&pending_words(d.pending));
 }
 
 // Writes of a record what a host's answer may change; nothing where there is no room for a record.
@@ -190,13 +178,8 @@ pub fn encode_answer(d: Device, words: &mut [u64])
         return;
     }
     let c = d.config;
-    let p = d.pending;
-    let pending = pending_words(p);
     words[4] = c.usable_region_size;
     words[5] = c.plugged_size;
     words[10] = bit(d.placed);
-    words[11] = pending[0];
-    words[12] = pending[1];
-    words[13] = pending[2];
-    words[14] = pending[3];
+    words[11..RECORD_WORDS].copy_from_slice(&pending_words(d.pending));
 }

@@ -2,14 +2,14 @@
 -- `read_config` meets its contract.
 use mathlib.Core.Path.{sym}
 use native.Mathlib.Omega.{arith}
-use Rattle.driver.proofs.Laws.{config_means, config_text, config_refused, config_read}
+use Rattle.driver.proofs.Laws.{config_means, config_text, none_read, config_read}
 use Rattle.driver.proofs.read_config.Goals as goal
 
 pub returns-then-bytes-lt56 : goal.returns-then-bytes-lt56
-returns-then-bytes-lt56 c = config_refused _ (λ v t. omega (arith, (config_means _ v t).long))
+returns-then-bytes-lt56 c = none_read (λ v t. omega (arith, (config_means _ v t).long))
 
 pub returns-then-padded-gt65535 : goal.returns-then-padded-gt65535
-returns-then-padded-gt65535 c = config_refused _ (λ v t. omega (arith, (config_means _ v t).node_is, (config_means _ v t).node_two))
+returns-then-padded-gt65535 c = none_read (λ v t. omega (arith, (config_means _ v t).node_is, (config_means _ v t).node_two))
 
 pub returns : goal.returns
 returns c =
@@ -18,11 +18,11 @@ returns c =
     (record {
       long = omega arith;
       node_two = omega arith;
-      block_is = sym c.read_u64-block_size.ensures;
+      block_is = sym c.read_u64.ensures;
       node_is = sym c.read_u64-padded.ensures;
-      start_is = sym c.read_u64-start.ensures;
-      region_is = sym c.read_u64-region_size.ensures;
-      usable_is = sym c.read_u64-usable_region_size.ensures;
-      plugged_is = sym c.read_u64-plugged_size.ensures;
-      requested_is = sym c.read_u64-requested_size.ensures;
+      start_is = sym c.read_u64-2.ensures;
+      region_is = sym c.read_u64-3.ensures;
+      usable_is = sym c.read_u64-4.ensures;
+      plugged_is = sym c.read_u64-5.ensures;
+      requested_is = sym c.read_u64-6.ensures;
     }))

@@ -2,17 +2,17 @@
 -- `read_response` meets its contract.
 use mathlib.Core.Path.{sym}
 use native.Mathlib.Omega.{arith}
-use Rattle.driver.proofs.Laws.{response_means, response_text_lem, response_refused, response_read}
+use Rattle.driver.proofs.Laws.{response_means, response_text_lem, none_read, response_read}
 use Rattle.driver.proofs.read_response.Goals as goal
 
 pub returns-then-bytes-lt10 : goal.returns-then-bytes-lt10
-returns-then-bytes-lt10 c = response_refused _ (λ v t. omega (arith, (response_means _ v t).long))
+returns-then-bytes-lt10 c = none_read (λ v t. omega (arith, (response_means _ v t).long))
 
 pub returns-then-padded-gt3 : goal.returns-then-padded-gt3
-returns-then-padded-gt3 c = response_refused _ (λ v t. omega (arith, (response_means _ v t).type_is, t.type_known))
+returns-then-padded-gt3 c = none_read (λ v t. omega (arith, (response_means _ v t).type_is, t.type_known))
 
 pub returns-then-state-gt2 : goal.returns-then-state-gt2
-returns-then-state-gt2 c = response_refused _ (λ v t. omega (arith, (response_means _ v t).state_is, t.state_known))
+returns-then-state-gt2 c = none_read (λ v t. omega (arith, (response_means _ v t).state_is, t.state_known))
 
 pub returns : goal.returns
 returns c =

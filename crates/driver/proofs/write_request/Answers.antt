@@ -11,7 +11,9 @@ returns-then-bytes-lt24 c = record { whole = λ h. absurd (omega arith); short =
 pub returns : goal.returns
 returns c =
     let a = c.args in
+    let t = rw c.from.ensures at c.write_u64.ensures in
+    let n = rw c.from-2.ensures at c.write_u64-3.ensures in
     record {
-      whole = λ h. (refl, request_put a.bytes.now a.req (omega arith) (omega arith) c.write_u64.ensures c.write_u64-2.ensures c.write_u64-3.ensures);
+      whole = λ h. (refl, request_put a.bytes.now a.req (omega arith) (omega arith) t c.write_u64-2.ensures n);
       short = λ h. absurd (omega arith);
     }

@@ -1,20 +1,23 @@
 -- SPDX-License-Identifier: Apache-2.0 AND BSD-3-Clause
--- `driver_words::tell_plan` meets its contract: no room, a refusal of the bytes or of the planner, or the words.
-use Rattle.driver_words.specs.Told.{plan_gives, proposal_gives}
-use Rattle.driver_words.proofs.Laws.{no_room, refused, given}
+-- `driver_words::tell_plan` meets its contract: what is told is the words of what was planned, or a refusal.
+use Rattle.std.specs.Prelude.{Ok, Err}
+use Rattle.std.proofs.Common.{◌≡◌, rules, refl}
+use Rattle.refusal.specs.declared.Refusal.TheVariants.{BadBytes}
+use Rattle.bitmap.specs.Blocks.{blocks}
+use Rattle.driver_words.specs.Told.{plug_words, plan_gives}
+use Rattle.driver_words.proofs.Laws.{told_by, no_text}
 use Rattle.driver_words.proofs.tell_plan.Goals as goal
 
-pub returns-then-words-lt-PLUG_WORDS : goal.returns-then-words-lt-PLUG_WORDS
-returns-then-words-lt-PLUG_WORDS c = record { got = c.read_config-got.result; reads = c.read_config-got.ensures; told = no_room _ _ _ c.if-words-lt-PLUG_WORDS.true }
+pub returns-in_err-c : goal.returns-in_err-c
+returns-in_err-c c =
+    let why = c.in_err-c.field-0.0 in
+    let gave : c.from_residual.result ≡ Err why = search rules in
+    let known : why ≡ BadBytes = c.in_err-c.ensures.refused why refl in
+    record { got = Err why; reads = c.in_err-c.ensures; told = rw (gave, known) (no_text 2 c.args.words.now) }
 
-pub returns-in-Refused : goal.returns-in-Refused
-unfolding plan_gives proposal_gives
-returns-in-Refused c = record { got = c.read_config-got.result; reads = c.read_config-got.ensures; told = refused _ _ _ _ c.if-words-lt-PLUG_WORDS.false (rw c.in-Refused.is) }
-
-pub returns-in-Refused-plan : goal.returns-in-Refused-plan
-unfolding plan_gives proposal_gives
-returns-in-Refused-plan c = record { got = c.read_config-got.result; reads = c.read_config-got.ensures; told = refused _ _ _ _ c.if-words-lt-PLUG_WORDS.false (rw (c.in-Config.is, ← c.plan.ensures, c.in-Refused-plan.is)) }
-
-pub returns-in-Plug : goal.returns-in-Plug
-unfolding plan_gives proposal_gives
-returns-in-Plug c = record { got = c.read_config-got.result; reads = c.read_config-got.ensures; told = given _ _ _ _ _ c.if-words-lt-PLUG_WORDS.false (rw (c.in-Config.is, ← c.plan.ensures, c.in-Plug.is)) c.write_words.ensures }
+pub returns : goal.returns
+returns c =
+    let read = c.in_ok-c.c in
+    let planned = c.plan.ensures in
+    let told : c.map.result ≡ plan_gives (Ok read) (blocks c.args.bitmap.now) = rw planned at (told_by plug_words _ _ c.map.ensures.cases) in
+    record { got = Ok read; reads = c.in_ok-c.ensures; told = rw told at c.tell.ensures }

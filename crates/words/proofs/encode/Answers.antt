@@ -12,10 +12,10 @@ use native.Mathlib.Omega.{arith}
 use Rattle.words.proofs.encode.Goals as goal
 
 -- the words that the code lays side by side are the record's
-encoded : (d : Device) (ws : List ℕ) (several placed : ℕ) → ws ≡ pending_words d.pending → several ≡ bit d.several
+encoded : (d : Device) (ws : List ℕ) (node several placed : ℕ) → node ≡ d.config.node_id → ws ≡ pending_words d.pending → several ≡ bit d.several
     → placed ≡ bit d.placed
     → (d.config.block_size
-    ∷ d.config.node_id
+    ∷ node
     ∷ d.config.addr.0
     ∷ d.config.region_size
     ∷ d.config.usable_region_size
@@ -32,7 +32,7 @@ encoded : (d : Device) (ws : List ℕ) (several placed : ℕ) → ws ≡ pending
     ∷ [])
     ≡ words_of d
 unfolding words_of
-encoded d ws several placed e f g = rw (e, f, g, four d.pending)
+encoded d ws node several placed h e f g = rw (h, e, f, g, four d.pending)
 
 pub returns : goal.returns
 returns c =
@@ -41,7 +41,7 @@ returns c =
     let written =
     c.write_words.ensures
     ∙ ap (put ws 0)
-    (encoded d _ _ _ c.pending_words-pending.ensures
+    (encoded d _ _ _ _ c.from.ensures c.pending_words.ensures
     c.bit.ensures
     c.bit-2.ensures) in
     record { words_after = written; words_after_2 = λ room. ap decoded_of written ∙ encoded_decodes d ws (omega arith) room }

@@ -1,46 +1,24 @@
 -- SPDX-License-Identifier: Apache-2.0 AND BSD-3-Clause
--- `words::encode_request` meets its contract: five stores write what a request may change.
-use Prim.Native.Nat.{ℕ, ◌≤◌, ◌<◌}
-use mathlib.Core.Path.{◌≡◌}
-use mathlib.Core.List.{List}
-use native.Mathlib.Omega.{arith}
-use lib.ListN.{length, get_or, set, length-set}
+-- `words::encode_request` meets its contract: the stores write what a request may change.
+use Prim.Native.Nat.{◌≤◌}
+use lib.ListN.{length, set, length-set}
 use borrow.Author.Tests.{le-leb, lt-leb}
 use Rattle.little_endian.specs.Bytes.{put}
-use Rattle.record.specs.declared.Device.{Device}
-use Rattle.words.specs.Record.{pending_words, after_request}
-use Rattle.words.proofs.Laws.{four}
+use Rattle.words.specs.Record.{after_request}
+use Rattle.words.proofs.Laws.{pending_laid}
 use Rattle.words.proofs.encode_request.Goals as goal
 
--- no room for a record
-none : (d : Device) (ws : List ℕ) → length ws < 15 → ws ≡ after_request ws d
-unfolding after_request
-none d ws h = rw (lt-leb 15 (length ws) h)
-
--- five stores, one after the other
-stored : (d : Device) (ws p : List ℕ) → 15 ≤ length ws → p ≡ pending_words d.pending
-    → set (set (set (set (set ws 5 d.config.plugged_size) 11 (get_or p 0 0)) 12 (get_or p 1 0)) 13 (get_or p 2 0)) 14 (get_or p 3 0)
-    ≡ after_request ws d
-unfolding after_request put
-stored d ws p h e = rw (le-leb 15 (length ws) h, ← four d.pending, e)
-
 pub returns-then-words-lt-RECORD_WORDS : goal.returns-then-words-lt-RECORD_WORDS
-returns-then-words-lt-RECORD_WORDS c = none c.args.d c.args.words.now c.if-words-lt-RECORD_WORDS.true
-
-pub bounds-words-11 : goal.bounds-words-11
-bounds-words-11 c = simp length-set (omega arith)
-
-pub bounds-words-12 : goal.bounds-words-12
-bounds-words-12 c = simp length-set (omega arith)
-
-pub bounds-words-13 : goal.bounds-words-13
-bounds-words-13 c = simp length-set (omega arith)
-
-pub bounds-words-14 : goal.bounds-words-14
-bounds-words-14 c = simp length-set (omega arith)
-
-pub shape_of-words : goal.shape_of-words
-shape_of-words c = simp length-set
+unfolding after_request
+returns-then-words-lt-RECORD_WORDS c = simp (lt-leb 15 _ c.if-words-lt-RECORD_WORDS.true)
 
 pub returns : goal.returns
-returns c = stored c.args.d c.args.words.now _ c.if-words-lt-RECORD_WORDS.false c.pending_words-pending.ensures
+unfolding after_request put
+returns c =
+    let d = c.args.d in
+    let ws = c.args.words.now in
+    let h = c.if-words-lt-RECORD_WORDS.false in
+    let stored = (set ws 5 d.config.plugged_size) in
+    let long : 15 ≤ length stored = simp length-set h in
+    rw (le-leb 15 (length ws) h, c.copy_from_slice.ensures.after)
+    (pending_laid stored _ d.pending long c.pending_words.ensures)
