@@ -88,7 +88,12 @@ fn with_second(req: VirtioMemReq, found: Option<Descriptor>) -> Result<Asked, No
 
 // The tests of the first descriptor (R9.4); the request is read here and nowhere else (R9.9).
 #[tactic(auto, using(descriptors::proofs::Laws::place_found), unfolding(crate::specs::Chain::with_first))]
-fn with_first(mem: &[u8], base: GuestAddr, table: GuestAddr, found: Option<Descriptor>) -> Result<Asked, NoRequest>
+fn with_first(
+    mem: &[u8],
+    base: GuestAddr,
+    table: GuestAddr,
+    found: Option<Descriptor>,
+) -> Result<Asked, NoRequest>
     ensures { result ≡ with_first mem.now base.0 table.0 found }
 {
     let Some(first) = found else {

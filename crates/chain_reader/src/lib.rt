@@ -85,7 +85,12 @@ impl<'a> ChainReader<'a> {
 }
 
 // The second descriptor of a chain, by a reader.
-pub fn second_link(mem: &[u8], base: GuestAddr, descriptors: GuestAddr, head: u16) -> Option<Descriptor>
+pub fn second_link(
+    mem: &[u8],
+    base: GuestAddr,
+    descriptors: GuestAddr,
+    head: u16,
+) -> Option<Descriptor>
     ensures { result ≡ second_link mem.now base.0 descriptors.0 head }
 {
     ChainReader::new(mem, base, descriptors, head)
@@ -94,7 +99,12 @@ pub fn second_link(mem: &[u8], base: GuestAddr, descriptors: GuestAddr, head: u1
 }
 
 // The request of a chain, by a reader: it is what the device parses.
-pub fn parse_chain(mem: &[u8], base: GuestAddr, descriptors: GuestAddr, head: u16) -> Result<Asked, NoRequest>
+pub fn parse_chain(
+    mem: &[u8],
+    base: GuestAddr,
+    descriptors: GuestAddr,
+    head: u16,
+) -> Result<Asked, NoRequest>
     ensures { result ≡ parsed mem.now base.0 descriptors.0 head }
 {
     ChainReader::new(mem, base, descriptors, head).request()

@@ -77,7 +77,12 @@ pub struct Change {
 }
 
 // Whether a range lies inside start to start + usable. From `start` on, offsets are compared: they need no sum.
-fn inside_of(start: GuestAddr, usable: u64, addr: GuestAddr, size: u64) -> Result<RegionOffset, Reason>
+fn inside_of(
+    start: GuestAddr,
+    usable: u64,
+    addr: GuestAddr,
+    size: u64,
+) -> Result<RegionOffset, Reason>
     ensures { result ≡ inside_of start.0 usable addr.0 size }
 {
     if addr.0 < start.0 {
@@ -143,7 +148,12 @@ fn host_in(mapping: Option<HostAddr>, offset: RegionOffset, size: u64) -> Result
 }
 
 // Test (d), part by part.
-pub fn host_of(several: bool, table: &[u64], offset: RegionOffset, size: u64) -> Result<HostAddr, Reason>
+pub fn host_of(
+    several: bool,
+    table: &[u64],
+    offset: RegionOffset,
+    size: u64,
+) -> Result<HostAddr, Reason>
     ensures { result ≡ host_of several (rows_of table.now) offset.0 size }
 {
     if !several {

@@ -34,7 +34,13 @@ pub fn requested_refused(mib: u64, region: u64, block_size: u64) -> bool
 }
 
 // The record of a new device. Without a node its number is 0 (R4.6).
-fn new_device(region: u64, requested: u64, alignment: u64, several: bool, node: Option<u16>) -> Device
+fn new_device(
+    region: u64,
+    requested: u64,
+    alignment: u64,
+    several: bool,
+    node: Option<u16>,
+) -> Device
     ensures { result ≡ new_device region requested alignment several node }
 {
     let config = VirtioMemConfig::new(MemTool::BLOCK_SIZE, node.unwrap_or(0), region, requested);
@@ -55,7 +61,13 @@ pub struct Mem {}
 
 impl Mem {
     // Makes a device from sizes in MiB, whose bytes may pass 2^64 - 1. 2, 1 (R2.1).
-    pub fn new(capacity_mib: u64, requested_mib: u64, several: bool, node: Option<u16>, boot: u64) -> Result<Device, Refusal>
+    pub fn new(
+        capacity_mib: u64,
+        requested_mib: u64,
+        several: bool,
+        node: Option<u16>,
+        boot: u64,
+    ) -> Result<Device, Refusal>
         ensures { MadeAs (made capacity_mib requested_mib several node boot) result }
     {
         let too_large = MAX_CAPACITY_MIB < capacity_mib;

@@ -76,7 +76,13 @@ fn creation_size(region: u64, i: u64, last: u64) -> u64
 }
 
 // What must be created before the usable size may grow to `new` (R6.5).
-pub fn growth_of(region: u64, several: bool, usable: u64, new: u64, table: &[u64]) -> Option<Creation>
+pub fn growth_of(
+    region: u64,
+    several: bool,
+    usable: u64,
+    new: u64,
+    table: &[u64],
+) -> Option<Creation>
     ensures { result ≡ growth_of region several usable new (rows_of table.now) }
 {
     if !several {
