@@ -1,5 +1,6 @@
 -- SPDX-License-Identifier: Apache-2.0 AND BSD-3-Clause
 -- Reading a number undoes writing it: a word that was written is read, and what was read was written so.
+use Rattle.std.specs.Prelude.{Option, Some, None}
 use Prim.Native.Nat.{ℕ, zero, suc, ◌+◌, ◌-◌, ◌*◌, ◌/◌, ◌%◌, ◌^◌, ◌≤◌, ◌<◌}
 use native.Mathlib.Nat.{div-lt_iff_lt-mul, pow-suc}
 use mathlib.Core.Path.{◌≡◌, refl, sym, ap, ◌∙◌}
@@ -11,9 +12,9 @@ use lib.Dec.{leb, ltb}
 use lib.ListN.{length, drop, length-append, length-drop}
 use lib.Seq.{drop-append_seam, drop-drop}
 use Rattle.units.proofs.Tests.{by_test}
-use Rattle.text.specs.declared.Number.TheVariants.{At, Bad}
+use Rattle.text.specs.declared.Number.{Number}
 use Rattle.text.specs.Decimal.{largest, spell, decimal}
-use Rattle.text.specs.Reading.{Got, got, nothing, is_digit, digit_of, more, read_number, bounded, word_of, answer_in, number_at}
+use Rattle.text.specs.Reading.{Got, got, nothing, is_digit, digit_of, more, read_number, bounded, word_of, read_to, answer_in, number_at}
 use Rattle.text.proofs.Turns.{is_digit_lem, digit_most, digit_least, more_turn, more_stop}
 
 -- ---- the text of a number
@@ -193,21 +194,32 @@ rest_at s at v rest h =
     let e : at + length (decimal v) ≡ length s - length rest = omega arith in
     sym (drop-append_seam (decimal v) rest) ∙ rw (← r, drop-drop, e)
 
+value_of : Option Number → ℕ
+value_of (Some n) = n.value
+value_of None = 0
+
+next_of : Option Number → ℕ
+next_of (Some n) = n.next
+next_of None = 0
+
+pub read_to_same : (v n w m : ℕ) → read_to v n ≡ read_to w m → (v ≡ w) × (n ≡ m)
+unfolding value_of next_of
+read_to_same v n w m h = (ap value_of h, ap next_of h)
+
 module _ (s : List ℕ) (at : ℕ) where
-  pub read_none : number_at s at ≡ Bad → word_of (drop at s) ≡ nothing
+  pub read_none : number_at s at ≡ None → word_of (drop at s) ≡ nothing
   read_none = go (word_of (drop at s))
     where
-      go : (g : Got) → answer_in s g ≡ Bad → g ≡ nothing
+      go : (g : Got) → answer_in s g ≡ None → g ≡ nothing
       go nothing h = refl
       go (got v rest) h = let z : ◌≡◌ {A = ℕ} 0 1 = cc in absurd (omega arith)
 
-  pub read_rest : (v n : ℕ) → number_at s at ≡ At v n → word_of (drop at s) ≡ got v (drop n s)
+  pub read_rest : (v n : ℕ) → number_at s at ≡ read_to v n → word_of (drop at s) ≡ got v (drop n s)
   read_rest v n = go (word_of (drop at s)) refl
     where
-      go : (g : Got) → word_of (drop at s) ≡ g → answer_in s g ≡ At v n → g ≡ got v (drop n s)
+      go : (g : Got) → word_of (drop at s) ≡ g → answer_in s g ≡ read_to v n → g ≡ got v (drop n s)
       go nothing e h = let z : ◌≡◌ {A = ℕ} 0 1 = cc in absurd (omega arith)
       go (got w rest) e h =
-          let same : w ≡ v = cc in
-          let there : length s - length rest ≡ n = cc in
+          let same = read_to_same w (length s - length rest) v n h in
           let r = rest_at s at w rest e in
           cc

@@ -1,9 +1,8 @@
 -- SPDX-License-Identifier: Apache-2.0 AND BSD-3-Clause
 -- What reading a number does, step by step, on the text that is left. That it undoes writing, and nothing else, is proved in proofs/Laws.antt.
-use Rattle.std.specs.Prelude.{ℕ, ◌+◌, ◌-◌, ◌*◌, Bool, cond, ◌&&◌, List, [], ◌∷◌, ltb, leb, length, drop}
+use Rattle.std.specs.Prelude.{ℕ, ◌+◌, ◌-◌, ◌*◌, Bool, cond, ◌&&◌, List, [], ◌∷◌, ltb, leb, length, drop, Option, Some, None}
 use Rattle.text.specs.Decimal.{largest}
 use Rattle.text.specs.declared.Number.{Number}
-use Rattle.text.specs.declared.Number.TheVariants.{At, Bad}
 
 -- a number and the text after it, or nothing
 pub data Got : Type 0 where
@@ -40,11 +39,15 @@ bounded (got v rest) = cond (leb v largest) (got v rest) nothing
 abbrev pub word_of : List ℕ → Got
 word_of xs = bounded (read_number xs)
 
+-- a number that was read, and where the text goes on after it
+abbrev pub read_to : (value next : ℕ) → Option Number
+read_to v n = Some (record { value = v; next = n })
+
 -- the answer for what was got from the text s: the number, and the one position of s from which on just the rest is left
-abbrev pub answer_in : List ℕ → Got → Number
-answer_in s (got v rest) = At v (length s - length rest)
-answer_in s nothing = Bad
+abbrev pub answer_in : List ℕ → Got → Option Number
+answer_in s (got v rest) = read_to v (length s - length rest)
+answer_in s nothing = None
 
 -- the number at a position of the text s, and where s goes on after it
-abbrev pub number_at : (s : List ℕ) (at : ℕ) → Number
+abbrev pub number_at : (s : List ℕ) (at : ℕ) → Option Number
 number_at s at = answer_in s (word_of (drop at s))

@@ -1,33 +1,41 @@
 -- SPDX-License-Identifier: Apache-2.0 AND BSD-3-Clause
--- `text::digits` meets its contract. The invariant: what is left to read gives the whole's answer, and v is within the limit.
-use mathlib.Core.Path.{refl, sym, ap, ◌∙◌}
+-- `text::digits` meets its contract: what is left to read gives the whole's answer at each digit, and where none follows.
+use mathlib.Core.Path.{ap, ◌∙◌}
 use native.Mathlib.Omega.{arith}
-use Rattle.text.specs.Reading.{bounded, answer_in}
+use Rattle.text.specs.Reading.{answer_in}
 use Rattle.text.proofs.Turns.{read_end, read_stop, read_turn, read_over}
 use Rattle.text.proofs.digits.Goals as goal
 
-pub loop-i-init : goal.loop-i-init
-loop-i-init c = (omega arith, refl)
+pub returns-in_default : goal.returns-in_default
+returns-in_default c =
+    let o = c.loop-next in
+    read_stop _ o.next o.value 10 c.in_default.ensures.value (omega arith) (omega arith) (omega arith) ∙ ap (answer_in _) o.invariant.1
 
-pub digit-d-requires : goal.digit-d-requires
-digit-d-requires c = tt
+pub returns-in_err-checked_mul : goal.returns-in_err-checked_mul
+returns-in_err-checked_mul c =
+    let o = c.loop-next in
+    let wide = c.in_err-checked_mul.ensures in
+    let d = c.in-Some.ensures in
+    rw c.from_residual.ensures (read_over _ o.next o.value _ d.value (omega (arith, d.small)) (omega (arith, wide)) ∙ ap (answer_in _) o.invariant.1)
 
-pub returns-then-d-gt9 : goal.returns-then-d-gt9
-returns-then-d-gt9 c =
-    let o = c.loop-i in
-    read_stop _ o.i o.v _ c.digit-d.ensures (omega arith) c.if-d-gt9.true o.invariant.0 ∙ ap (answer_in _) o.invariant.1
+pub returns-in_err-value : goal.returns-in_err-value
+returns-in_err-value c =
+    let o = c.loop-next in
+    let wide = c.in_err-value.ensures in
+    let ten = c.in_ok-checked_mul.ensures in
+    let d = c.in-Some.ensures in
+    rw c.from_residual-in_err-value.ensures (read_over _ o.next o.value _ d.value (omega (arith, d.small)) (omega (arith, wide, ten.1)) ∙ ap (answer_in _) o.invariant.1)
 
-pub returns-then-d-v : goal.returns-then-d-v
-returns-then-d-v c =
-    let o = c.loop-i in
-    read_over _ o.i o.v _ c.digit-d.ensures c.if-d-gt9.false (omega arith) ∙ ap (answer_in _) o.invariant.1
-
-pub loop-i-preserved : goal.loop-i-preserved
-loop-i-preserved c =
-    let o = c.loop-i in
-    (omega arith, ap (bounded) (sym (read_turn _ o.i o.v _ c.digit-d.ensures c.if-d-gt9.false)) ∙ o.invariant.1)
+pub loop-next-preserved : goal.loop-next-preserved
+loop-next-preserved c =
+    let o = c.loop-next in
+    let d = c.in-Some.ensures in
+    let ten = c.in_ok-checked_mul.ensures in
+    let sum = c.in_ok-value.ensures in
+    let turn = read_turn _ o.next o.value _ d.value (omega (arith, d.small)) in
+    (omega (arith, sum.0, sum.1), cc (turn, ten.1, sum.1, o.invariant.1))
 
 pub returns : goal.returns
 returns c =
-    let o = c.loop-i in
-    read_end _ o.i o.v c.loop-i-test.false o.invariant.0 ∙ ap (answer_in _) o.invariant.1
+    let o = c.loop-next in
+    read_end _ o.next o.value c.loop-next-test.false (omega arith) ∙ ap (answer_in _) o.invariant.1

@@ -5,28 +5,21 @@ use native.Mathlib.Omega.{arith}
 use Rattle.text.proofs.Turns.{digit_inside, no_number, from_digit, more_zeros, zero_alone}
 use Rattle.text.proofs.read_number.Goals as goal
 
-pub returns-then-d-gt9 : goal.returns-then-d-gt9
-returns-then-d-gt9 c = let a = c.args in no_number a.s.now a.at _ c.digit-d.ensures c.if-d-gt9.true
+pub returns-in_err-first : goal.returns-in_err-first
+returns-in_err-first c = rw c.from_residual.ensures (no_number c.args.s.now c.args.at 10 c.in_err-first.ensures.value (omega arith))
 
 pub overflow_add-next : goal.overflow_add-next
-overflow_add-next c =
-    let a = c.args in
-    omega (arith, digit_inside a.s.now a.at _ c.digit-d.ensures c.if-d-gt9.false)
+overflow_add-next c = let d = c.in_ok-first.ensures in omega (arith, digit_inside c.args.s.now c.args.at _ d.value (omega (arith, d.small)))
 
 pub returns-then-leads : goal.returns-then-leads
 returns-then-leads c =
-    let a = c.args in
-    c.digits.ensures
-    ∙ from_digit a.s.now a.at _ c.digit-d.ensures c.if-d-gt9.false (omega arith)
+    let d = c.in_ok-first.ensures in
+    c.digits.ensures ∙ from_digit c.args.s.now c.args.at _ d.value (omega (arith, d.small)) (omega arith)
 
-pub returns-then-digit-le9 : goal.returns-then-digit-le9
-returns-then-digit-le9 c =
-    let a = c.args in
-    let d = c.digit-d.ensures in
-    more_zeros a.s.now a.at _ d _ c.digit.ensures (omega arith) c.if-digit-le9.true
+pub returns-in-Some : goal.returns-in-Some
+returns-in-Some c =
+    let n = c.in-Some.ensures in
+    more_zeros c.args.s.now c.args.at _ c.in_ok-first.ensures.value _ n.value (omega arith) (omega (arith, n.small))
 
-pub returns : goal.returns
-returns c =
-    let a = c.args in
-    let d = c.digit-d.ensures in
-    zero_alone a.s.now a.at _ d _ c.digit.ensures (omega arith) c.if-digit-le9.false
+pub returns-in-None : goal.returns-in-None
+returns-in-None c = zero_alone c.args.s.now c.args.at _ c.in_ok-first.ensures.value 10 c.in-None.ensures.value (omega arith) (omega arith)
