@@ -3,7 +3,7 @@
 use Rattle.std.specs.Prelude.{Option, Some, None}
 use Prim.Native.Nat.{ℕ, suc, min, ◌+◌, ◌-◌, ◌≤◌, ◌<◌}
 use mathlib.Core.Path.{◌≡◌, refl, sym, ap, ◌∙◌}
-use mathlib.Core.Bool.{true, false}
+use mathlib.Core.Bool.{true}
 use mathlib.Core.List.{List, [], ◌∷◌, ◌++◌, append_assoc, append-nil}
 use native.Mathlib.Omega.{arith}
 use native.Mathlib.Numerals.{add-one}
@@ -13,11 +13,10 @@ use lib.ListN.{length, drop, take, set, get_or, length-take, length-drop, length
 use lib.Seq.{sets, drop-cons, take-length, take-suc-set, length-sets}
 use Rattle.units.proofs.Tests.{by_test}
 use Rattle.text.specs.declared.Number.{Number}
-use Rattle.text.specs.declared.Number.TheVariants.{At, Bad}
 use Rattle.text.specs.Decimal.{decimal}
-use Rattle.text.specs.Reading.{Got, got, nothing, word_of, answer_in, number_at}
+use Rattle.text.specs.Reading.{Got, got, nothing, word_of, read_to, answer_in, number_at}
 use Rattle.text.specs.Putting.{Put}
-use Rattle.text.proofs.Laws.{read_none, read_rest}
+use Rattle.text.proofs.Laws.{read_to_same, read_none, read_rest}
 use Rattle.text.proofs.Puts.{sets_append, sets_out, then}
 use Rattle.forms.specs.Forms.{filled_from}
 use Rattle.forms.specs.Scanning.{Scan, found, lost, numbers, push, hole_then, byte_then, scan_of, is_whole, place_in, Scanned, ScannedAt}
@@ -47,8 +46,8 @@ pub record Left (w : Scan) (before s form values : List ℕ) (i j k : ℕ) : Typ
   pub left : w ≡ prepend (take k values) (scan_of (drop j form) (drop i s))
   pub inside : i ≤ length s
 
-number_inside : (s : List ℕ) (g : Got) (v n : ℕ) → At v n ≡ answer_in s g → n ≤ length s
-number_inside s (got u rest) v n e = let q : n ≡ length s - length rest = cc in omega arith
+number_inside : (s : List ℕ) (g : Got) (v n : ℕ) → read_to v n ≡ answer_in s g → n ≤ length s
+number_inside s (got u rest) v n e = let q = (read_to_same v n u (length s - length rest) e).1 in omega arith
 number_inside s nothing v n e = let z : ◌≡◌ {A = ℕ} 0 1 = cc in absurd (omega arith)
 
 -- one number more than there is room for is told and stored nowhere
@@ -73,7 +72,7 @@ begin s form values at i q =
     record { within = omega arith; kept = refl; left = rw (← d) (prepend_none (scan_of form (drop at s))); inside = omega arith }
 
 module _ {w : Scan} {before s form values : List ℕ} {i j k : ℕ} (o : Left w before s form values i j k) where
-  pub long : length values ≡ length before
+  long : length values ≡ length before
   long = let e = o.kept in ap length e ∙ length-sets before 0 (take k values)
 
   fails : w ≡ prepend (take k values) (lost []) → ScannedAt before s w None values
@@ -97,8 +96,8 @@ module _ {w : Scan} {before s form values : List ℕ} {i j k : ℕ} (o : Left w 
           let a = rw (q, t) at o.left in
           rw a (over before s values (word_of (drop i s)) (scan_of (drop (suc j) form)) l (o.kept ∙ ap (sets before 0) t))
 
-      module _ (r : Number) (f : k < length values) (g : r ≡ number_at s i) where
-        pub no_number : r ≡ Bad → ScannedAt before s w None values
+      module _ (r : Option Number) (f : k < length values) (g : r ≡ number_at s i) where
+        pub no_number : r ≡ None → ScannedAt before s w None values
         unfolding hole_then
         no_number t =
             let q = at_hole in
@@ -115,7 +114,7 @@ module _ {w : Scan} {before s form values : List ℕ} {i j k : ℕ} (o : Left w 
               let b : sets (sets before 0 (take k values)) (0 + length (take k values)) (v ∷ []) ≡ set values k v = rw (← o.kept, z) in
               sym b ∙ sym a ∙ ap (sets before 0) first_read
 
-          pub hole_turn : r ≡ At v n → Left w before s form (set values k v) n (j + 1) (k + 1)
+          pub hole_turn : r ≡ read_to v n → Left w before s form (set values k v) n (j + 1) (k + 1)
           unfolding hole_then
           hole_turn t =
               let q = at_hole in
@@ -165,11 +164,6 @@ module _ {w : Scan} {before s form values : List ℕ} {i j k : ℕ} (o : Left w 
 
 -- ---- `scan`: a scan at 0 that ends where the text does
 
-not_whole : (room : ℕ) (s : List ℕ) (w : Scan) → None ≡ place_in room s w → false ≡ is_whole room w
-not_whole room s (found us []) e = by_test (leb (length us) room) (λ l. absurd (nowhere (rw l at e))) (λ l. sym l)
-not_whole room s (found us (x ∷ xs)) e = refl
-not_whole room s (lost us) e = refl
-
 whole : (room n : ℕ) (s : List ℕ) (w : Scan) → ((us rest : List ℕ) → w ≡ found us rest → length rest ≤ length s)
     → Some n ≡ place_in room s w → leb (length s) n ≡ is_whole room w
 whole room n s (lost us) h e = absurd (nowhere (sym e))
@@ -186,9 +180,6 @@ whole room n s (found us rest) h e =
     go (x ∷ xs) l m k = lt-leb (length s) n (omega arith)
 
 module _ (form s : List ℕ) {before after : List ℕ} {r : Option ℕ} (o : ScannedAt before s (scan_of form s) r after) where
-  pub scan_nowhere : r ≡ None → Scanned before (scan_of form s) false after
-  scan_nowhere e = record { answer = not_whole (length before) s (scan_of form s) (sym e ∙ o.answer); values = o.values }
-
   pub scan_at_end : (n : ℕ) → r ≡ Some n → Scanned before (scan_of form s) (leb (length s) n) after
   scan_at_end n e =
       record { answer = whole (length before) n s (scan_of form s) short (sym e ∙ o.answer); values = o.values }
@@ -211,9 +202,6 @@ pub puts_none : (out : List ℕ) (at : ℕ) (form vs : List ℕ) (to : ℕ) → 
 puts_none out at form vs to e = record { done = []; put = record { held = refl; next = omega arith }; rest = refl; few = omega arith }
 
 module _ {before : List ℕ} {at : ℕ} {form vs out : List ℕ} {to j k : ℕ} (o : Puts before at form vs out to j k) where
-  pub puts_long : length out ≡ length before
-  puts_long = let h = o.put.held in ap length h ∙ length-sets before at o.done
-
   module _ (h : j < length form) {out' : List ℕ} {to' : ℕ} where
     pub put_hole : (v : ℕ) → get_or form j 0 ≡ 35 → v ≡ get_or vs k 0 → Put out to (decimal v) out' to' → Puts before at form vs out' to' (j + 1) (k + 1)
     unfolding filled_from

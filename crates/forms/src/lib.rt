@@ -2,13 +2,10 @@
 // Lines by their forms: a form is a text in which # stands for a number.
 #![tactic(auto)]
 
-ghost use Rattle.std.specs.Prelude.{◌≡◌, ◌+◌, min, get_or, drop};
+ghost use Rattle.std.specs.Prelude.{◌≡◌, ◌+◌, min, drop};
 ghost use Rattle.text.specs.Putting.{Put};
 ghost use Rattle.forms.specs.Forms.{filled};
 ghost use Rattle.forms.specs.Scanning.{scan_of, Scanned, ScannedAt};
-
-use text::Number;
-use units::smaller;
 
 const HOLE: u8 = b'#';
 
@@ -18,30 +15,22 @@ pub fn scan_at(s: &[u8], at: usize, form: &[u8], values: &mut [u64]) -> Option<u
     ensures { ScannedAt values.old s.now (scan_of form.now (drop at s.now)) result
         values.new }
 {
-    let mut i = smaller(at as u64, s.len() as u64) as usize;
-    let mut j = 0;
+    let mut i = at.min(s.len());
     let mut k = 0;
-    while j < form.len() {
-        if form[j] == HOLE {
+    for t in form {
+        if *t == HOLE {
             if values.len() <= k {
                 return None;
             }
-            let Number::At { value, next } = text::read_number(s, i) else {
-                return None;
-            };
-            values[k] = value;
+            let number = text::read_number(s, i)?;
+            values[k] = number.value;
             k += 1;
-            i = next;
-            j += 1;
+            i = number.next;
         } else {
-            if s.len() <= i {
-                return None;
-            }
-            if s[i] != form[j] {
+            if *s.get(i)? != *t {
                 return None;
             }
             i += 1;
-            j += 1;
         }
     }
     Some(i)
@@ -51,24 +40,17 @@ pub fn scan_at(s: &[u8], at: usize, form: &[u8], values: &mut [u64]) -> Option<u
 pub fn scan(s: &[u8], form: &[u8], values: &mut [u64]) -> bool
     ensures { Scanned values.old (scan_of form.now s.now) result values.new }
 {
-    let Some(i) = scan_at(s, 0, form, values) else {
-        return false;
-    };
-    s.len() <= i
-}
-
-// The k-th value, and 0 past the end.
-fn value_at(values: &[u64], k: usize) -> u64
-    ensures { result ≡ get_or values.now k 0 }
-{
-    if k < values.len() { values[k] } else { 0 }
+    match scan_at(s, 0, form, values) {
+        Some(i) => s.len() <= i,
+        None => false,
+    }
 }
 
 // A position of a buffer of this length, and one past its end for any past it.
 pub fn within(at: usize, len: usize) -> usize
     ensures { result ≡ min at (len + 1) }
 {
-    if len < at { len + 1 } else { at }
+    at.min(len.saturating_add(1))
 }
 
 // Puts a form with numbers in its holes into a buffer, at a position.
@@ -76,16 +58,13 @@ pub fn put_form_at(out: &mut [u8], at: usize, form: &[u8], values: &[u64]) -> us
     ensures { Put out.old at (filled form.now values.now) out.new result }
 {
     let mut to = within(at, out.len());
-    let mut j = 0;
     let mut k = 0;
-    while j < form.len() {
-        if form[j] == HOLE {
-            to = text::put_number(out, to, value_at(values, k));
+    for b in form {
+        if *b == HOLE {
+            to = text::put_number(out, to, values.get(k).copied().unwrap_or(0));
             k += 1;
-            j += 1;
         } else {
-            to = text::put(out, to, form[j]);
-            j += 1;
+            to = text::put(out, to, *b);
         }
     }
     to

@@ -3,13 +3,13 @@
 use Rattle.std.specs.Prelude.{Option, Some, None}
 use Prim.Native.Nat.{ℕ, suc, ◌+◌, ◌-◌, ◌*◌, ◌≤◌, ◌<◌}
 use mathlib.Core.Path.{◌≡◌, refl, ap, ◌∙◌, sym}
-use mathlib.Core.Bool.{Bool, true, false, not}
+use mathlib.Core.Bool.{Bool, true, false}
 use mathlib.Core.List.{List, [], ◌∷◌, ◌++◌}
 use native.Mathlib.Omega.{arith}
 use borrow.Author.Tests.{le-leb, lt-ltb, leb-true, ltb-true}
 use lib.Dec.{leb, ltb}
 use lib.ListN.{length, drop, get_or, length-append, length-drop, drop_of_length-le}
-use Rattle.units.proofs.Tests.{and_left, and_right, refused, passed}
+use Rattle.units.proofs.Tests.{and_left, and_right}
 use Rattle.text.specs.Decimal.{largest}
 use Rattle.text.specs.Reading.{is_digit, digit_of}
 use Rattle.bitmap.specs.Blocks.{blocks, Outside, Filled}
@@ -18,7 +18,6 @@ use Rattle.forms.specs.Forms.{holes, filled, filled_from}
 use Rattle.forms.specs.Scanning.{found, lost, byte_then, scan_of, ScannedAt}
 use Rattle.forms.proofs.Laws.{filled_length, opened, scan_written, missing, scan_read, scan_at_found, scan_at_nowhere}
 use Rattle.runs.specs.declared.RunLine.{RunLine}
-use Rattle.runs.specs.declared.RunLine.TheVariants as line
 use Rattle.runs.specs.Runs.{Run, RunsApart, total, laid_on}
 use Rattle.runs.specs.Text.{run_line, runs_text}
 use Rattle.runs.specs.Reading.{IsRunLine, run_ok, Counts, Starts, Lays}
@@ -150,19 +149,13 @@ module _ (from end sum : ℕ) (l : List ℕ) (h : end ≤ largest) (first count 
       }
 
   -- the text that is left is shorter
-  pub shorter : length rest < length l
+  shorter : length rest < length l
   unfolding filled_from holes
   shorter =
       let p = (scan_read run_line l (first ∷ count ∷ []) rest e).1 in
       let q : length l ≡ length (filled run_line (first ∷ count ∷ []) ++ rest) = ap length (sym p) in
       let r = length-append (filled run_line (first ∷ count ∷ [])) rest in
       omega arith
-
-line_at : (s l : List ℕ) (r : RunLine) → IsRunLine s l r → (f c n : ℕ) → r ≡ line.At f c n → scan_of run_line l ≡ found (f ∷ c ∷ []) (drop n s)
-line_at s l r h f c n e = let g : IsRunLine s l (line.At f c n) = rw e at h in g
-
-line_bad : (s l : List ℕ) (r : RunLine) → IsRunLine s l r → r ≡ line.Bad → (us rest : List ℕ) → scan_of run_line l ≡ found us rest → ⊥
-line_bad s l r h e = let g : IsRunLine s l line.Bad = rw e at h in g
 
 -- the loop stands at i of the text, with `sum` blocks in runs that end before block `from`: what is right for the text that is left is right for the whole
 pub record Reading (s : List ℕ) (at end i from sum : ℕ) : Type 0 where
@@ -177,35 +170,29 @@ module _ {s : List ℕ} {at end i from sum : ℕ} (h : end ≤ 1099511627776) (o
   left_long : i < length s → 0 < length (drop i s)
   left_long p = let d = length-drop i s in omega arith
 
-  pub read_none : i < length s → (r : RunLine) → IsRunLine s (drop i s) r → r ≡ line.Bad → Counts 0 end 0 (drop at s) None
-  read_none p r q e = o.back None (counts_none from end sum (drop i s) (omega arith) (left_long p) (line_bad s (drop i s) r q e))
+  pub read_none : i < length s → IsRunLine s (drop i s) None → Counts 0 end 0 (drop at s) None
+  read_none p n = o.back None (counts_none from end sum (drop i s) (omega arith) (left_long p) n)
 
   pub read_end : length s ≤ i → Counts 0 end 0 (drop at s) (Some sum)
   read_end p = o.back (Some sum) (rw (drop_of_length-le s p) (counts_end from end sum (omega arith)))
 
-  module _ (r : RunLine) (q : IsRunLine s (drop i s) r) (f c n : ℕ) (e : r ≡ line.At f c n) (g : Bool) (t : g ≡ run_ok f c from end) where
-    pub read_bad : not g ≡ true → Counts 0 end 0 (drop at s) None
-    read_bad u =
-        o.back None (counts_bad from end sum (drop i s) (omega arith) f c (drop n s) (line_at s (drop i s) r q f c n e) (refused (run_ok f c from end) g t u))
+  module _ (r : RunLine) (q : IsRunLine s (drop i s) (Some r)) (g : Bool) (t : g ≡ run_ok r.first r.count from end) where
+    pub read_bad : g ≡ false → Counts 0 end 0 (drop at s) None
+    read_bad u = o.back None (counts_bad from end sum (drop i s) (omega arith) r.first r.count (drop r.next s) q (sym t ∙ u))
 
-    pub read_sums : not g ≡ false → (sum + c ≤ end) × (f + c ≤ end)
+    pub read_sums : g ≡ true → (sum + r.count ≤ end) × (r.first + r.count ≤ end)
     read_sums u =
-        let k = run_ok_lem f c from end (passed (run_ok f c from end) g t u) in
+        let k = run_ok_lem r.first r.count from end (sym t ∙ u) in
         let a = k.0 in
         let b = k.2 in
         let d = o.few in
         (omega arith, b)
 
-    pub read_less : i < length s → length s - n < length s - i
-    read_less p =
-        let a = shorter from end sum (drop i s) (omega arith) f c (drop n s) (line_at s (drop i s) r q f c n e) in
-        let b = length-drop i s in
-        let d = length-drop n s in
-        omega arith
-
-    pub read_turn : not g ≡ false → Reading s at end n (f + c + 1) (sum + c)
+    pub read_turn : g ≡ true → Reading s at end r.next (r.first + r.count + 1) (sum + r.count)
     read_turn u =
-        let y = passed (run_ok f c from end) g t u in
+        let f = r.first in
+        let c = r.count in
+        let y = sym t ∙ u in
         let k = read_sums u in
         let a = k.0 in
         let b = k.1 in
@@ -213,18 +200,20 @@ module _ {s : List ℕ} {at end i from sum : ℕ} (h : end ≤ 1099511627776) (o
         let d = o.few in
         let z : f + c + 1 ≡ suc (f + c) = omega arith in
         record {
-          back =
-              λ w v.
-              o.back w (counts_turn from end sum (drop i s) (omega arith) f c (drop n s) (line_at s (drop i s) r q f c n e) w y (rw z at v));
+          back = λ w v. o.back w (counts_turn from end sum (drop i s) (omega arith) f c (drop r.next s) q w y (rw z at v));
           few = omega arith;
           inside = omega arith;
         }
 
--- ---- `lay_runs`
+-- each line that is read leaves less of the text
+pub line_less : (s : List ℕ) (i : ℕ) (r : RunLine) → IsRunLine s (drop i s) (Some r) → length s - r.next < length s - i
+line_less s i r q =
+    let a = shorter 0 0 0 (drop i s) (omega arith) r.first r.count (drop r.next s) q in
+    let b = length-drop i s in
+    let d = length-drop r.next s in
+    omega arith
 
-nothing_there : scan_of run_line [] ≡ lost []
-unfolding scan_of byte_then
-nothing_there = refl
+-- ---- `lay_runs`
 
 same_outside : (entry : List ℕ) (end : ℕ) → Outside entry entry 0 end
 same_outside entry end = record { same_length = refl; same_before = λ n h. refl; same_past = λ n h. refl }
@@ -302,29 +291,15 @@ pub setting_start : (s : List ℕ) (at : ℕ) (entry : List ℕ) → Setting s a
 setting_start s at entry = record { back = λ x o. o; long = refl }
 
 module _ {s : List ℕ} {at : ℕ} {entry : List ℕ} {i : ℕ} {cur : List ℕ} (o : Setting s at entry i cur) where
-  pub set_none : (r : RunLine) → IsRunLine s (drop i s) r → r ≡ line.Bad → Lays (drop at s) entry cur
-  set_none r q e = o.back cur (lays_none (drop i s) cur (line_bad s (drop i s) r q e))
+  pub set_none : IsRunLine s (drop i s) None → Lays (drop at s) entry cur
+  set_none n = o.back cur (lays_none (drop i s) cur n)
 
-  pub set_end : length s ≤ i → Lays (drop at s) entry cur
-  set_end h = o.back cur (rw (drop_of_length-le s h) (lays_none [] cur empty))
-    where
-      empty : (us rest : List ℕ) → scan_of run_line [] ≡ found us rest → ⊥
-      empty us rest q = missing (sym nothing_there ∙ q)
-
-  module _ (r : RunLine) (q : IsRunLine s (drop i s) r) (f c n : ℕ) (e : r ≡ line.At f c n) where
-    pub set_less : i < length s → length s - n < length s - i
-    set_less p =
-        let a = shorter 0 0 0 (drop i s) (omega arith) f c (drop n s) (line_at s (drop i s) r q f c n e) in
-        let b = length-drop i s in
-        let d = length-drop n s in
-        omega arith
-
-    pub set_turn : (cur' : List ℕ) → Filled cur cur' f c true → Setting s at entry n cur'
-    set_turn cur' d =
-        record {
-          back = λ x v. o.back x (lays_turn (drop i s) (drop n s) f c cur cur' x (line_at s (drop i s) r q f c n e) d v);
-          long = d.outside.same_length ∙ o.long;
-        }
+  pub set_turn : (r : RunLine) → IsRunLine s (drop i s) (Some r) → (cur' : List ℕ) → Filled cur cur' r.first r.count true → Setting s at entry r.next cur'
+  set_turn r q cur' d =
+      record {
+        back = λ x v. o.back x (lays_turn (drop i s) (drop r.next s) r.first r.count cur cur' x q d v);
+        long = d.outside.same_length ∙ o.long;
+      }
 
 -- ---- how long the lines are
 

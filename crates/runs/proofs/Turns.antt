@@ -20,7 +20,6 @@ use Rattle.forms.proofs.Laws.{filled_length}
 use Rattle.bitmap.specs.Blocks.{block_at, every, range, all_are, next_in_state}
 use Rattle.bitmap.proofs.Laws.{range-take, range_length, next_at, next_nothing}
 use Rattle.runs.specs.declared.NextRun.{NextRun}
-use Rattle.runs.specs.declared.NextRun.TheVariants as run
 use Rattle.runs.specs.Runs.{closed, runs_from, runs_of}
 use Rattle.runs.specs.Text.{run_line, line_of, runs_text}
 use Rattle.runs.specs.Next.{InARow, IsNext}
@@ -98,7 +97,7 @@ run_closes cs i n e =
     (λ t. let d = drop_of_length-le cs {i = i} (ltb-false i (length cs) t) in rw d)
 
 module _ (bs : List Bool) (end from : ℕ) (r : Option ℕ) (e : r ≡ next_in_state true bs from end) where
-  pub next_found : (first n : ℕ) → r ≡ Some first → (first < length (take end bs)) × (InARow (take end bs) first n → IsNext (take end bs) from (run.At first n))
+  pub next_found : (first n : ℕ) → r ≡ Some first → (first < length (take end bs)) × (InARow (take end bs) first n → IsNext (take end bs) from (Some (record { first = first; count = n })))
   next_found first n q =
       let cs = take end bs in
       let low = next_at true bs from end first (sym e ∙ q) in
@@ -158,16 +157,12 @@ pub record Walk (bs : List Bool) (done : List ℕ) (i : ℕ) : Type 0 where
 pub walk_start : (bs : List Bool) → Walk bs [] 0
 walk_start bs = record { rest = refl }
 
-next_is : (bs : List Bool) (i : ℕ) (r : NextRun) → IsNext bs i r → (f n : ℕ) → r ≡ run.At f n → IsNext bs i (run.At f n)
-next_is bs i r h f n e = let g : IsNext bs i (run.At f n) = rw e at h in g
-
-none_is : (bs : List Bool) (i : ℕ) (r : NextRun) → IsNext bs i r → r ≡ run.Nothing → IsNext bs i run.Nothing
-none_is bs i r h e = let g : IsNext bs i run.Nothing = rw e at h in g
-
 module _ {bs : List Bool} {done : List ℕ} {i : ℕ} (o : Walk bs done i) where
-  walk_run : (f n : ℕ) → IsNext bs i (run.At f n) → Walk bs (done ++ line_of f n) (f + n)
+  walk_run : (r : NextRun) → IsNext bs i (Some r) → Walk bs (done ++ line_of r.first r.count) (r.first + r.count)
   unfolding runs_text
-  walk_run f n h =
+  walk_run r h =
+      let f = r.first in
+      let n = r.count in
       record {
         rest =
             append_assoc done (line_of f n) (runs_text (runs_from (f + n) 0 (drop (f + n) bs)))
@@ -177,10 +172,6 @@ module _ {bs : List Bool} {done : List ℕ} {i : ℕ} (o : Walk bs done i) where
   walk_none : runs_from i 0 (drop i bs) ≡ [] → done ≡ runs_text (runs_of bs)
   unfolding runs_text
   walk_none e = sym (append-nil done) ∙ ap (λ (l : List ℕ). done ++ l) (sym (ap runs_text e)) ∙ o.rest
-
-  walk_end : length bs ≤ i → done ≡ runs_text (runs_of bs)
-  unfolding runs_from closed
-  walk_end h = let d = drop_of_length-le bs {i = i} h in walk_none (rw d)
 
 -- ---- `put_runs`: what is behind the walk stands in the buffer
 pub record Going (before : List ℕ) (at : ℕ) (bs : List Bool) (out : List ℕ) (to i : ℕ) : Type 0 where
@@ -194,27 +185,23 @@ going_start out at bs to e = record { done = []; put = record { held = refl; nex
 pub put_long : {before after text : List ℕ} {at r : ℕ} → Put before at text after r → length after ≡ length before
 put_long {before} {after} {text} {at} p = let h = p.held in ap length h ∙ length-sets before at text
 
-module _ {before : List ℕ} {at : ℕ} (bs : List Bool) {out : List ℕ} {to i : ℕ} (end : ℕ) (o : Going before at (take end bs) out to i) (r : NextRun) (h : IsNext (take end bs) i r) where
-  pub going_run : (f n : ℕ) → r ≡ run.At f n → {out' : List ℕ} {to' : ℕ} → Put out to (line_of f n) out' to' → Going before at (take end bs) out' to' (f + n)
-  going_run f n e p = record { done = o.done ++ line_of f n; put = then o.put p; walk = walk_run o.walk f n (next_is (take end bs) i r h f n e) }
+module _ {before : List ℕ} {at : ℕ} (bs : List Bool) {out : List ℕ} {to i : ℕ} (o : Going before at bs out to i) where
+  pub going_run : (r : NextRun) → IsNext bs i (Some r) → {out' : List ℕ} {to' : ℕ} → Put out to (line_of r.first r.count) out' to' → Going before at bs out' to' (r.first + r.count)
+  going_run r h p = record { done = o.done ++ line_of r.first r.count; put = then o.put p; walk = walk_run o.walk r h }
 
-  pub going_none : r ≡ run.Nothing → Put before at (runs_text (runs_of (take end bs))) out to
-  going_none e = let w = walk_none o.walk (none_is (take end bs) i r h e) in rw (← w) o.put
+  pub going_none : IsNext bs i None → Put before at (runs_text (runs_of bs)) out to
+  going_none h = let w = walk_none o.walk h in rw (← w) o.put
 
 pub going_long : {before : List ℕ} {at : ℕ} {bs : List Bool} {out : List ℕ} {to i : ℕ} → Going before at bs out to i → length out ≡ length before
 going_long {before} {at} o = put_long o.put
 
-pub going_end : {before : List ℕ} {at : ℕ} (bs : List Bool) {out : List ℕ} {to i : ℕ} (end : ℕ) → Going before at (take end bs) out to i → end ≤ i → Put before at (runs_text (runs_of (take end bs))) out to
-going_end bs end o h = let l = first_length bs end in let w = walk_end o.walk (omega arith) in rw (← w) o.put
-
 -- a run ends at or before the end, and behind the block where the walk stood
-pub run_inside : (bs : List Bool) (end i : ℕ) (r : NextRun) → IsNext (take end bs) i r → (f n : ℕ) → r ≡ run.At f n → (f + n ≤ end) × (i < f + n)
-run_inside bs end i r h f n e =
-    let g = next_is (take end bs) i r h f n e in
+pub run_inside : (bs : List Bool) (end i : ℕ) (r : NextRun) → IsNext (take end bs) i (Some r) → (r.first + r.count ≤ end) × (i < r.first + r.count)
+run_inside bs end i r h =
     let l = first_length bs end in
-    let a = g.0 in
-    let b = g.1 in
-    let c = g.2 in
+    let a = h.0 in
+    let b = h.1 in
+    let c = h.2 in
     (omega arith, omega arith)
 
 -- ---- `line_length`: no line is longer than 46 bytes
@@ -234,19 +221,12 @@ pub record Measured (bs : List Bool) (sum i : ℕ) : Type 0 where
 pub measured_start : (bs : List Bool) → Measured bs 0 0
 measured_start bs = record { done = []; is_sum = omega arith; walk = walk_start bs }
 
-module _ (bs : List Bool) {sum i : ℕ} (end : ℕ) (o : Measured (take end bs) sum i) where
-  sum_is : o.done ≡ runs_text (runs_of (take end bs)) → sum ≡ saturated (length (runs_text (runs_of (take end bs))))
-  sum_is e = o.is_sum ∙ ap (λ (t : List ℕ). saturated (length t)) e
+module _ (bs : List Bool) {sum i : ℕ} (o : Measured bs sum i) where
+  pub measured_none : IsNext bs i None → sum ≡ saturated (length (runs_text (runs_of bs)))
+  measured_none h = o.is_sum ∙ ap (λ (t : List ℕ). saturated (length t)) (walk_none o.walk h)
 
-  pub measured_end : end ≤ i → sum ≡ saturated (length (runs_text (runs_of (take end bs))))
-  measured_end h = let l = first_length bs end in sum_is (walk_end o.walk (omega arith))
-
-  module _ (r : NextRun) (h : IsNext (take end bs) i r) where
-    pub measured_none : r ≡ run.Nothing → sum ≡ saturated (length (runs_text (runs_of (take end bs))))
-    measured_none e = sum_is (walk_none o.walk (none_is (take end bs) i r h e))
-
-    pub measured_run : (f n line sum' : ℕ) → r ≡ run.At f n → line ≡ length (line_of f n) → sum' ≡ saturated (sum + line) → Measured (take end bs) sum' (f + n)
-    measured_run f n line sum' e p q =
-        let s = o.is_sum in
-        let l = length-append o.done (line_of f n) in
-        record { done = o.done ++ line_of f n; is_sum = omega arith; walk = walk_run o.walk f n (next_is (take end bs) i r h f n e) }
+  pub measured_run : (r : NextRun) → IsNext bs i (Some r) → (line sum' : ℕ) → line ≡ length (line_of r.first r.count) → sum' ≡ saturated (sum + line) → Measured bs sum' (r.first + r.count)
+  measured_run r h line sum' p q =
+      let s = o.is_sum in
+      let l = length-append o.done (line_of r.first r.count) in
+      record { done = o.done ++ line_of r.first r.count; is_sum = omega arith; walk = walk_run o.walk r h }

@@ -1,17 +1,16 @@
 -- SPDX-License-Identifier: Apache-2.0 AND BSD-3-Clause
 -- What counting the runs of a text, and laying them on a bitmap, promise.
-use Rattle.std.specs.Prelude.{ℕ, ◌+◌, ◌≡◌, Bool, ◌&&◌, List, [], ◌∷◌, leb, ltb, length, drop, Option, Some}
+use Rattle.std.specs.Prelude.{ℕ, ◌+◌, ◌≡◌, Bool, ◌&&◌, List, [], ◌∷◌, leb, ltb, length, drop, Option, Some, None}
 use Rattle.bitmap.specs.Blocks.{blocks, Outside}
 use Rattle.forms.specs.Scanning.{found, scan_of}
 use Rattle.runs.specs.declared.RunLine.{RunLine}
-use Rattle.runs.specs.declared.RunLine.TheVariants as line
 use Rattle.runs.specs.Runs.{Run, RunsApart, total, laid_on}
 use Rattle.runs.specs.Text.{run_line, runs_text}
 
 -- the text l, which is s from some position on, starts with a run's line, or it does not
-abbrev pub IsRunLine : (s l : List ℕ) → RunLine → Type 0
-IsRunLine s l (line.At first count next) = scan_of run_line l ≡ found (first ∷ count ∷ []) (drop next s)
-IsRunLine s l line.Bad = (us rest : List ℕ) → scan_of run_line l ≡ found us rest → ⊥
+abbrev pub IsRunLine : (s l : List ℕ) → Option RunLine → Type 0
+IsRunLine s l (Some r) = scan_of run_line l ≡ found (r.first ∷ r.count ∷ []) (drop r.next s)
+IsRunLine s l None = (us rest : List ℕ) → scan_of run_line l ≡ found us rest → ⊥
 
 unfoldable pub run_ok : (first count from end : ℕ) → Bool
 run_ok first count from end = leb from first && (ltb 0 count && leb (first + count) end)

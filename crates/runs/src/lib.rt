@@ -13,23 +13,23 @@ ghost use Rattle.runs.specs.Next.{InARow, IsNext};
 ghost use Rattle.runs.specs.Reading.{IsRunLine, run_ok, Counts, Lays};
 
 use bitmap::{next_clear, next_set};
-use units::{saturating_add, sum_within};
+use units::sum_within;
 
 // How many bytes a run's line has room for: more than any has.
 const LINE: usize = 64;
 
 // A run of set blocks: its first block, and how many there are.
-#[derive(Drop)]
-enum NextRun {
-    At { first: usize, count: usize },
-    Nothing,
+#[derive(Clone, Copy, Debug, PartialEq, Eq)]
+struct NextRun {
+    first: usize,
+    count: usize,
 }
 
 // How many blocks a bitmap of this length has among the first `end`.
 fn blocks_within(len: usize, end: usize) -> usize
     ensures { result ≡ min end (8 * len) }
 {
-    if end / 8 < len { end } else { 8 * len }
+    end.min(len.saturating_mul(8))
 }
 
 // How many set blocks stand in a row from `first` on, among the first `end`.
@@ -45,31 +45,26 @@ fn count_from(bitmap: &[u8], first: usize, end: usize) -> usize
 
 // The next run from `from` on, among the first `end` blocks. Bytes without a set block, and those with no other, are
 // passed at once.
-fn next_run(bitmap: &[u8], from: usize, end: usize) -> NextRun
+fn next_run(bitmap: &[u8], from: usize, end: usize) -> Option<NextRun>
     ensures { IsNext (take end (blocks bitmap.now)) from result }
 {
-    let Some(first) = next_set(bitmap, from, end) else {
-        return NextRun::Nothing;
-    };
-    NextRun::At {
+    let first = next_set(bitmap, from, end)?;
+    Some(NextRun {
         first,
         count: count_from(bitmap, first, end),
-    }
+    })
 }
 
-// Puts the runs of set blocks among the first `end`.
+// Puts the runs of set blocks among the first `end`. The lines go into a lent buffer: there is no heap for a String.
 pub fn put_runs(out: &mut [u8], at: usize, bitmap: &[u8], end: usize) -> usize
     ensures { Put out.old at
         (runs_text (runs_of (take end (blocks bitmap.now)))) out.new result }
 {
     let mut to = forms::within(at, out.len());
     let mut i = 0;
-    while i < end {
-        let NextRun::At { first, count } = next_run(bitmap, i, end) else {
-            return to;
-        };
-        to = forms::put_form_at(out, to, b"run=#,#\n", &[first as u64, count as u64]);
-        i = first + count;
+    while let Some(run) = next_run(bitmap, i, end) {
+        to = forms::put_form_at(out, to, b"run=#,#\n", &[run.first as u64, run.count as u64]);
+        i = run.first + run.count;
     }
     to
 }
@@ -86,45 +81,41 @@ fn line_length(first: u64, count: u64) -> u64
 pub fn runs_length(bitmap: &[u8], end: usize) -> u64
     ensures { result ≡ saturated (length (runs_text (runs_of (take end (blocks bitmap.now))))) }
 {
-    let mut sum = 0;
+    let mut sum: u64 = 0;
     let mut i = 0;
-    while i < end {
-        let NextRun::At { first, count } = next_run(bitmap, i, end) else {
-            return sum;
-        };
-        sum = saturating_add(sum, line_length(first as u64, count as u64));
-        i = first + count;
+    while let Some(run) = next_run(bitmap, i, end) {
+        sum = sum.saturating_add(line_length(run.first as u64, run.count as u64));
+        i = run.first + run.count;
     }
     sum
 }
 
 // A run's line, and where the text goes on.
-#[derive(Drop)]
-enum RunLine {
-    At { first: u64, count: u64, next: usize },
-    Bad,
+#[derive(Clone, Copy, Debug, PartialEq, Eq)]
+struct RunLine {
+    first: u64,
+    count: u64,
+    next: usize,
 }
 
-// The run's line at a position of a text.
-fn run_at(s: &[u8], at: usize) -> RunLine
-    ensures { IsRunLine s.now (drop at s.now) result }
-{
-    let mut v = [0u64; 2];
-    let Some(next) = forms::scan_at(s, at, b"run=#,#\n", &mut v) else {
-        return RunLine::Bad;
-    };
-    RunLine::At {
-        first: v[0],
-        count: v[1],
-        next,
+impl RunLine {
+    // Whether a run is not empty, begins at `from` or after and ends at `end` or before.
+    #[tactic(auto, unfolding(crate::specs::Reading::run_ok))]
+    fn is_ok(self, from: u64, end: u64) -> bool
+        ensures { result ≡ run_ok self.first self.count from end }
+    {
+        from <= self.first && 0 < self.count && sum_within(self.first, self.count, end)
     }
 }
 
-// Whether a run is not empty, begins at `from` or after and ends at `end` or before.
-fn run_ok(first: u64, count: u64, from: u64, end: u64) -> bool
-    ensures { result ≡ run_ok first count from end }
+// The run's line at a position of a text.
+fn run_at(s: &[u8], at: usize) -> Option<RunLine>
+    ensures { IsRunLine s.now (drop at s.now) result }
 {
-    (from <= first) & ((0 < count) & sum_within(first, count, end))
+    let mut v = [0u64; 2];
+    let next = forms::scan_at(s, at, b"run=#,#\n", &mut v)?;
+    let [first, count] = v;
+    Some(RunLine { first, count, next })
 }
 
 // Whether the text from a position on is that of runs that neither touch nor fall back, none past block `end`; and
@@ -136,15 +127,13 @@ pub fn count_runs(s: &[u8], at: usize, end: u32) -> Option<u64>
     let mut from = 0;
     let mut sum = 0;
     while i < s.len() {
-        let RunLine::At { first, count, next } = run_at(s, i) else {
-            return None;
-        };
-        if !run_ok(first, count, from, end as u64) {
+        let run = run_at(s, i)?;
+        if !run.is_ok(from, end as u64) {
             return None;
         }
-        sum += count;
-        from = first + count + 1;
-        i = next;
+        sum += run.count;
+        from = run.first + run.count + 1;
+        i = run.next;
     }
     Some(sum)
 }
@@ -154,11 +143,8 @@ pub fn lay_runs(s: &[u8], at: usize, bitmap: &mut [u8])
     ensures { Lays (drop at s.now) bitmap.old bitmap.new }
 {
     let mut i = at;
-    while i < s.len() {
-        let RunLine::At { first, count, next } = run_at(s, i) else {
-            return;
-        };
-        bitmap::set_range(bitmap, first as usize, count as usize, true);
-        i = next;
+    while let Some(run) = run_at(s, i) {
+        bitmap::set_range(bitmap, run.first as usize, run.count as usize, true);
+        i = run.next;
     }
 }

@@ -1,31 +1,20 @@
 -- SPDX-License-Identifier: Apache-2.0 AND BSD-3-Clause
--- `forms::put_form_at` meets its contract. The invariant: the text put so far, with what is left of the form filled, is the whole (`Puts`).
-use Rattle.forms.proofs.Turns.{puts_none, puts_long, put_hole, put_byte, put_end}
+-- `forms::put_form_at` meets its contract: a hole's number, or the form's byte, goes after what was put (`Puts`).
+use mathlib.Core.Path.{ap, ◌∙◌}
+use native.Mathlib.Omega.{arith}
+use Rattle.std.specs.Prelude.{ℕ, Option, unwrap_or}
+use Rattle.forms.proofs.Turns.{put_hole, put_byte, put_end}
 use Rattle.forms.proofs.put_form_at.Goals as goal
+use Rattle.forms.proofs.put_form_at.Goals.{then-b-eq-HOLE, else-b-eq-HOLE}
 
-pub within-to-requires : goal.within-to-requires
-within-to-requires c = tt
-
-pub loop-j-init : goal.loop-j-init
-loop-j-init c = puts_none _ _ _ _ _ c.within-to.ensures
-
-pub value_at-requires : goal.value_at-requires
-value_at-requires c = tt
-
-pub put_number-to-requires : goal.put_number-to-requires
-put_number-to-requires c = tt
-
-pub loop-j-preserved-then-form-j-eq-HOLE : goal.loop-j-preserved-then-form-j-eq-HOLE
-loop-j-preserved-then-form-j-eq-HOLE c = put_hole c.loop-j.invariant c.loop-j-test.true _ c.if-form-j-eq-HOLE.true c.value_at.ensures c.put_number-to.ensures
-
-pub put-to-requires : goal.put-to-requires
-put-to-requires c = tt
-
-pub loop-j-preserved : goal.loop-j-preserved
-loop-j-preserved c = put_byte c.loop-j.invariant c.loop-j-test.true c.if-form-j-eq-HOLE.false c.put-to.ensures
-
-pub shape_of-out : goal.shape_of-out
-shape_of-out c = puts_long c.loop-j.invariant
+pub loop-b-preserved : goal.loop-b-preserved
+loop-b-preserved c =
+    elim c.if-b-eq-HOLE.branch [
+      | then-b-eq-HOLE w ↦
+          let number = w.unwrap_or.ensures ∙ ap (λ (o : Option ℕ). unwrap_or o 0) w.copied.ensures ∙ w.get.ensures.lookup.4 (omega arith) 0 in
+          rw (w.out-is, w.to-is, w.k-is) (put_hole c.loop-b.invariant c.loop-b-test.true _ w.if-b-eq-HOLE.true number w.put_number-to.ensures)
+      | else-b-eq-HOLE w ↦ rw (w.out-is, w.to-is, w.k-is) (put_byte c.loop-b.invariant c.loop-b-test.true w.if-b-eq-HOLE.false w.put-to.ensures)
+    ]
 
 pub returns : goal.returns
-returns c = put_end c.loop-j.invariant c.loop-j-test.false
+returns c = put_end c.loop-b.invariant c.loop-b-test.false

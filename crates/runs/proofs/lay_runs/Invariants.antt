@@ -5,8 +5,8 @@ use lib.ListN.{length}
 use Rattle.runs.proofs.Lines.{Setting}
 use Rattle.runs.proofs.lay_runs.Given as goal
 
-abbrev pub invariant-loop-i : goal.invariant-loop-i
-invariant-loop-i l = Setting l.s l.at l.initial.bitmap l.i l.bitmap
+abbrev pub invariant-loop-run : goal.invariant-loop-run
+invariant-loop-run l = Setting l.s l.at l.initial.bitmap l.i l.bitmap
 
-abbrev pub decreases-loop-i : goal.decreases-loop-i
-decreases-loop-i l = length l.s - l.i
+abbrev pub decreases-loop-run : goal.decreases-loop-run
+decreases-loop-run l = length l.s - l.i

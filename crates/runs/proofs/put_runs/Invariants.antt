@@ -6,8 +6,8 @@ use Rattle.bitmap.specs.Blocks.{blocks}
 use Rattle.runs.proofs.Turns.{Going}
 use Rattle.runs.proofs.put_runs.Given as goal
 
-abbrev pub invariant-loop-i : goal.invariant-loop-i
-invariant-loop-i l = Going l.initial.out l.at (take l.end (blocks l.bitmap)) l.out l.to l.i
+abbrev pub invariant-loop-run : goal.invariant-loop-run
+invariant-loop-run l = Going l.initial.out l.at (take l.end (blocks l.bitmap)) l.out l.to l.i
 
-abbrev pub decreases-loop-i : goal.decreases-loop-i
-decreases-loop-i l = l.end - l.i
+abbrev pub decreases-loop-run : goal.decreases-loop-run
+decreases-loop-run l = l.end - l.i

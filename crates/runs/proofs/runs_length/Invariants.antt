@@ -6,8 +6,8 @@ use Rattle.bitmap.specs.Blocks.{blocks}
 use Rattle.runs.proofs.Turns.{Measured}
 use Rattle.runs.proofs.runs_length.Given as goal
 
-abbrev pub invariant-loop-i : goal.invariant-loop-i
-invariant-loop-i l = Measured (take l.end (blocks l.bitmap)) l.sum l.i
+abbrev pub invariant-loop-run : goal.invariant-loop-run
+invariant-loop-run l = Measured (take l.end (blocks l.bitmap)) l.sum l.i
 
-abbrev pub decreases-loop-i : goal.decreases-loop-i
-decreases-loop-i l = l.end - l.i
+abbrev pub decreases-loop-run : goal.decreases-loop-run
+decreases-loop-run l = l.end - l.i
