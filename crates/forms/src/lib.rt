@@ -53,7 +53,7 @@ pub fn within(at: usize, len: usize) -> usize
     at.min(len.saturating_add(1))
 }
 
-// Puts a form with numbers in its holes into a buffer, at a position.
+// Puts a form with numbers in its holes into a lent buffer, at a position: there is no heap for a String.
 pub fn put_form_at(out: &mut [u8], at: usize, form: &[u8], values: &[u64]) -> usize
     ensures { Put out.old at (filled form.now values.now) out.new result }
 {

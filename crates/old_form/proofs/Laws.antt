@@ -1,5 +1,6 @@
 -- SPDX-License-Identifier: Apache-2.0 AND BSD-3-Clause
 -- Old bytes and blocks tell each other; and moving there and back gives the same bytes, or the same text.
+use Rattle.std.specs.Prelude.{Result, Ok, Err}
 use Prim.Native.Nat.{ℕ, zero, suc, ◌+◌, ◌≤◌}
 use mathlib.Core.Path.{◌≡◌, refl, ap, ◌∙◌, sym}
 use mathlib.Core.Bool.{Bool, true, false, cond, ◌&&◌}
@@ -11,10 +12,8 @@ use lib.ListN.{length, take, drop}
 use lib.Seq.{sets, sets-eq, take_at}
 use Rattle.units.proofs.Tests.{and_left, and_right}
 use Rattle.save.specs.declared.Fields.{Fields}
-use Rattle.save.specs.declared.Wrote.{Wrote}
-use Rattle.save.specs.declared.Wrote.TheVariants.{Text, Refused}
-use Rattle.save.specs.declared.Got.{Got}
-use Rattle.save.specs.declared.Got.TheVariants as got
+use Rattle.refusal.specs.declared.Refusal.{Refusal}
+use Rattle.refusal.specs.declared.Refusal.TheVariants as refusal
 use Rattle.save.specs.Text.{state_text, shape_ok, all_of, valid_of, IsState, Says}
 use Rattle.save.specs.Writing.{written_on}
 use Rattle.save.specs.Reading.{no_room}
@@ -62,12 +61,12 @@ bits_length (x ∷ xs) = ap suc (bits_length xs)
 -- ---- the forms say the same: old bytes of a state, and its text
 
 -- what is moved to new is a state
-pub moved_state : (f : Fields) (old scratch : List ℕ) (room n : ℕ) → Text n ≡ moved_of f old scratch room
+pub moved_state : (f : Fields) (old scratch : List ℕ) (room n : ℕ) → Ok n ≡ moved_of f old scratch room
     → (is_old old ≡ true) × IsState f (bits_of old) × (n ≡ length (new_text f old)) × (n ≤ room)
 unfolding moved_of old_ok
 moved_state f old scratch room n e = go (no_room scratch) refl
   where
-    good : (b : Bool) → (old_ok f old && (valid_of f (bits_of old) && leb (length (new_text f old)) room)) ≡ b → Text n ≡ cond b (Text (length (new_text f old))) (Refused 18)
+    good : (b : Bool) → (old_ok f old && (valid_of f (bits_of old) && leb (length (new_text f old)) room)) ≡ b → Ok n ≡ cond b (Ok (length (new_text f old))) (Err refusal.NoState)
         → (is_old old ≡ true) × IsState f (bits_of old) × (n ≡ length (new_text f old)) × (n ≤ room)
     good true p q =
         let ok = and_left (old_ok f old) _ p in
@@ -84,12 +83,12 @@ moved_state f old scratch room n e = go (no_room scratch) refl
     good false p q = let z : ◌≡◌ {A = ℕ} 0 1 = cc in absurd (omega arith)
 
     go : (b : Bool) → no_room scratch ≡ b → (is_old old ≡ true) × IsState f (bits_of old) × (n ≡ length (new_text f old)) × (n ≤ room)
-    go true p = let q : Text n ≡ Refused 11 = e ∙ rw p in let z : ◌≡◌ {A = ℕ} 0 1 = cc in absurd (omega arith)
+    go true p = let q : Ok n ≡ Err refusal.TooShort = e ∙ rw p in let z : ◌≡◌ {A = ℕ} 0 1 = cc in absurd (omega arith)
     go false p = good _ refl (e ∙ rw p)
 
 -- a state's old bytes are moved to its text, where there is room
 pub state_moved : (f : Fields) (bs : List Bool) (scratch : List ℕ) (room : ℕ) → IsState f bs → no_room scratch ≡ false → length (state_text 2 f bs) ≤ room
-    → moved_of f (old_of bs) scratch room ≡ Text (length (state_text 2 f bs))
+    → moved_of f (old_of bs) scratch room ≡ Ok (length (state_text 2 f bs))
 unfolding moved_of old_ok
 state_moved f bs scratch room st long fits =
     let b = bits_old bs in
@@ -103,9 +102,9 @@ pub first_of : (text out : List ℕ) → length text ≤ length out → take (le
 first_of text out h = ap (take (length text)) (sets-eq text out 0 (omega arith)) ∙ take_at text (drop (0 + length text) out) (length text) refl
 
 -- R15.10: from whatever was written, with any scratch, into any buffer with room
-pub old_new_old : {f : Fields} {old scratch scratch' out out' : List ℕ} {n : ℕ} → ToNew f old scratch scratch' out out' (Text n)
-    → (work work' into into' : List ℕ) (r : Got) → no_room work ≡ false → length old ≤ length into → ToOld (take n out') work work' into into' r
-    → (r ≡ got.Fields f) × (take (length old) into' ≡ old)
+pub old_new_old : {f : Fields} {old scratch scratch' out out' : List ℕ} {n : ℕ} → ToNew f old scratch scratch' out out' (Ok n)
+    → (work work' into into' : List ℕ) (r : Result Fields Refusal) → no_room work ≡ false → length old ≤ length into → ToOld (take n out') work work' into into' r
+    → (r ≡ Ok f) × (take (length old) into' ≡ old)
 old_new_old {f} {old} {scratch} {scratch'} {out} {out'} {n} m work work' into into' r long room o =
     let k = moved_state f old scratch (length out) n m.answer in
     let len = k.2 in
@@ -114,26 +113,26 @@ old_new_old {f} {old} {scratch} {scratch'} {out} {out'} {n} m work work' into in
     let says : Says (take n out') f (bits_of old) = record { state = k.1; text = sym text } in
     go r o says k.0
   where
-    go : (r : Got) → ToOld (take n out') work work' into into' r → Says (take n out') f (bits_of old) → is_old old ≡ true → (r ≡ got.Fields f) × (take (length old) into' ≡ old)
-    go (got.Fields g) o says is =
+    go : (r : Result Fields Refusal) → ToOld (take n out') work work' into into' r → Says (take n out') f (bits_of old) → is_old old ≡ true → (r ≡ Ok f) × (take (length old) into' ≡ old)
+    go (Ok g) o says is =
         let same = one_text (take n out') g f o.0 (bits_of old) o.1.says says in
         let b = old_bits old is in
         let bytes : old_of o.0 ≡ old = ap old_of same.1 ∙ b in
-        (ap got.Fields same.0, ap (take (length old)) o.3 ∙ take_at (old_of o.0) (drop (length o.0) into) (length old) (ap length bytes) ∙ bytes)
-    go (got.Refused q) o says is =
+        (ap Ok same.0, ap (take (length old)) o.3 ∙ take_at (old_of o.0) (drop (length o.0) into) (length old) (ap length bytes) ∙ bytes)
+    go (Err q) o says is =
         let b = bits_length old in
         absurd (o.0.none f (bits_of old) (record { long = long; says = says; fits = omega arith }))
 
 -- R15.10
-pub new_old_new : (s scratch scratch' old old' : List ℕ) (f : Fields) (o : ToOld s scratch scratch' old old' (got.Fields f))
-    → (work work' out out' : List ℕ) (r : Wrote) → no_room work ≡ false → length s ≤ length out → ToNew f (take (all_of f) old') work work' out out' r
-    → (r ≡ Text (length s)) × (take (length s) out' ≡ s)
+pub new_old_new : (s scratch scratch' old old' : List ℕ) (f : Fields) (o : ToOld s scratch scratch' old old' (Ok f))
+    → (work work' out out' : List ℕ) (r : Result ℕ Refusal) → no_room work ≡ false → length s ≤ length out → ToNew f (take (all_of f) old') work work' out out' r
+    → (r ≡ Ok (length s)) × (take (length s) out' ≡ s)
 new_old_new s scratch scratch' old old' f o work work' out out' r long room m =
     let st = o.1.says.state in
     let text = o.1.says.text in
     let bytes : take (all_of f) old' ≡ old_of o.0 = ap (take (all_of f)) o.3 ∙ take_at (old_of o.0) (drop (length o.0) old) (all_of f) (old_length o.0 ∙ st.all) in
     let same : length (state_text 2 f o.0) ≡ length s = ap length text in
-    let answer : r ≡ Text (length s) = m.answer ∙ ap (λ (x : List ℕ). moved_of f x work (length out)) bytes ∙ state_moved f o.0 work (length out) st long (omega arith) ∙ ap Text same in
+    let answer : r ≡ Ok (length s) = m.answer ∙ ap (λ (x : List ℕ). moved_of f x work (length out)) bytes ∙ state_moved f o.0 work (length out) st long (omega arith) ∙ ap Ok same in
     let new : new_text f (take (all_of f) old') ≡ s = ap (new_text f) bytes ∙ ap (state_text 2 f) (bits_old o.0) ∙ text in
-    let put : out' ≡ sets out 0 s = m.buffer ∙ ap (λ (x : Wrote). written_on x (new_text f (take (all_of f) old')) out) answer ∙ ap (sets out 0) new in
+    let put : out' ≡ sets out 0 s = m.buffer ∙ ap (λ (x : Result ℕ Refusal). written_on x (new_text f (take (all_of f) old')) out) answer ∙ ap (sets out 0) new in
     (answer, ap (take (length s)) put ∙ first_of s out room)

@@ -1,23 +1,23 @@
 -- SPDX-License-Identifier: Apache-2.0 AND BSD-3-Clause
 -- What each step of packing, unpacking and moving does.
-use Prim.Native.Nat.{ℕ, suc, ◌+◌, ◌/◌, ◌≤◌, ◌<◌}
+use Rattle.std.specs.Prelude.{Result, Ok, Err, IsTrue, ◌↔◌, EachIndex, slice_index}
+use mir.Val.{bool_byte}
+use Prim.Native.Nat.{ℕ, zero, suc, ◌+◌, ◌/◌, ◌≤◌, ◌<◌}
 use mathlib.Core.Path.{◌≡◌, refl, ap, ◌∙◌, sym}
-use mathlib.Core.Bool.{Bool, true, false, cond, not}
+use mathlib.Core.Bool.{Bool, true, false, cond}
 use mathlib.Core.List.{List, [], ◌∷◌, ◌++◌, append_assoc}
 use native.Mathlib.Omega.{arith}
 use native.Mathlib.Numerals.{add-one}
-use borrow.Author.Tests.{lt-leb, le-leb, lt-ltb, le-ltb, eq-eqb, ne_eqb}
-use lib.Dec.{eqb}
-use lib.ListN.{length, set, take, drop, get_or, length-take, length-drop, length-append, drop_of_length-le}
+use borrow.Author.Tests.{leb-true, le-leb, lt-ltb, le-ltb, eq-eqb, ne_eqb}
+use lib.Dec.{eqb, leb}
+use lib.ListN.{length, set, take, drop, get_or, length-take, length-drop, length-append}
 use lib.Seq.{take-suc, take-length, drop-cons, set_at, take_at}
-use Rattle.units.proofs.Tests.{refused, passed}
+use Rattle.units.proofs.Tests.{by_test, and_left, and_right}
 use Rattle.bitmap.specs.Blocks.{blocks, block_at, fill, Outside, Filled}
 use Rattle.bitmap.proofs.Laws.{blocks-length, fill_right, fill_none}
 use Rattle.save.specs.declared.Fields.{Fields}
-use Rattle.save.specs.declared.Wrote.{Wrote}
-use Rattle.save.specs.declared.Wrote.TheVariants.{Refused}
-use Rattle.save.specs.declared.Got.{Got}
-use Rattle.save.specs.declared.Got.TheVariants as got
+use Rattle.refusal.specs.declared.Refusal.{Refusal}
+use Rattle.refusal.specs.declared.Refusal.TheVariants as refusal
 use Rattle.save.specs.Text.{state_text, shape_ok, all_of}
 use Rattle.save.specs.Writing.{blocks_for, is_short, wrote_of, written_on, Writes}
 use Rattle.save.specs.Reading.{HoldsBlocks, no_room, ReadsState}
@@ -28,23 +28,20 @@ use Rattle.old_form.proofs.Laws.{old_length, bits_length}
 
 -- ---- `is_old`
 
-pub byte_bad : (old : List ℕ) (i x : ℕ) → i < length old → x ≡ get_or old i 0 → 1 < x → is_old old ≡ is_old (drop i old) → false ≡ is_old old
+each_small : (old : List ℕ) → is_old old ≡ true → (k : ℕ) → k < length old → get_or old k 0 ≤ 1
 unfolding is_old
-byte_bad old i x h e b o =
-    let d = drop-cons old i 0 h in
-    let l = lt-leb x 1 b in
-    sym (o ∙ rw (d, ← e, l))
+each_small [] e k h = omega arith
+each_small (x ∷ xs) e zero h = leb-true x 1 (and_left (leb x 1) _ e)
+each_small (x ∷ xs) e (suc k) h = each_small xs (and_right (leb x 1) _ e) k (omega arith)
 
-pub byte_good : (old : List ℕ) (i x : ℕ) → i < length old → x ≡ get_or old i 0 → x ≤ 1 → is_old old ≡ is_old (drop i old) → is_old old ≡ is_old (drop (i + 1) old)
+all_small : (old : List ℕ) → ((k : ℕ) → k < length old → get_or old k 0 ≤ 1) → is_old old ≡ true
 unfolding is_old
-byte_good old i x h e b o =
-    let d = drop-cons old i 0 h in
-    let l = le-leb x 1 b in
-    rw (add-one i) (o ∙ rw (d, ← e, l))
+all_small [] h = refl
+all_small (x ∷ xs) h = rw (le-leb x 1 (h 0 (omega arith))) (all_small xs (λ k l. h (suc k) (omega arith)))
 
-pub bytes_end : (old : List ℕ) (i : ℕ) → length old ≤ i → is_old old ≡ is_old (drop i old) → true ≡ is_old old
-unfolding is_old
-bytes_end old i h o = let d = drop_of_length-le old {i = i} h in sym (o ∙ rw d)
+pub each_is_old : (r : Bool) (old : List ℕ) → (IsTrue r ↔ EachIndex old (λ k. slice_index old k ≤ 1)) → r ≡ is_old old
+each_is_old true old i = sym (all_small old (i.0 refl))
+each_is_old false old i = by_test (is_old old) (λ t. let z : false ≡ true = i.1 (each_small old t) in cc) (λ t. sym t)
 
 -- ---- `pack`
 
@@ -115,6 +112,11 @@ unfolding old_of
 old_append [] ys = refl
 old_append (x ∷ xs) ys = ap (λ (l : List ℕ). cond x 1 0 ∷ l) (old_append xs ys)
 
+-- a block's byte
+pub byte_is : (b : Bool) → bool_byte b ≡ cond b 1 0
+byte_is true = refl
+byte_is false = refl
+
 -- the first i bytes are those of the first i blocks
 pub record Unpacking (bs : List Bool) (entry : List ℕ) (i : ℕ) (cur : List ℕ) : Type 0 where
   pub is : cur ≡ old_of (take i bs) ++ drop i entry
@@ -157,7 +159,7 @@ module _ {bs : List Bool} {entry : List ℕ} {i : ℕ} {cur : List ℕ} (o : Unp
 -- ---- `to_new`
 
 module _ (f : Fields) (old scratch out : List ℕ) where
-  pub no_scratch : length scratch < 32768 → ToNew f old scratch scratch out out (Refused 11)
+  pub no_scratch : length scratch < 32768 → ToNew f old scratch scratch out out (Err refusal.TooShort)
   unfolding moved_of
   no_scratch h =
       let e : no_room scratch ≡ true = lt-ltb (length scratch) 32768 h in
@@ -172,7 +174,7 @@ module _ (f : Fields) (old scratch out : List ℕ) where
     there : no_room scratch ≡ false
     there = le-ltb (length scratch) 32768 long
 
-    not_old : old_ok f old ≡ false → ToNew f old scratch scratch out out (Refused 18)
+    not_old : old_ok f old ≡ false → ToNew f old scratch scratch out out (Err refusal.NoState)
     unfolding moved_of
     not_old e =
         let l = there in
@@ -183,22 +185,22 @@ module _ (f : Fields) (old scratch out : List ℕ) where
           untouched = λ p. refl;
         }
 
-    pub no_shape_lem : (r : Bool) → r ≡ shape_ok f → not r ≡ true → ToNew f old scratch scratch out out (Refused 18)
+    pub no_shape_lem : (r : Bool) → r ≡ shape_ok f → r ≡ false → ToNew f old scratch scratch out out (Err refusal.NoState)
     unfolding old_ok
-    no_shape_lem r p q = let s = refused (shape_ok f) r p q in not_old (rw s)
+    no_shape_lem r p q = let s = sym p ∙ q in not_old (rw s)
 
-    module _ (r : Bool) (p : r ≡ shape_ok f) (q : not r ≡ false) (all : ℕ) (a : all ≡ all_of f) where
+    module _ (r : Bool) (p : r ≡ shape_ok f) (q : r ≡ true) (all : ℕ) (a : all ≡ all_of f) where
       shape : shape_ok f ≡ true
-      shape = passed (shape_ok f) r p q
+      shape = sym p ∙ q
 
-      pub wrong_number : (length old ≡ all → ⊥) → ToNew f old scratch scratch out out (Refused 18)
+      pub wrong_number : (length old ≡ all → ⊥) → ToNew f old scratch scratch out out (Err refusal.NoState)
       unfolding old_ok
       wrong_number n = let s = shape in let e = ne_eqb (length old) all n in not_old (rw (s, ← a, e))
 
       module _ (n : length old ≡ all) (t : Bool) (o : t ≡ is_old old) where
-        pub wrong_byte : not t ≡ true → ToNew f old scratch scratch out out (Refused 18)
+        pub wrong_byte : t ≡ false → ToNew f old scratch scratch out out (Err refusal.NoState)
         unfolding old_ok
-        wrong_byte w = let s = shape in let e = eq-eqb (length old) all n in let z = refused (is_old old) t o w in not_old (rw (s, ← a, e, z))
+        wrong_byte w = let s = shape in let e = eq-eqb (length old) all n in let z = sym o ∙ w in not_old (rw (s, ← a, e, z))
 
         few : all ≤ 262144
         few = let h = (shape_is f shape).region_top in let b = in_blocks f shape f.region in omega arith
@@ -206,12 +208,12 @@ module _ (f : Fields) (old scratch out : List ℕ) where
         pub has_room : length old ≤ length (blocks scratch)
         has_room = let x = few in let b = blocks-length scratch in omega arith
 
-        module _ (w : not t ≡ false) where
+        module _ (w : t ≡ true) where
           old_ok_lem : old_ok f old ≡ true
           unfolding old_ok
-          old_ok_lem = let s = shape in let e = eq-eqb (length old) all n in let z = passed (is_old old) t o w in rw (s, ← a, e, z)
+          old_ok_lem = let s = shape in let e = eq-eqb (length old) all n in let z = sym o ∙ w in rw (s, ← a, e, z)
 
-          pub moved : (scratch' out' : List ℕ) (x : Wrote) → HoldsBlocks (bits_of old) scratch scratch' → Writes f scratch' out out' x → ToNew f old scratch scratch' out out' x
+          pub moved : (scratch' out' : List ℕ) (x : Result ℕ Refusal) → HoldsBlocks (bits_of old) scratch scratch' → Writes f scratch' out out' x → ToNew f old scratch scratch' out out' x
           unfolding moved_of wrote_of
           moved scratch' out' x h y =
               let l = there in
@@ -231,28 +233,17 @@ module _ (f : Fields) (old scratch out : List ℕ) where
 
 -- ---- `to_old`
 
-fields_at : (s before after : List ℕ) (most : ℕ) (r : Got) → ReadsState s most before after r → (f : Fields) → r ≡ got.Fields f → ReadsState s most before after (got.Fields f)
-fields_at s before after most r h f e = let g : ReadsState s most before after (got.Fields f) = rw e at h in g
-
-pub number_at : (s before after : List ℕ) (most : ℕ) (r : Got) → ReadsState s most before after r → (k : ℕ) → r ≡ got.Refused k → ReadsState s most before after (got.Refused k)
-number_at s before after most r h k e = let g : ReadsState s most before after (got.Refused k) = rw e at h in g
-
-module _ (s scratch scratch' old : List ℕ) (r : Got) (h : ReadsState s (length old) scratch scratch' r) (f : Fields) (e : r ≡ got.Fields f) (all : ℕ) (a : all ≡ all_of f) where
-  got_it : ReadsState s (length old) scratch scratch' (got.Fields f)
-  got_it = fields_at s scratch scratch' (length old) r h f e
-
+module _ (s scratch scratch' old : List ℕ) (f : Fields) (g : ReadsState s (length old) scratch scratch' (Ok f)) (all : ℕ) (a : all ≡ all_of f) where
   pub fits_both : (all ≤ length (blocks scratch')) × (all ≤ length old)
   fits_both =
-      let g = got_it in
       let len = g.1.says.state.all in
       let fits = g.1.fits in
       let b = ap length g.2.as_blocks in
       let c = length-append g.0 (drop (length g.0) (blocks scratch)) in
       (omega arith, omega arith)
 
-  pub unpacked : (old' : List ℕ) → old' ≡ old_of (take all (blocks scratch')) ++ drop all old → ToOld s scratch scratch' old old' (got.Fields f)
+  pub unpacked : (old' : List ℕ) → old' ≡ old_of (take all (blocks scratch')) ++ drop all old → ToOld s scratch scratch' old old' (Ok f)
   unpacked old' q =
-      let g = got_it in
       let len : all ≡ length g.0 = a ∙ sym g.1.says.state.all in
       let bits : take all (blocks scratch') ≡ g.0 = ap (take all) g.2.as_blocks ∙ take_at g.0 (drop (length g.0) (blocks scratch)) all (sym len) in
       (g.0, g.1, g.2, q ∙ ap (λ (l : List Bool). old_of l ++ drop all old) bits ∙ ap (λ (n : ℕ). old_of g.0 ++ drop n old) len)

@@ -3,27 +3,21 @@
 // packed bitmap that is lent for it, so that there is one writer and one reader of texts.
 #![tactic(auto)]
 
-ghost use Rattle.std.specs.Prelude.{◌≡◌, cond, ◌++◌, ◌≤◌, take, drop, length};
+ghost use Rattle.std.specs.Prelude.{◌≡◌, ◌++◌, ◌≤◌, ◌↔◌, IsTrue, EachIndex, slice_index, take, drop, length};
 ghost use Rattle.bitmap.specs.Blocks.{blocks};
 ghost use Rattle.save.specs.Reading.{HoldsBlocks};
-ghost use Rattle.old_form.specs.Old.{old_of, is_old, bits_of};
+ghost use Rattle.old_form.specs.Old.{old_of, bits_of};
 ghost use Rattle.old_form.specs.Moves.{ToNew, ToOld};
 
-use save::{BITMAP, Fields, Got, Wrote, read, shape_ok, write};
+use refusal::Refusal;
+use save::{BITMAP, Fields, read, shape_ok, write};
 use units::MemTool;
 
 // Whether each byte is 0 or 1.
 fn is_old(old: &[u8]) -> bool
-    ensures { result ≡ is_old old.now }
+    ensures { IsTrue result ↔ EachIndex old.now (λ k. slice_index old.now k ≤ 1) }
 {
-    let mut i = 0;
-    while i < old.len() {
-        if 1 < old[i] {
-            return false;
-        }
-        i += 1;
-    }
-    true
+    old.iter().all(|x| *x <= 1)
 }
 
 // Puts a bit for each byte into a bitmap.
@@ -31,18 +25,9 @@ fn pack(old: &[u8], bitmap: &mut [u8])
     requires { length old.now ≤ length (blocks bitmap.old) }
     ensures { HoldsBlocks (bits_of old.now) bitmap.old bitmap.new }
 {
-    let mut i = 0;
-    while i < old.len() {
-        bitmap::set_range(bitmap, i, 1, old[i] == 1);
-        i += 1;
+    for (i, x) in old.iter().enumerate() {
+        bitmap::set_range(bitmap, i, 1, *x == 1);
     }
-}
-
-// A block's byte.
-fn byte_of(set: bool) -> u8
-    ensures { result ≡ cond set 1 0 }
-{
-    if set { 1 } else { 0 }
 }
 
 // Puts a byte for each of the first n blocks of a bitmap.
@@ -50,50 +35,39 @@ fn unpack(bitmap: &[u8], n: usize, old: &mut [u8])
     requires { (n ≤ length (blocks bitmap.now)) × (n ≤ length old.old) }
     ensures { old.new ≡ old_of (take n (blocks bitmap.now)) ++ drop n old.old }
 {
-    let mut i = 0;
-    while i < n {
-        old[i] = byte_of(bitmap::is_set(bitmap, i));
-        i += 1;
+    for i in 0..n {
+        old[i] = u8::from(bitmap::is_set(bitmap, i));
     }
 }
 
 // Moves old bytes, with the fields that they have no place for, into a text. 11, 18.
-pub fn to_new(f: Fields, old: &[u8], scratch: &mut [u8], out: &mut [u8]) -> Wrote
+pub fn to_new(f: Fields, old: &[u8], scratch: &mut [u8], out: &mut [u8]) -> Result<u64, Refusal>
     ensures { ToNew f old.now scratch.old scratch.new
         out.old out.new result }
 {
     if scratch.len() < BITMAP {
-        return Wrote::Refused(11);
+        return Err(Refusal::TooShort);
     }
     if !shape_ok(f) {
-        return Wrote::Refused(18);
+        return Err(Refusal::NoState);
     }
     if old.len() as u64 != MemTool::blocks_in(f.region, f.block) {
-        return Wrote::Refused(18);
+        return Err(Refusal::NoState);
     }
     if !is_old(old) {
-        return Wrote::Refused(18);
+        return Err(Refusal::NoState);
     }
     pack(old, scratch);
     write(f, &scratch[..], out)
 }
 
 // Moves a text into old bytes, and gives the fields that they have no place for. 11, 19, 18.
-pub fn to_old(s: &[u8], scratch: &mut [u8], old: &mut [u8]) -> Got
+pub fn to_old(s: &[u8], scratch: &mut [u8], old: &mut [u8]) -> Result<Fields, Refusal>
     ensures { ToOld s.now scratch.old scratch.new
         old.old old.new result }
 {
-    let got = read(s, old.len(), scratch);
-    match got {
-        Got::Refused(number) => Got::Refused(number),
-        Got::Fields(fields) => {
-            let f = fields;
-            unpack(
-                &scratch[..],
-                MemTool::blocks_in(f.region, f.block) as usize,
-                old,
-            );
-            Got::Fields(fields)
-        }
-    }
+    let f = read(s, old.len(), scratch)?;
+    let all = MemTool::blocks_in(f.region, f.block);
+    unpack(&scratch[..], all as usize, old);
+    Ok(f)
 }

@@ -1,6 +1,6 @@
 -- SPDX-License-Identifier: Apache-2.0 AND BSD-3-Clause
 -- The head of a text, and the whole of it.
-use Rattle.std.specs.Prelude.{Option, Some, None}
+use Rattle.std.specs.Prelude.{Option, Some, None, Result, Ok, Err}
 use Prim.Native.Nat.{ℕ, ◌≤◌, ◌<◌}
 use mathlib.Core.Path.{◌≡◌, refl, ap, ◌∙◌, sym}
 use mathlib.Core.Bool.{Bool, false}
@@ -13,10 +13,9 @@ use Rattle.forms.specs.Forms.{holes, filled}
 use Rattle.forms.specs.Scanning.{Scan, found, lost, scan_of, ScannedAt}
 use Rattle.forms.proofs.Laws.{scan_read, scan_at_found, scan_at_nowhere}
 use Rattle.save.specs.declared.Fields.{Fields}
-use Rattle.save.specs.declared.Head.{Head}
-use Rattle.save.specs.declared.Head.TheVariants as head
-use Rattle.save.specs.declared.Checked.{Checked}
-use Rattle.save.specs.declared.Checked.TheVariants as checked
+use Rattle.save.specs.declared.State.{State}
+use Rattle.refusal.specs.declared.Refusal.{Refusal}
+use Rattle.refusal.specs.declared.Refusal.TheVariants as refusal
 use Rattle.runs.specs.Runs.{runs_of}
 use Rattle.runs.specs.Text.{runs_text}
 use Rattle.save.specs.Text.{form_line, field_lines, fields_of, state_text, Says}
@@ -53,10 +52,10 @@ unfolding later_form
 no_later (found us rest) n = absurd (n us rest refl)
 no_later (lost us) n = refl
 
-pub head_none : (s : List ℕ) → ((us rest : List ℕ) → scan_of form_line s ≡ found us rest → ⊥) → Refuses s 18
+pub head_none : (s : List ℕ) → ((us rest : List ℕ) → scan_of form_line s ≡ found us rest → ⊥) → Refuses s refusal.NoState
 head_none s n =
     let e = no_later (scan_of form_line s) n in
-    record { number_is = rw e; no_state = λ f bs h. n _ _ (says_form h) }
+    record { why_is = rw e; no_state = λ f bs h. n _ _ (says_form h) }
 
 module _ (s : List ℕ) (n : ℕ) (rest : List ℕ) (e : scan_of form_line s ≡ found (n ∷ []) rest) where
   later_is : is_later s ≡ ltb 2 n
@@ -68,15 +67,15 @@ module _ (s : List ℕ) (n : ℕ) (rest : List ℕ) (e : scan_of form_line s ≡
       let q : found (2 ∷ []) (filled (field_lines 2) (fields_of f) ++ runs_text (runs_of bs)) ≡ found (n ∷ []) rest = sym (says_form h) ∙ e in
       (cc, cc)
 
-  pub head_later : 2 < n → Refuses s 19
+  pub head_later : 2 < n → Refuses s refusal.LaterForm
   head_later h =
       let l = later_is in
-      record { number_is = rw (l, lt-ltb 2 n h); no_state = λ f bs t. let q = (form_is f bs t).0 in omega arith }
+      record { why_is = rw (l, lt-ltb 2 n h); no_state = λ f bs t. let q = (form_is f bs t).0 in omega arith }
 
-  pub head_other : n ≤ 2 → (n ≡ 2 → ⊥) → Refuses s 18
+  pub head_other : n ≤ 2 → (n ≡ 2 → ⊥) → Refuses s refusal.NoState
   head_other h d =
       let l = later_is in
-      record { number_is = rw (l, le-ltb 2 n h); no_state = λ f bs t. d (sym (form_is f bs t).0) }
+      record { why_is = rw (l, le-ltb 2 n h); no_state = λ f bs t. d (sym (form_is f bs t).0) }
 
 -- the text is of form 2, and goes on with `rest`
 module _ (s rest : List ℕ) (e : scan_of form_line s ≡ found (2 ∷ []) rest) where
@@ -86,13 +85,13 @@ module _ (s rest : List ℕ) (e : scan_of form_line s ≡ found (2 ∷ []) rest)
   fields_is : (f : Fields) (bs : List Bool) → Says s f bs → scan_of (field_lines 2) rest ≡ found (fields_of f) (runs_text (runs_of bs))
   fields_is f bs h = ap (scan_of (field_lines 2)) (sym (form_is s 2 rest e f bs h).1) ∙ fields_written 2 f (runs_of bs) (state_words h.state)
 
-  pub head_fields : (r : Head) → IsFields s rest r → IsHead s r
-  head_fields (head.At f n) h = record { rest = rest; form = e; block = h.0; fields = h.1; inside = h.2 }
-  head_fields (head.Refused k) h =
+  pub head_fields : (r : Result State Refusal) → IsFields s rest r → IsHead s r
+  head_fields (Ok t) h = record { rest = rest; form = e; block = h.0; fields = h.1; inside = h.2 }
+  head_fields (Err why) h =
       let l = now_later in
-      record { number_is = rw l h.0; no_state = λ f bs t. h.1 _ _ (fields_is f bs t) }
+      record { why_is = rw l h.0; no_state = λ f bs t. h.1 _ _ (fields_is f bs t) }
 
-pub head_two : (s rest : List ℕ) (n : ℕ) → scan_of form_line s ≡ found (n ∷ []) rest → n ≡ 2 → (r : Head) → IsFields s rest r → IsHead s r
+pub head_two : (s rest : List ℕ) (n : ℕ) → scan_of form_line s ≡ found (n ∷ []) rest → n ≡ 2 → (r : Result State Refusal) → IsFields s rest r → IsHead s r
 head_two s rest n e q r h = head_fields s rest (rw q at e) r h
 
 -- a state's text is of no later form
@@ -117,19 +116,13 @@ module _ (s : List ℕ) (f : Fields) (n : ℕ) (h : Heads s f n) where
       let q : found (fields_of g) (runs_text (runs_of bs)) ≡ found (fields_of f) (drop n s) = sym (fields_is s h.rest h.form g bs t) ∙ h.fields in
       (fields_are g f (state_block t.state ∙ sym h.block) (cc) (cc) (cc) (cc) (cc), cc)
 
-  pub checked_whole : (r : Checked) → IsRuns f n (drop n s) r → Checks s r
-  checked_whole (checked.State g runs) l =
+  pub checked_whole : (r : Result State Refusal) → IsRuns f n (drop n s) r → Checks s r
+  checked_whole (Ok t) l =
       let d = l.2 in
       rw (l.0, l.1) (record { bs = d.0; says = record { state = d.1; text = whole_text d.0 d.2 }; rest = d.2; inside = h.inside })
-  checked_whole (checked.Refused k) l =
+  checked_whole (Err why) l =
       let z = now_later s h.rest h.form in
       record {
-        number_is = rw z l.0;
+        why_is = rw z l.0;
         no_state = λ g bs t. let q = same_fields g bs t in l.1 bs (rw q.0 at t.state) q.1;
       }
-
-pub heads_at : (s : List ℕ) (r : Head) → IsHead s r → (f : Fields) (n : ℕ) → r ≡ head.At f n → Heads s f n
-heads_at s r h f n e = let g : IsHead s (head.At f n) = rw e at h in g
-
-pub heads_refused : (s : List ℕ) (r : Head) → IsHead s r → (k : ℕ) → r ≡ head.Refused k → Refuses s k
-heads_refused s r h k e = let g : IsHead s (head.Refused k) = rw e at h in g

@@ -1,15 +1,16 @@
 -- SPDX-License-Identifier: Apache-2.0 AND BSD-3-Clause
 -- `runs_of`: the fields and the runs of a text make a state, or no state has them.
-use Rattle.std.specs.Prelude.{Option, Some, None}
+use Rattle.std.specs.Prelude.{Option, Some, None, Err, ok_or}
+use Rattle.refusal.specs.declared.Refusal.{Refusal}
+use Rattle.refusal.specs.declared.Refusal.TheVariants as refusal
 use Prim.Native.Nat.{ℕ, suc, ◌+◌, ◌-◌, ◌*◌, ◌≤◌}
 use mathlib.Core.Path.{◌≡◌, refl, ap, ◌∙◌, sym}
-use mathlib.Core.Bool.{Bool, true, false, not}
+use mathlib.Core.Bool.{Bool, true, false}
 use mathlib.Core.List.{List, [], ◌∷◌, ◌++◌}
 use native.Mathlib.Omega.{arith}
 use borrow.Author.Tests.{eq-eqb}
 use lib.Dec.{eqb}
 use lib.ListN.{length, replicate}
-use Rattle.units.proofs.Tests.{refused}
 use Rattle.units.specs.Numbers.{blocks_in}
 use Rattle.bitmap.specs.Blocks.{ones, all_are}
 use Rattle.save.specs.declared.Fields.{Fields}
@@ -30,6 +31,11 @@ bad_is h = let z : ◌≡◌ {A = ℕ} 0 1 = cc in omega arith
 
 blocks_is : {m n : ℕ} → Some m ≡ Some n → m ≡ n
 blocks_is h = cc
+
+-- what is passed on for a missing value
+pub missing_is : {T : Type 0} (o : Option T) (why other : Refusal) → Err other ≡ ok_or o why → (other ≡ why) × (o ≡ None)
+missing_is None why other e = (cc, refl)
+missing_is (Some x) why other e = cc
 
 -- the state of runs
 made : (f : Fields) (end : ℕ) → shape_ok f ≡ true → end ≡ used_of f → (rs : List Run) → RunsApart 0 end rs → (l : List ℕ) → runs_text rs ≡ l → f.plugged ≡ total rs * f.block
@@ -59,11 +65,11 @@ made f end s u rs a l t k =
 
 -- l is not the text of the runs of a state with these fields
 abbrev No : Fields → List ℕ → Type 0
-No f l = (◌≡◌ {A = ℕ} 18 18) × ((bs : List Bool) → IsState f bs → runs_text (runs_of bs) ≡ l → ⊥)
+No f l = (◌≡◌ {A = Refusal} refusal.NoState refusal.NoState) × ((bs : List Bool) → IsState f bs → runs_text (runs_of bs) ≡ l → ⊥)
 
-pub laid_shape : (f : Fields) (l : List ℕ) (r : Bool) → r ≡ shape_ok f → not r ≡ true → No f l
+pub laid_shape : (f : Fields) (l : List ℕ) (r : Bool) → r ≡ shape_ok f → r ≡ false → No f l
 laid_shape f l r p q =
-    (refl, λ bs st t. let a = refused (shape_ok f) r p q in let b = valid_shape st in let z : ◌≡◌ {A = ℕ} 0 1 = cc in omega arith)
+    (refl, λ bs st t. let a = sym p ∙ q in let b = valid_shape st in let z : ◌≡◌ {A = ℕ} 0 1 = cc in omega arith)
 
 module _ (f : Fields) (end : ℕ) (s : shape_ok f ≡ true) (u : end ≡ used_of f) where
   pub end_few : end ≤ 262144

@@ -1,5 +1,6 @@
 -- SPDX-License-Identifier: Apache-2.0 AND BSD-3-Clause
 -- Each promise leaves one outcome; what is written can be read; and 19 in words.
+use Rattle.std.specs.Prelude.{Result, Ok, Err}
 use Prim.Native.Nat.{ℕ, ◌≤◌, ◌<◌}
 use mathlib.Core.Path.{◌≡◌, refl, ap, ◌∙◌, sym}
 use mathlib.Core.Bool.{Bool, true}
@@ -17,11 +18,8 @@ use Rattle.runs.specs.Runs.{runs_of}
 use Rattle.runs.specs.Text.{runs_text}
 use Rattle.bitmap.proofs.Bytes.{blocks_tell}
 use Rattle.save.specs.declared.Fields.{Fields}
-use Rattle.save.specs.declared.Wrote.{Wrote}
-use Rattle.save.specs.declared.Checked.{Checked}
-use Rattle.save.specs.declared.Checked.TheVariants as checked
-use Rattle.save.specs.declared.Got.{Got}
-use Rattle.save.specs.declared.Got.TheVariants as got
+use Rattle.save.specs.declared.State.{State}
+use Rattle.refusal.specs.declared.Refusal.{Refusal}
 use Rattle.save.specs.Text.{form_line, Says}
 use Rattle.save.specs.Writing.{Writes}
 use Rattle.save.specs.Reading.{later_form, is_later, Accepts, Checks, HoldsBlocks, Takes, AtMost, no_room, ReadsState}
@@ -29,7 +27,7 @@ use Rattle.save.proofs.Text.{one_text}
 
 -- ---- one outcome
 
-pub writes_once : {f : Fields} {bitmap before xs ys : List ℕ} {r q : Wrote} → Writes f bitmap before xs r → Writes f bitmap before ys q → (r ≡ q) × (xs ≡ ys)
+pub writes_once : {f : Fields} {bitmap before xs ys : List ℕ} {r q : Result ℕ Refusal} → Writes f bitmap before xs r → Writes f bitmap before ys q → (r ≡ q) × (xs ≡ ys)
 writes_once {f} {bitmap} {before} {xs} {ys} {r} {q} a b =
     let e : r ≡ q = a.answer ∙ sym b.answer in
     (e, rw (a.buffer, e, b.buffer))
@@ -46,11 +44,11 @@ accepts_once s f g m n a b =
     let q = length-drop n s in
     (o.0, omega arith)
 
-pub checks_once : (s : List ℕ) (a b : Checked) → Checks s a → Checks s b → a ≡ b
-checks_once s (checked.State f m) (checked.State g n) p q = let o = accepts_once s f g m n p q in rw (o.0, o.1)
-checks_once s (checked.State f m) (checked.Refused k) p q = absurd (q.no_state f p.bs p.says)
-checks_once s (checked.Refused k) (checked.State g n) p q = absurd (p.no_state g q.bs q.says)
-checks_once s (checked.Refused k) (checked.Refused l) p q = let e : k ≡ l = p.number_is ∙ sym q.number_is in rw e
+pub checks_once : (s : List ℕ) (a b : Result State Refusal) → Checks s a → Checks s b → a ≡ b
+checks_once s (Ok t) (Ok u) p q = let o = accepts_once s t.fields u.fields t.runs u.runs p q in rw (o.0, o.1)
+checks_once s (Ok t) (Err k) p q = absurd (q.no_state t.fields p.bs p.says)
+checks_once s (Err k) (Ok u) p q = absurd (p.no_state u.fields q.bs q.says)
+checks_once s (Err k) (Err l) p q = ap Err (p.why_is ∙ sym q.why_is)
 
 -- the bytes of a bitmap are below 256, as its type says
 pub holds_once : (bs : List Bool) (before xs ys : List ℕ) → ((i : ℕ) → get_or xs i 0 < 256) → ((i : ℕ) → get_or ys i 0 < 256) → HoldsBlocks bs before xs → HoldsBlocks bs before ys → xs ≡ ys
@@ -61,21 +59,21 @@ pub takes_once : (short : Bool) (Fits : Fields → List Bool → Type 0) (s : Li
     → Takes short Fits s f bs → Takes short Fits s g cs → (f ≡ g) × (bs ≡ cs)
 takes_once short Fits s f g bs cs a b = one_text s f g bs cs a.says b.says
 
-pub reads_once : (s : List ℕ) (most : ℕ) (before xs ys : List ℕ) (a b : Got) → ((i : ℕ) → get_or xs i 0 < 256) → ((i : ℕ) → get_or ys i 0 < 256)
+pub reads_once : (s : List ℕ) (most : ℕ) (before xs ys : List ℕ) (a b : Result Fields Refusal) → ((i : ℕ) → get_or xs i 0 < 256) → ((i : ℕ) → get_or ys i 0 < 256)
     → ReadsState s most before xs a → ReadsState s most before ys b → (a ≡ b) × (xs ≡ ys)
-reads_once s most before xs ys (got.Fields f) (got.Fields g) p q x y =
+reads_once s most before xs ys (Ok f) (Ok g) p q x y =
     let o = takes_once (no_room before) (AtMost most) s f g x.0 y.0 x.1 y.1 in
-    (ap got.Fields o.0, holds_once x.0 before xs ys p q x.2 (rw o.1 y.2))
-reads_once s most before xs ys (got.Fields f) (got.Refused k) p q x y = absurd (y.0.none f x.0 x.1)
-reads_once s most before xs ys (got.Refused k) (got.Fields g) p q x y = absurd (x.0.none g y.0 y.1)
-reads_once s most before xs ys (got.Refused k) (got.Refused l) p q x y =
-    (ap got.Refused (x.0.number_is ∙ sym y.0.number_is), x.1 ∙ sym y.1)
+    (ap Ok o.0, holds_once x.0 before xs ys p q x.2 (rw o.1 y.2))
+reads_once s most before xs ys (Ok f) (Err k) p q x y = absurd (y.0.none f x.0 x.1)
+reads_once s most before xs ys (Err k) (Ok g) p q x y = absurd (x.0.none g y.0 y.1)
+reads_once s most before xs ys (Err k) (Err l) p q x y =
+    (ap Err (x.0.why_is ∙ sym y.0.why_is), x.1 ∙ sym y.1)
 
 -- ---- a state's text is accepted
 
-pub accepted : (s : List ℕ) (f : Fields) (bs : List Bool) → Says s f bs → (r : Checked) → Checks s r → (n : ℕ) × (r ≡ checked.State f n)
-accepted s f bs h (checked.State g n) c = let o = one_text s g f c.bs bs c.says h in (n, ap (λ (x : Fields). checked.State x n) o.0)
-accepted s f bs h (checked.Refused k) c = absurd (c.no_state f bs h)
+pub accepted : (s : List ℕ) (f : Fields) (bs : List Bool) → Says s f bs → (r : Result State Refusal) → Checks s r → (n : ℕ) × (r ≡ Ok (record { fields = f; runs = n }))
+accepted s f bs h (Ok t) c = let o = one_text s t.fields f c.bs bs c.says h in (t.runs, ap (λ (x : Fields). Ok (record { fields = x; runs = t.runs })) o.0)
+accepted s f bs h (Err k) c = absurd (c.no_state f bs h)
 
 -- ---- 19 in words: exactly the texts that begin `form=N` and a newline, N a number of 64 bits above 2
 

@@ -1,15 +1,16 @@
 -- SPDX-License-Identifier: Apache-2.0 AND BSD-3-Clause
 -- What each step of writing, and of reading onto a bitmap, does.
-use Prim.Native.Nat.{ℕ, ◌+◌, ◌-◌, ◌*◌, ◌/◌, ◌%◌, ◌≤◌, ◌<◌}
+use Rattle.std.specs.Prelude.{Ok, Err}
+use Prim.Native.Nat.{ℕ, ◌+◌, ◌-◌, ◌*◌, ◌/◌, ◌≤◌, ◌<◌}
 use mathlib.Core.Path.{◌≡◌, ap, ◌∙◌, sym}
-use mathlib.Core.Bool.{Bool, true, false, not, ◌&&◌}
+use mathlib.Core.Bool.{Bool, true, false, ◌&&◌}
 use mathlib.Core.List.{List, [], ◌∷◌, ◌++◌}
 use native.Mathlib.Omega.{arith}
-use borrow.Author.Tests.{ltb-true, ltb-false, le-ltb, le-leb, lt-leb}
-use lib.Dec.{eqb, ltb, leb}
+use borrow.Author.Tests.{ltb-false, le-ltb, le-leb, lt-leb}
+use lib.Dec.{eqb, ltb}
 use lib.ListN.{length, drop, take, replicate, length-take, length-append}
 use lib.Seq.{sets}
-use Rattle.units.proofs.Tests.{by_test, refused, passed}
+use Rattle.units.proofs.Tests.{by_test}
 use Rattle.units.specs.Numbers.{saturated, top}
 use Rattle.text.specs.Putting.{Put}
 use Rattle.text.proofs.Puts.{then}
@@ -23,43 +24,24 @@ use Rattle.runs.specs.Reading.{Lays}
 use Rattle.runs.proofs.Spread.{take-drop, runs_ones, runs_laid}
 use Rattle.runs.proofs.Lines.{runs_short, starts_are}
 use Rattle.save.specs.declared.Fields.{Fields}
-use Rattle.save.specs.declared.Wrote.{Wrote}
-use Rattle.save.specs.declared.Wrote.TheVariants.{Text, Refused}
-use Rattle.save.specs.declared.Checked.{Checked}
-use Rattle.save.specs.declared.Checked.TheVariants as checked
+use Rattle.refusal.specs.declared.Refusal.{Refusal}
+use Rattle.refusal.specs.declared.Refusal.TheVariants as refusal
 use Rattle.save.specs.Text.{form_line, field_lines, fields_of, head_text, state_text, shape_ok, all_of, used_of, valid_of, IsState}
 use Rattle.save.specs.Writing.{blocks_for, is_short, valid_in, text_in, length_of, wrote_of}
-use Rattle.save.specs.Reading.{Refuses, Accepts, Checks, HoldsBlocks, Takes, NotTaken, AtMost, no_room}
+use Rattle.save.specs.Reading.{Refuses, Accepts, HoldsBlocks, Takes, NotTaken, AtMost, no_room}
 use Rattle.save.proofs.Text.{shape_is, in_blocks, state_few, state_apart, one_text}
 use Rattle.save.proofs.Heading.{not_later}
-
--- ---- `is_short`
-
-pub whole_bytes : (len n : ℕ) → n % 8 ≡ 0 → ltb len (n / 8) ≡ ltb len ((n + 7) / 8)
-whole_bytes len n e = let z : n / 8 ≡ (n + 7) / 8 = omega arith in ap (ltb len) z
-
-pub part_byte : (len n : ℕ) → (n % 8 ≡ 0 → ⊥) → leb len (n / 8) ≡ ltb len ((n + 7) / 8)
-part_byte len n e =
-    by_test (ltb len ((n + 7) / 8))
-    (λ t. let l = ltb-true len ((n + 7) / 8) t in let k : len ≤ n / 8 = rest len n e l in le-leb len (n / 8) k ∙ sym t)
-    (λ t. let l = ltb-false len ((n + 7) / 8) t in let k : n / 8 < len = past len n e l in lt-leb len (n / 8) k ∙ sym t)
-  where
-    rest : (len n : ℕ) → (n % 8 ≡ 0 → ⊥) → len < (n + 7) / 8 → len ≤ n / 8
-    rest len n e l = omega arith
-
-    past : (len n : ℕ) → (n % 8 ≡ 0 → ⊥) → (n + 7) / 8 ≤ len → n / 8 < len
-    past len n e l = omega arith
 
 -- ---- `valid`
 
 module _ (f : Fields) (m : List ℕ) (r : Bool) (p : r ≡ shape_ok f) where
-  pub shape_bad : not r ≡ true → false ≡ valid_in f m
+  pub shape_bad : r ≡ false → false ≡ valid_in f m
   unfolding valid_of
-  shape_bad q = let s = refused (shape_ok f) r p q in rw s
+  shape_bad q = let s = sym p ∙ q in rw s
 
-  module _ (q : not r ≡ false) (all used : ℕ) (a : all ≡ all_of f) (u : used ≡ used_of f) where
+  module _ (q : r ≡ true) (all used : ℕ) (a : all ≡ all_of f) (u : used ≡ used_of f) where
     good : shape_ok f ≡ true
-    good = passed (shape_ok f) r p q
+    good = sym p ∙ q
 
     pub used_in : used ≤ all
     used_in =
@@ -76,11 +58,11 @@ module _ (f : Fields) (m : List ℕ) (r : Bool) (p : r ≡ shape_ok f) where
     valid_is = rw (good, ← a, ← u, same_past)
 
     module _ (t : Bool) (w : t ≡ all_are (blocks m) used (all - used) false) where
-      pub past_bad : not t ≡ true → false ≡ valid_in f m
-      past_bad o = let z = refused (all_are (blocks m) used (all - used) false) t w o in sym (valid_is ∙ rw z)
+      pub past_bad : t ≡ false → false ≡ valid_in f m
+      past_bad o = let z = sym w ∙ o in sym (valid_is ∙ rw z)
 
-      pub plugged_is : not t ≡ false → (set : ℕ) → set ≡ ones (range (blocks m) 0 all) → eqb f.plugged (set * f.block) ≡ valid_in f m
-      plugged_is o set e = let z = passed (all_are (blocks m) used (all - used) false) t w o in sym (valid_is ∙ rw (z, ← e))
+      pub plugged_is : t ≡ true → (set : ℕ) → set ≡ ones (range (blocks m) 0 all) → eqb f.plugged (set * f.block) ≡ valid_in f m
+      plugged_is o set e = let z = sym w ∙ o in sym (valid_is ∙ rw (z, ← e))
 
     pub set_few : (set : ℕ) → set ≡ ones (range (blocks m) 0 all) → set * f.block ≤ 1099511627776
     set_few set o =
@@ -110,7 +92,7 @@ module _ (f : Fields) (m : List ℕ) (all : ℕ) (a : all ≡ all_of f) (t : Boo
   is_test : is_short f m ≡ t
   is_test = sym (s ∙ ap (λ (n : ℕ). ltb (length m) ((n + 7) / 8)) a)
 
-  pub length_short : t ≡ true → Refused 11 ≡ length_of f m
+  pub length_short : t ≡ true → Err refusal.TooShort ≡ length_of f m
   unfolding length_of
   length_short y = let e = is_test ∙ y in rw e
 
@@ -118,17 +100,17 @@ module _ (f : Fields) (m : List ℕ) (all : ℕ) (a : all ≡ all_of f) (t : Boo
     long : is_short f m ≡ false
     long = is_test ∙ n
 
-    pub length_bad : not v ≡ true → Refused 18 ≡ length_of f m
+    pub length_bad : v ≡ false → Err refusal.NoState ≡ length_of f m
     unfolding length_of
-    length_bad y = let e = long in let z = refused (valid_in f m) v w y in rw (e, z)
+    length_bad y = let e = long in let z = sym w ∙ y in rw (e, z)
 
-    module _ (y : not v ≡ false) where
+    module _ (y : v ≡ true) where
       state_in_lem : IsState f (blocks_for f m)
       state_in_lem =
           let b = blocks-length m in
           let l = length-take (all_of f) (blocks m) in
           let k = ltb-false (length m) ((all_of f + 7) / 8) long in
-          record { all = omega arith; valid = passed (valid_in f m) v w y }
+          record { all = omega arith; valid = sym w ∙ y }
 
       module _ (head runs : ℕ) (h : head ≡ length (head_text 2 f)) (k : runs ≡ saturated (length (runs_text (runs_of (take all (blocks m)))))) where
         runs_few : length (runs_text (runs_of (blocks_for f m))) ≤ 12058624
@@ -150,47 +132,36 @@ module _ (f : Fields) (m : List ℕ) (all : ℕ) (a : all ≡ all_of f) (t : Boo
         pub length_fits : Words (fields_of f) → head + runs ≤ top
         length_fits ws = let x = runs_few in let y = runs_is in let z = head_short f ws in omega arith
 
-        pub length_is : Text (head + runs) ≡ length_of f m
+        pub length_is : Ok (head + runs) ≡ length_of f m
         unfolding length_of state_text
         length_is =
             let e = long in
-            let z = passed (valid_in f m) v w y in
+            let z = sym w ∙ y in
             let x = runs_is in
             let sum : head + runs ≡ length (head_text 2 f ++ runs_text (runs_of (blocks_for f m))) =
             ap (λ (n : ℕ). n + runs) h ∙ ap (λ (n : ℕ). length (head_text 2 f) + n) x ∙ sym (length-append (head_text 2 f) (runs_text (runs_of (blocks_for f m)))) in
-            rw (e, z) (ap Text sum)
+            rw (e, z) (ap Ok sum)
 
 -- ---- `write`
 
-text_same : {a b : ℕ} → Text a ≡ Text b → a ≡ b
-text_same e = cc
-
-unlike : {A : Type 0} {a b : ℕ} → Text a ≡ Refused b → A
-unlike e = let z : ◌≡◌ {A = ℕ} 0 1 = cc in absurd (omega arith)
-
-module _ (f : Fields) (m : List ℕ) (r : Wrote) (l : r ≡ length_of f m) where
-  pub write_refused : (k room : ℕ) → r ≡ Refused k → Refused k ≡ wrote_of f m room
+module _ (f : Fields) (m : List ℕ) where
+  pub write_refused : (why : Refusal) (room : ℕ) → Err why ≡ length_of f m → Err why ≡ wrote_of f m room
   unfolding length_of wrote_of
-  write_refused k room e =
-      by_test (is_short f m)
-      (λ t. let x : Refused k ≡ Refused 11 = sym e ∙ l ∙ rw t in rw t x)
-      (λ t.
-      by_test (valid_in f m)
-      (λ v. let x : r ≡ Text (length (text_in f m)) = l ∙ rw (t, v) in unlike (sym x ∙ e))
-      (λ v. let x : Refused k ≡ Refused 18 = sym e ∙ l ∙ rw (t, v) in rw (t, v) x))
+  write_refused why room e =
+      by_test (is_short f m) (λ t. rw t (rw t at e))
+      (λ t. by_test (valid_in f m) (λ v. let x : Err why ≡ Ok (length (text_in f m)) = rw (t, v) at e in cc) (λ v. rw (t, v) (rw (t, v) at e)))
 
-  module _ (n : ℕ) (e : r ≡ Text n) where
+  module _ (n : ℕ) (e : Ok n ≡ length_of f m) where
     went : (is_short f m ≡ false) × (valid_in f m ≡ true) × (n ≡ length (text_in f m))
     unfolding length_of
     went =
-        by_test (is_short f m)
-        (λ t. let x : r ≡ Refused 11 = l ∙ rw t in unlike (sym e ∙ x))
+        by_test (is_short f m) (λ t. let x : Ok n ≡ Err refusal.TooShort = rw t at e in cc)
         (λ t.
         by_test (valid_in f m)
-        (λ v. let x : r ≡ Text (length (text_in f m)) = l ∙ rw (t, v) in (t, v, text_same (sym e ∙ x)))
-        (λ v. let x : r ≡ Refused 18 = l ∙ rw (t, v) in unlike (sym e ∙ x)))
+        (λ v. let x : Ok n ≡ Ok (length (text_in f m)) = rw (t, v) at e in (t, v, cc))
+        (λ v. let x : Ok n ≡ Err refusal.NoState = rw (t, v) at e in cc))
 
-    pub write_short : (room : ℕ) → room < n → Refused 18 ≡ wrote_of f m room
+    pub write_short : (room : ℕ) → room < n → Err refusal.NoState ≡ wrote_of f m room
     unfolding wrote_of
     write_short room h =
         let w = went in
@@ -200,7 +171,7 @@ module _ (f : Fields) (m : List ℕ) (r : Wrote) (l : r ≡ length_of f m) where
         let z = lt-leb (length (text_in f m)) room (omega arith) in
         rw (t, v, z)
 
-    pub write_fits : (room : ℕ) → n ≤ room → Text n ≡ wrote_of f m room
+    pub write_fits : (room : ℕ) → n ≤ room → Ok n ≡ wrote_of f m room
     unfolding wrote_of
     write_fits room h =
         let w = went in
@@ -208,7 +179,7 @@ module _ (f : Fields) (m : List ℕ) (r : Wrote) (l : r ≡ length_of f m) where
         let t = w.0 in
         let v = w.1 in
         let z = le-leb (length (text_in f m)) room (omega arith) in
-        rw (t, v, z) (ap Text q)
+        rw (t, v, z) (ap Ok q)
 
 pub text_put : (f : Fields) (m : List ℕ) (all : ℕ) → all ≡ all_of f → {before mid after : List ℕ} {to r : ℕ} → Put before 0 (head_text 2 f) mid to → Put mid to (runs_text (runs_of (take all (blocks m)))) after r
     → after ≡ sets before 0 (text_in f m)
@@ -250,36 +221,27 @@ cleared l n h =
 
 -- ---- `read`
 
-pub accepts_at : (s : List ℕ) (r : Checked) → Checks s r → (f : Fields) (n : ℕ) → r ≡ checked.State f n → Accepts s f n
-accepts_at s r h f n e = let g : Checks s (checked.State f n) = rw e at h in g
-
-pub refuses_at : (s : List ℕ) (r : Checked) → Checks s r → (k : ℕ) → r ≡ checked.Refused k → Refuses s k
-refuses_at s r h k e = let g : Checks s (checked.Refused k) = rw e at h in g
-
 -- the ways in which a text is not taken: what is lent is too short, it is the text of no state, or the state does not fit
 module _ (short : Bool) (Fits : Fields → List Bool → Type 0) (s : List ℕ) where
-  pub too_short : short ≡ true → NotTaken short Fits s 11
-  too_short e = record { number_is = rw e; none = λ f bs t. let l = t.long in let z : ◌≡◌ {A = ℕ} 0 1 = cc in omega arith }
+  pub too_short : short ≡ true → NotTaken short Fits s refusal.TooShort
+  too_short e = record { why_is = rw e; none = λ f bs t. let l = t.long in let z : ◌≡◌ {A = ℕ} 0 1 = cc in omega arith }
 
-  pub not_read : (k : ℕ) → short ≡ false → Refuses s k → NotTaken short Fits s k
-  not_read k e h = record { number_is = rw e h.number_is; none = λ f bs t. h.no_state f bs t.says }
+  pub not_read : (k : Refusal) → short ≡ false → Refuses s k → NotTaken short Fits s k
+  not_read k e h = record { why_is = rw e h.why_is; none = λ f bs t. h.no_state f bs t.says }
 
-  pub not_fitting : short ≡ false → (f : Fields) (n : ℕ) (a : Accepts s f n) → (Fits f a.bs → ⊥) → NotTaken short Fits s 18
+  pub not_fitting : short ≡ false → (f : Fields) (n : ℕ) (a : Accepts s f n) → (Fits f a.bs → ⊥) → NotTaken short Fits s refusal.NoState
   not_fitting e f n a unfit =
       let l = not_later a.says in
       record {
-        number_is = rw (e, l);
+        why_is = rw (e, l);
         none = λ g cs t. let o = one_text s f g a.bs cs a.says t.says in unfit (rw (o.0, o.1) t.fits);
       }
 
-module _ (s before mid after : List ℕ) (long : 32768 ≤ length before) (r : Checked) (h : Checks s r) (f : Fields) (n : ℕ) (e : r ≡ checked.State f n) (all : ℕ) (w : all ≡ all_of f) (most : ℕ) where
-  there : Accepts s f n
-  there = accepts_at s r h f n e
-
+module _ (s before mid after : List ℕ) (long : 32768 ≤ length before) (f : Fields) (n : ℕ) (there : Accepts s f n) (all : ℕ) (w : all ≡ all_of f) (most : ℕ) where
   blocks_of : all ≡ length there.bs
   blocks_of = w ∙ sym there.says.state.all
 
-  pub read_large : most < all → NotTaken (no_room before) (AtMost most) s 18
+  pub read_large : most < all → NotTaken (no_room before) (AtMost most) s refusal.NoState
   read_large l = not_fitting (no_room before) (AtMost most) s (le-ltb (length before) 32768 long) f n there (λ q. let k = blocks_of in omega arith)
 
   pub read_state : all ≤ most → Filled before mid 0 all false → Lays (drop n s) mid after

@@ -9,6 +9,7 @@ ghost use Rattle.save.specs.Text.{shape_ok, head_text};
 ghost use Rattle.save.specs.Writing.{valid_in, length_of, Writes};
 ghost use Rattle.save.specs.Reading.{IsRuns, IsFields, IsHead, Checks, ReadsState};
 
+use refusal::Refusal;
 use runs::{count_runs, lay_runs, put_runs, runs_length};
 use units::{GuestAddr, MemTool};
 use wire::VirtioMemConfig;
@@ -19,11 +20,16 @@ pub const BITMAP: usize = 32768;
 // The form's number.
 const FORM: u64 = 2;
 
+// The line of the form's number, and those of the fields.
+const FORM_LINE: &[u8] = b"form=#\n";
+
+const FIELD_LINES: &[u8] = b"start=#\nregion=#\nrequested=#\nusable=#\nplugged=#\n";
+
 // How many bytes a head has room for: more than any has.
 const HEAD: usize = 256;
 
 // What a save record says beside the blocks. The block size is not in the text of form 2.
-#[derive(Clone, Copy)]
+#[derive(Clone, Copy, Debug, PartialEq, Eq)]
 pub struct Fields {
     pub block: u64,
     pub start: u64,
@@ -33,21 +39,11 @@ pub struct Fields {
     pub plugged: u64,
 }
 
-// The length of a state's text; or the number that the state is refused as.
-#[derive(Clone, Copy)]
-pub enum Wrote {
-    Text(u64),
-    Refused(u64),
-}
-
 // Whether a bitmap of this length has not a bit for each of n blocks.
 pub fn is_short(len: usize, n: u64) -> bool
     ensures { result ≡ ltb len ((n + 7) / 8) }
 {
-    if n % 8 == 0 {
-        return (len as u64) < n / 8;
-    }
-    (len as u64) <= n / 8
+    (len as u64) < n.div_ceil(8)
 }
 
 // Whether the fields are of the record's shape, with 128 MiB of alignment and one region.
@@ -85,11 +81,11 @@ fn valid(f: Fields, bitmap: &[u8]) -> bool
 fn put_head(out: &mut [u8], f: Fields) -> usize
     ensures { Put out.old 0 (head_text 2 f) out.new result }
 {
-    let to = forms::put_form(out, b"form=#\n", &[FORM]);
+    let to = forms::put_form(out, FORM_LINE, &[FORM]);
     forms::put_form_at(
         out,
         to,
-        b"start=#\nregion=#\nrequested=#\nusable=#\nplugged=#\n",
+        FIELD_LINES,
         &[f.start, f.region, f.requested, f.usable, f.plugged],
     )
 }
@@ -103,154 +99,119 @@ fn head_length(f: Fields) -> u64
 }
 
 // How long the text is of a state whose blocks are the first of a packed bitmap. 11, 18.
-pub fn text_length(f: Fields, bitmap: &[u8]) -> Wrote
+pub fn text_length(f: Fields, bitmap: &[u8]) -> Result<u64, Refusal>
     ensures { result ≡ length_of f bitmap.now }
 {
     let all = MemTool::blocks_in(f.region, f.block);
     if is_short(bitmap.len(), all) {
-        return Wrote::Refused(11);
+        return Err(Refusal::TooShort);
     }
     if !valid(f, bitmap) {
-        return Wrote::Refused(18);
+        return Err(Refusal::NoState);
     }
-    Wrote::Text(head_length(f) + runs_length(bitmap, all as usize))
+    Ok(head_length(f) + runs_length(bitmap, all as usize))
 }
 
 // Writes the text of a state whose blocks are the first of a packed bitmap. 11, 18; 18 too where the buffer is
-// shorter than the text.
-pub fn write(f: Fields, bitmap: &[u8], out: &mut [u8]) -> Wrote
+// shorter than the text. The text goes into a lent buffer: there is no heap for a String.
+pub fn write(f: Fields, bitmap: &[u8], out: &mut [u8]) -> Result<u64, Refusal>
     ensures { Writes f bitmap.now out.old out.new result }
 {
-    let long = text_length(f, bitmap);
-    match long {
-        Wrote::Refused(number) => Wrote::Refused(number),
-        Wrote::Text(n) => {
-            if (out.len() as u64) < n {
-                return Wrote::Refused(18);
-            }
-            let to = put_head(out, f);
-            let all = MemTool::blocks_in(f.region, f.block);
-            put_runs(out, to, bitmap, all as usize);
-            Wrote::Text(n)
-        }
+    let n = text_length(f, bitmap)?;
+    if (out.len() as u64) < n {
+        return Err(Refusal::NoState);
     }
+    let to = put_head(out, f);
+    let all = MemTool::blocks_in(f.region, f.block);
+    put_runs(out, to, bitmap, all as usize);
+    Ok(n)
 }
 
-// A state whose text was read, and where its runs start; or the number that the text is refused as.
-#[derive(Clone, Copy)]
-pub enum Checked {
-    State { fields: Fields, runs: usize },
-    Refused(u64),
+// What the head of a text says of a state, and where the state's runs start.
+#[derive(Clone, Copy, Debug, PartialEq, Eq)]
+pub struct State {
+    pub fields: Fields,
+    pub runs: usize,
 }
 
 // Whether the text from a position on is that of the runs of a state with these fields.
-fn runs_of(f: Fields, s: &[u8], at: usize) -> Checked
+fn runs_of(f: Fields, s: &[u8], at: usize) -> Result<State, Refusal>
     ensures { IsRuns f at (drop at s.now) result }
 {
     if !shape_ok(f) {
-        return Checked::Refused(18);
+        return Err(Refusal::NoState);
     }
     let end = MemTool::blocks_in(f.usable, f.block);
-    let Some(n) = count_runs(s, at, end as u32) else {
-        return Checked::Refused(18);
-    };
+    let n = count_runs(s, at, end as u32).ok_or(Refusal::NoState)?;
     let plugged = MemTool::blocks_in(f.plugged, f.block);
     if plugged != n {
-        return Checked::Refused(18);
+        return Err(Refusal::NoState);
     }
-    Checked::State {
+    Ok(State {
         fields: f,
         runs: at,
-    }
-}
-
-// The fields of a text, and where it goes on; or the number that it is refused as.
-#[derive(Clone, Copy)]
-enum Head {
-    At { fields: Fields, next: usize },
-    Refused(u64),
+    })
 }
 
 // The fields at a position of a text.
-fn fields_at(s: &[u8], at: usize) -> Head
+fn fields_at(s: &[u8], at: usize) -> Result<State, Refusal>
     ensures { IsFields s.now (drop at s.now) result }
 {
     let mut v = [0u64; 5];
-    let Some(next) = forms::scan_at(
-        s,
-        at,
-        b"start=#\nregion=#\nrequested=#\nusable=#\nplugged=#\n",
-        &mut v,
-    ) else {
-        return Head::Refused(18);
-    };
+    let found = forms::scan_at(s, at, FIELD_LINES, &mut v);
+    let runs = found.ok_or(Refusal::NoState)?;
+    let [start, region, requested, usable, plugged] = v;
     let fields = Fields {
         block: MemTool::BLOCK_SIZE,
-        start: v[0],
-        region: v[1],
-        requested: v[2],
-        usable: v[3],
-        plugged: v[4],
+        start,
+        region,
+        requested,
+        usable,
+        plugged,
     };
-    Head::At { fields, next }
+    Ok(State { fields, runs })
 }
 
 // The head of a text. A later form is refused by name, before anything else is read.
-fn head_of(s: &[u8]) -> Head
+fn head_of(s: &[u8]) -> Result<State, Refusal>
     ensures { IsHead s.now result }
 {
     let mut v = [0u64; 1];
-    let Some(at) = forms::scan_at(s, 0, b"form=#\n", &mut v) else {
-        return Head::Refused(18);
-    };
-    let form = v[0];
+    let found = forms::scan_at(s, 0, FORM_LINE, &mut v);
+    let at = found.ok_or(Refusal::NoState)?;
+    let [form] = v;
     if FORM < form {
-        return Head::Refused(19);
+        return Err(Refusal::LaterForm);
     }
     if form != FORM {
-        return Head::Refused(18);
+        return Err(Refusal::NoState);
     }
     fields_at(s, at)
 }
 
-// Checks a text whole: the state that it is the text of, or the number that it is refused as. 19, 18.
-pub fn check(s: &[u8]) -> Checked
+// Checks a text whole: the state that it is the text of, or why it is refused. 19, 18.
+pub fn check(s: &[u8]) -> Result<State, Refusal>
     ensures { Checks s.now result }
 {
-    let head = head_of(s);
-    match head {
-        Head::At { fields, next } => runs_of(fields, s, next),
-        Head::Refused(number) => Checked::Refused(number),
-    }
-}
-
-// The fields of a text that was read; or the number that it is refused as.
-#[derive(Clone, Copy)]
-pub enum Got {
-    Fields(Fields),
-    Refused(u64),
+    let head = head_of(s)?;
+    runs_of(head.fields, s, head.runs)
 }
 
 // Reads the text of a state of at most so many blocks: they go into a packed bitmap, which has room for the largest
 // region. 11, 19, 18.
-pub fn read(s: &[u8], most: usize, bitmap: &mut [u8]) -> Got
+pub fn read(s: &[u8], most: usize, bitmap: &mut [u8]) -> Result<Fields, Refusal>
     ensures { ReadsState s.now most bitmap.old bitmap.new result }
 {
     if bitmap.len() < BITMAP {
-        return Got::Refused(11);
+        return Err(Refusal::TooShort);
     }
-    let found = check(s);
-    match found {
-        Checked::Refused(number) => Got::Refused(number),
-        Checked::State { fields, runs } => {
-            let f = fields;
-            let all = MemTool::blocks_in(f.region, f.block);
-            if (most as u64) < all {
-                return Got::Refused(18);
-            }
-            bitmap::set_range(bitmap, 0, all as usize, false);
-            lay_runs(s, runs, bitmap);
-            Got::Fields(fields)
-        }
+    let found = check(s)?;
+    let f = found.fields;
+    let all = MemTool::blocks_in(f.region, f.block);
+    if (most as u64) < all {
+        return Err(Refusal::NoState);
     }
+    bitmap::set_range(bitmap, 0, all as usize, false);
+    lay_runs(s, found.runs, bitmap);
+    Ok(f)
 }

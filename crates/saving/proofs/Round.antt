@@ -1,12 +1,13 @@
 -- SPDX-License-Identifier: Apache-2.0 AND BSD-3-Clause
 -- What was saved is the text of a state; where that may be laid it is laid, and the device is then saved as the same text.
+use Rattle.std.specs.Prelude.{⊤, Result, Ok, Err}
 use Prim.Native.Nat.{ℕ, ◌+◌, ◌/◌, ◌≤◌}
 use mathlib.Core.Path.{◌≡◌, refl, ap, ◌∙◌, sym}
 use mathlib.Core.Bool.{Bool, true, false, ◌&&◌}
 use mathlib.Core.List.{List}
 use native.Mathlib.Omega.{arith}
 use borrow.Author.Tests.{ltb-false, leb-true, le-leb}
-use lib.Dec.{eqb, leb}
+use lib.Dec.{leb}
 use lib.ListN.{length, take, drop, length-take}
 use lib.Seq.{sets, sets-eq, take-append_seam}
 use Rattle.units.proofs.Tests.{by_test, and_left, and_right}
@@ -18,25 +19,17 @@ use Rattle.record.specs.declared.Pending.TheVariants.{Nothing, Create, Discard, 
 use Rattle.record.specs.Shape.{config_shaped_of, shaped_of, is_idle, pending_ok, of_config}
 use Rattle.record.proofs.Laws.{Parts, parts, whole, shaped_is}
 use Rattle.save.specs.declared.Fields.{Fields}
-use Rattle.save.specs.declared.Wrote.{Wrote}
-use Rattle.save.specs.declared.Wrote.TheVariants.{Text, Refused}
+use Rattle.refusal.specs.declared.Refusal.{Refusal}
+use Rattle.refusal.specs.declared.Refusal.TheVariants as refusal
 use Rattle.save.specs.Text.{state_text, state_config, shape_ok, all_of, valid_of, IsState, Says}
 use Rattle.save.specs.Writing.{blocks_for, is_short, valid_in, text_in, wrote_of, written_on}
 use Rattle.save.specs.Reading.{HoldsBlocks}
 use Rattle.save.proofs.Text.{valid_shape, state_block, fields_are, one_text}
-use Rattle.saving.specs.declared.Restored.{Restored}
-use Rattle.saving.specs.declared.Restored.TheVariants.{Device as Laid, Refused as Unlaid}
 use Rattle.saving.specs.Saving.{fields_in, entry_refusal, saved_of, Saves}
 use Rattle.saving.specs.Restoring.{restored_to, TakenOn, RestoresText}
 use Rattle.saving.proofs.Turns.{entry_shaped, same_start, same_region, as_many}
 
 -- ---- saved
-
-other : {A : Type 0} {n k : ℕ} → Text n ≡ Refused k → A
-other e = let z : ◌≡◌ {A = ℕ} 0 1 = cc in absurd (omega arith)
-
-same_number : {m n : ℕ} → Text m ≡ Text n → m ≡ n
-same_number e = cc
 
 -- what a text of n bytes says of the call
 record Went (d : Device) (bitmap : List ℕ) (room n : ℕ) : Type 0 where
@@ -45,26 +38,22 @@ record Went (d : Device) (bitmap : List ℕ) (room n : ℕ) : Type 0 where
   pub fits : length (text_in (fields_in d) bitmap) ≤ room
   pub is_length : n ≡ length (text_in (fields_in d) bitmap)
 
-went : (d : Device) (bitmap : List ℕ) (room n : ℕ) → Text n ≡ saved_of d bitmap room → Went d bitmap room n
+went : (d : Device) (bitmap : List ℕ) (room n : ℕ) → Ok n ≡ saved_of d bitmap room → Went d bitmap room n
 unfolding wrote_of
-went d bitmap room n e =
-    let f = fields_in d in
-    let len = length (text_in f bitmap) in
-    by_test (eqb (entry_refusal d) 0)
-    (λ p.
-    by_test (is_short f bitmap)
-    (λ s. other {k = 11} (e ∙ rw (p, s)))
-    (λ s.
-    by_test (valid_in f bitmap && leb len room)
-    (λ v.
-    record {
-      long = s;
-      valid = and_left (valid_in f bitmap) _ v;
-      fits = leb-true len room (and_right (valid_in f bitmap) _ v);
-      is_length = same_number {n = len} (e ∙ rw (p, s, v));
-    })
-    (λ v. other {k = 18} (e ∙ rw (p, s, v)))))
-    (λ p. other {k = entry_refusal d} (e ∙ rw p))
+went d bitmap room n e = go (entry_refusal d) refl
+  where
+    go : (r : Result ⊤ Refusal) → entry_refusal d ≡ r → Went d bitmap room n
+    go (Err why) p = let x : Ok n ≡ Err why = rw p at e in cc
+    go (Ok admitted) p =
+        let f = fields_in d in
+        let len = length (text_in f bitmap) in
+        by_test (is_short f bitmap) (λ s. let x : Ok n ≡ Err refusal.TooShort = rw (p, s) at e in cc)
+        (λ s.
+        by_test (valid_in f bitmap && leb len room)
+        (λ v.
+        let x : Ok n ≡ Ok len = rw (p, s, v) at e in
+        record { long = s; valid = and_left (valid_in f bitmap) _ v; fits = leb-true len room (and_right (valid_in f bitmap) _ v); is_length = cc })
+        (λ v. let x : Ok n ≡ Err refusal.NoState = rw (p, s, v) at e in cc))
 
 state_in_lem : (f : Fields) (bitmap : List ℕ) → is_short f bitmap ≡ false → valid_in f bitmap ≡ true → IsState f (blocks_for f bitmap)
 state_in_lem f bitmap long valid =
@@ -77,7 +66,7 @@ state_in_lem f bitmap long valid =
 stands_first : (text before : List ℕ) → length text ≤ length before → take (length text) (sets before 0 text) ≡ text
 stands_first text before h = ap (take (length text)) (sets-eq text before 0 (omega arith)) ∙ take-append_seam text (drop (0 + length text) before)
 
-pub saved_says : (d : Device) (bitmap before after : List ℕ) (n : ℕ) → Saves d bitmap before after (Text n) → Says (take n after) (fields_in d) (blocks_for (fields_in d) bitmap)
+pub saved_says : (d : Device) (bitmap before after : List ℕ) (n : ℕ) → Saves d bitmap before after (Ok n) → Says (take n after) (fields_in d) (blocks_for (fields_in d) bitmap)
 saved_says d bitmap before after n s =
     let g = went d bitmap (length before) n s.answer in
     let text = text_in (fields_in d) bitmap in
@@ -88,12 +77,12 @@ saved_says d bitmap before after n s =
 
 -- ---- restored
 
-pub is_laid : (d : Device) (text bitmap bitmap' : List ℕ) (f : Fields) (bs : List Bool) → entry_refusal d ≡ 0 → TakenOn d text bitmap f bs
-    → (r : Restored) → RestoresText d text bitmap bitmap' r → (r ≡ Laid (restored_to f d)) × HoldsBlocks bs bitmap bitmap'
-is_laid d text bitmap bitmap' f bs z t (Laid d') h =
+pub is_laid : (d : Device) (text bitmap bitmap' : List ℕ) (f : Fields) (bs : List Bool) → entry_refusal d ≡ Ok tt → TakenOn d text bitmap f bs
+    → (r : Result Device Refusal) → RestoresText d text bitmap bitmap' r → (r ≡ Ok (restored_to f d)) × HoldsBlocks bs bitmap bitmap'
+is_laid d text bitmap bitmap' f bs z t (Ok d') h =
     let o = one_text text h.fields f h.bs bs h.taken.says t.says in
-    (ap Laid (h.device ∙ ap (λ (x : Fields). restored_to x d) o.0), rw o.1 at h.bitmap)
-is_laid d text bitmap bitmap' f bs z t (Unlaid number) h = absurd (h.none z f bs t)
+    (ap Ok (h.device ∙ ap (λ (x : Fields). restored_to x d) o.0), rw o.1 at h.bitmap)
+is_laid d text bitmap bitmap' f bs z t (Err why) h = absurd (h.none z f bs t)
 
 -- ---- saved again
 
@@ -108,7 +97,7 @@ form_parts : (f : Fields) → shape_ok f ≡ true → Parts (of_config (state_co
 unfolding config_shaped_of
 form_parts f e = parts (of_config (state_config f)) e
 
-module _ (d : Device) (text bitmap bitmap' : List ℕ) (f : Fields) (bs : List Bool) (z : entry_refusal d ≡ 0) (t : TakenOn d text bitmap f bs) where
+module _ (d : Device) (text bitmap bitmap' : List ℕ) (f : Fields) (bs : List Bool) (z : entry_refusal d ≡ Ok tt) (t : TakenOn d text bitmap f bs) where
   same_block : f.block ≡ d.config.block_size
   same_block = state_block t.says.state ∙ sym (shaped_is d (entry_shaped d z).0).block_size
 
@@ -129,7 +118,7 @@ module _ (d : Device) (text bitmap bitmap' : List ℕ) (f : Fields) (bs : List B
         pending = idle_ok d.pending _ _ _ _ (entry_shaped d z).1;
       })
 
-  pub still_admitted : entry_refusal (restored_to f d) ≡ 0
+  pub still_admitted : entry_refusal (restored_to f d) ≡ Ok tt
   unfolding entry_refusal
   still_admitted = let s = still_shaped in let i = (entry_shaped d z).1 in rw (s, i)
 
@@ -155,8 +144,8 @@ module _ (d : Device) (text bitmap bitmap' : List ℕ) (f : Fields) (bs : List B
     still_valid : valid_in (fields_in (restored_to f d)) bitmap' ≡ true
     still_valid = ap (valid_of (fields_in (restored_to f d))) same_blocks ∙ ap (λ (g : Fields). valid_of g bs) same_fields ∙ t.says.state.valid
 
-    pub saved_again : (before after : List ℕ) (w : Wrote) → length text ≤ length before → Saves (restored_to f d) bitmap' before after w
-        → (w ≡ Text (length text)) × (take (length text) after ≡ text)
+    pub saved_again : (before after : List ℕ) (w : Result ℕ Refusal) → length text ≤ length before → Saves (restored_to f d) bitmap' before after w
+        → (w ≡ Ok (length text)) × (take (length text) after ≡ text)
     unfolding wrote_of
     saved_again before after w room s =
         let a = still_admitted in
@@ -164,8 +153,8 @@ module _ (d : Device) (text bitmap bitmap' : List ℕ) (f : Fields) (bs : List B
         let v = still_valid in
         let len : length (text_in (fields_in (restored_to f d)) bitmap') ≡ length text = ap length same_text in
         let fits = le-leb (length text) (length before) room in
-        let answer : w ≡ Text (length text) = s.answer ∙ rw (a, l, v, len, fits) in (
+        let answer : w ≡ Ok (length text) = s.answer ∙ rw (a, l, v, len, fits) in (
           answer,
-          ap (take (length text)) (s.buffer ∙ ap (λ (x : Wrote). written_on x (text_in (fields_in (restored_to f d)) bitmap') before) answer ∙ ap (sets before 0) same_text)
+          ap (take (length text)) (s.buffer ∙ ap (λ (x : Result ℕ Refusal). written_on x (text_in (fields_in (restored_to f d)) bitmap') before) answer ∙ ap (sets before 0) same_text)
               ∙ stands_first text before room,
         )

@@ -1,6 +1,6 @@
 -- SPDX-License-Identifier: Apache-2.0 AND BSD-3-Clause
 -- What restoring promises: where a text may be laid, and what that leaves (R15.13, R15.14).
-use Rattle.std.specs.Prelude.{ℕ, ◌≡◌, Bool, true, false, cond, ◌&&◌, List, eqb, leb}
+use Rattle.std.specs.Prelude.{ℕ, ◌≡◌, Bool, true, false, cond, ◌&&◌, List, eqb, leb, ⊤, Result, Ok, Err}
 use Rattle.units.specs.Numbers.{blocks_in}
 use Rattle.bitmap.specs.Blocks.{blocks, all_are}
 use Rattle.record.specs.declared.Device.{Device}
@@ -8,8 +8,8 @@ use Rattle.record.specs.Changes.{requested_to, plugged_to}
 use Rattle.save.specs.declared.Fields.{Fields}
 use Rattle.save.specs.Writing.{is_short}
 use Rattle.save.specs.Reading.{HoldsBlocks, Takes, refusal_of}
-use Rattle.saving.specs.declared.Restored.{Restored}
-use Rattle.saving.specs.declared.Restored.TheVariants.{Device as Laid, Refused}
+use Rattle.refusal.specs.declared.Refusal.{Refusal}
+use Rattle.refusal.specs.declared.Refusal.TheVariants as refusal
 use Rattle.saving.specs.Saving.{fields_in, entry_refusal}
 
 -- R15.13: a state with the fields f may be laid on the device d, whose bitmap has the blocks bs
@@ -31,25 +31,30 @@ Fits d bitmap f bs = fits_on d (blocks bitmap) f ≡ true
 abbrev pub TakenOn : Device → (s bitmap : List ℕ) → Fields → List Bool → Type 0
 TakenOn d s bitmap f bs = Takes (is_short (fields_in d) bitmap) (Fits d bitmap) s f bs
 
+-- why a record is turned away; or why a text is
+abbrev pub first_of : Result ⊤ Refusal → Refusal → Refusal
+first_of (Ok admitted) why = why
+first_of (Err why) other = why
+
 -- R15.13: 12, 7, 11, 19, 18
-unfoldable pub restore_refusal : Device → (s bitmap : List ℕ) → ℕ
-restore_refusal d s bitmap = cond (eqb (entry_refusal d) 0) (cond (is_short (fields_in d) bitmap) 11 (refusal_of s)) (entry_refusal d)
+unfoldable pub restore_refusal : Device → (s bitmap : List ℕ) → Refusal
+restore_refusal d s bitmap = first_of (entry_refusal d) (cond (is_short (fields_in d) bitmap) refusal.TooShort (refusal_of s))
 
 -- a state was laid: what it says, where it was taken, the record and the bitmap
 pub record Restoring (d : Device) (s before after : List ℕ) (d' : Device) : Type 0 where
   pub fields : Fields
   pub bs : List Bool
-  pub admitted : entry_refusal d ≡ 0
+  pub admitted : entry_refusal d ≡ Ok tt
   pub taken : TakenOn d s before fields bs
   pub device : d' ≡ restored_to fields d
   pub bitmap : HoldsBlocks bs before after
 
 -- nothing was laid, since there is no state to lay
-pub record NotRestoring (d : Device) (s before after : List ℕ) (number : ℕ) : Type 0 where
-  pub number_is : number ≡ restore_refusal d s before
-  pub none : entry_refusal d ≡ 0 → (f : Fields) (bs : List Bool) → TakenOn d s before f bs → ⊥
+pub record NotRestoring (d : Device) (s before after : List ℕ) (why : Refusal) : Type 0 where
+  pub why_is : why ≡ restore_refusal d s before
+  pub none : entry_refusal d ≡ Ok tt → (f : Fields) (bs : List Bool) → TakenOn d s before f bs → ⊥
   pub same : after ≡ before
 
-abbrev pub RestoresText : Device → (s before after : List ℕ) → Restored → Type 0
-RestoresText d s before after (Laid d') = Restoring d s before after d'
-RestoresText d s before after (Refused number) = NotRestoring d s before after number
+abbrev pub RestoresText : Device → (s before after : List ℕ) → Result Device Refusal → Type 0
+RestoresText d s before after (Ok d') = Restoring d s before after d'
+RestoresText d s before after (Err why) = NotRestoring d s before after why

@@ -57,7 +57,7 @@ pub fn read_number(s: &[u8], at: usize) -> Option<Number>
     }
 }
 
-// Puts a byte into a buffer, where there is room for it. Texts are put into lent buffers: there is no heap for a String.
+// Puts a byte into a buffer, where there is room for it. Texts go into lent buffers: there is no heap for a String.
 pub fn put(out: &mut [u8], at: usize, b: u8) -> usize
     ensures { Put out.old at (b ∷ []) out.new result }
 {

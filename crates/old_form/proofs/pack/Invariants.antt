@@ -1,12 +1,7 @@
 -- SPDX-License-Identifier: Apache-2.0 AND BSD-3-Clause
 -- `old_form::pack` meets its contract.
-use Prim.Native.Nat.{◌-◌, ◌≤◌}
-use lib.ListN.{length}
 use Rattle.old_form.proofs.Turns.{Packing}
 use Rattle.old_form.proofs.pack.Given as goal
 
 abbrev pub invariant-loop-i : goal.invariant-loop-i
-invariant-loop-i l = Packing l.old l.initial.bitmap l.i l.bitmap × (l.i ≤ length l.old)
-
-abbrev pub decreases-loop-i : goal.decreases-loop-i
-decreases-loop-i l = length l.old - l.i
+invariant-loop-i l = Packing l.old l.initial.bitmap l.i l.bitmap

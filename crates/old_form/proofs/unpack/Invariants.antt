@@ -1,12 +1,8 @@
 -- SPDX-License-Identifier: Apache-2.0 AND BSD-3-Clause
 -- `old_form::unpack` meets its contract.
-use Prim.Native.Nat.{◌-◌, ◌≤◌}
 use Rattle.bitmap.specs.Blocks.{blocks}
 use Rattle.old_form.proofs.Turns.{Unpacking}
 use Rattle.old_form.proofs.unpack.Given as goal
 
 abbrev pub invariant-loop-i : goal.invariant-loop-i
-invariant-loop-i l = Unpacking (blocks l.bitmap) l.initial.old l.i l.old × (l.i ≤ l.n)
-
-abbrev pub decreases-loop-i : goal.decreases-loop-i
-decreases-loop-i l = l.n - l.i
+invariant-loop-i l = Unpacking (blocks l.bitmap) l.initial.old l.i l.old

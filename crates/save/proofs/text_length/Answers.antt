@@ -8,10 +8,10 @@ pub returns-then-is_short : goal.returns-then-is_short
 returns-then-is_short c = length_short _ _ _ c.blocks_in-all.ensures _ c.is_short.ensures c.if-is_short.true
 
 pub returns-then-not-valid : goal.returns-then-not-valid
-returns-then-not-valid c = length_bad _ _ _ c.blocks_in-all.ensures _ c.is_short.ensures c.if-is_short.false _ c.valid.ensures c.if-not-valid.true-raw
+returns-then-not-valid c = length_bad _ _ _ c.blocks_in-all.ensures _ c.is_short.ensures c.if-is_short.false _ c.valid.ensures c.if-not-valid.true
 
 pub overflow_add-result : goal.overflow_add-result
-overflow_add-result c = let h = length_fits _ _ _ c.blocks_in-all.ensures _ c.is_short.ensures c.if-is_short.false _ c.valid.ensures c.if-not-valid.false-raw _ _ c.head_length.ensures c.runs_length.ensures (omega arith, (omega arith, (omega arith, (omega arith, (omega arith, tt))))) in omega arith
+overflow_add-result c = let h = length_fits _ _ _ c.blocks_in-all.ensures _ c.is_short.ensures c.if-is_short.false _ c.valid.ensures c.if-not-valid.false _ _ c.head_length.ensures c.runs_length.ensures (omega arith, (omega arith, (omega arith, (omega arith, (omega arith, tt))))) in omega arith
 
 pub returns : goal.returns
-returns c = length_is _ _ _ c.blocks_in-all.ensures _ c.is_short.ensures c.if-is_short.false _ c.valid.ensures c.if-not-valid.false-raw _ _ c.head_length.ensures c.runs_length.ensures
+returns c = length_is _ _ _ c.blocks_in-all.ensures _ c.is_short.ensures c.if-is_short.false _ c.valid.ensures c.if-not-valid.false _ _ c.head_length.ensures c.runs_length.ensures

@@ -1,10 +1,13 @@
 -- SPDX-License-Identifier: Apache-2.0 AND BSD-3-Clause
 -- `saving::save` meets its contract.
+use Rattle.std.proofs.lemmas.Result.{err_from_is_err_and}
 use Rattle.saving.proofs.Turns.{not_saved, saved}
 use Rattle.saving.proofs.save.Goals as goal
 
-pub returns-then-number-ne0 : goal.returns-then-number-ne0
-returns-then-number-ne0 c = not_saved _ _ _ c.entry_refusal-number.ensures c.if-number-ne0.true _
+pub returns-in_err-entry_refusal : goal.returns-in_err-entry_refusal
+returns-in_err-entry_refusal c =
+    let err = err_from_is_err_and c.from_residual.result c.from_residual.ensures.1 in
+    rw (err.1, err.2) (not_saved _ _ _ c.in_err-entry_refusal.ensures _)
 
 pub returns : goal.returns
-returns c = saved _ _ _ c.entry_refusal-number.ensures c.if-number-ne0.false _ c.fields_in.ensures _ _ _ c.write.ensures
+returns c = saved _ _ c.in_ok-entry_refusal.ensures _ c.fields_in.ensures _ _ _ c.write.ensures
