@@ -6,7 +6,7 @@ use mathlib.Core.Path.{◌≡◌, refl, ap, ◌∙◌, sym}
 use mathlib.Core.Bool.{Bool, true, false, ◌&&◌}
 use mathlib.Core.List.{List, ◌++◌}
 use native.Mathlib.Omega.{arith}
-use borrow.Author.Tests.{ltb-false, leb-true, eqb-true}
+use borrow.Author.Tests.{ltb-false, leb-true, le-leb, eqb-true, eq-eqb}
 use lib.Dec.{eqb, leb, ltb}
 use lib.ListN.{length, take, drop, replicate, length-take}
 use Rattle.units.specs.Numbers.{blocks_in}
@@ -68,6 +68,13 @@ module _ (d : Device) (m : List ℕ) where
         }
 
 -- ---- `fits_on`
+
+pub all_clear : (d : Device) (bs : List Bool) (f : Fields) → d.placed ≡ true → f.start ≡ d.config.addr.0 → f.region ≡ d.config.region_size
+    → f.usable ≤ d.config.usable_region_size → d.config.plugged_size ≡ 0
+    → (all : ℕ) → all ≡ blocks_in d.config.block_size d.config.region_size → (r : Bool) → r ≡ all_are bs 0 all false → r ≡ fits_on d bs f
+unfolding fits_on
+all_clear d bs f p s g u z all a r c =
+    rw (p, eq-eqb f.start d.config.addr.0 s, eq-eqb f.region d.config.region_size g, le-leb f.usable d.config.usable_region_size u, eq-eqb d.config.plugged_size 0 z, ← a) c
 
 -- what fitting says, part by part
 module _ (d : Device) (bs : List Bool) (f : Fields) (h : fits_on d bs f ≡ true) where
