@@ -1,7 +1,7 @@
 -- SPDX-License-Identifier: Apache-2.0 AND BSD-3-Clause
 -- Each promise leaves one outcome, bytes included: the number, and what stands in each lent slice.
 use Rattle.record.specs.declared.Device.{Device}
-use Rattle.std.specs.Prelude.{Option, Some, None}
+use Rattle.std.specs.Prelude.{Option, Some, None, Result}
 use Prim.Native.Nat.{ℕ, ◌<◌}
 use mathlib.Core.Path.{◌≡◌, ap, ◌∙◌, sym}
 use mathlib.Core.Bool.{Bool, true, false, ◌&&◌}
@@ -10,14 +10,12 @@ use lib.Dec.{leb}
 use lib.ListN.{length, get_or}
 use Rattle.words.specs.Record.{decoded_of}
 use Rattle.save.specs.declared.Fields.{Fields}
-use Rattle.save.specs.declared.Wrote.{Wrote}
-use Rattle.save.specs.declared.Got.{Got}
-use Rattle.saving.specs.declared.Restored.{Restored}
+use Rattle.refusal.specs.declared.Refusal.{Refusal}
 use Rattle.saving.proofs.Once.{restores_once}
 use Rattle.old_form.proofs.Once.{to_new_once, to_old_once}
 use Rattle.save_words.specs.Told.{fields_from, WroteTold, SaveTold, restored_number, restored_words, RestoresFrom, RestoreTold, NewIf, ToNewTold, got_number, got_words, OldIf, ToOldTold}
 
-pub wrote_told_once : (w : Wrote) (len us vs : List ℕ) (m n : ℕ) → WroteTold w len us m → WroteTold w len vs n → (m ≡ n) × (us ≡ vs)
+pub wrote_told_once : (w : Result ℕ Refusal) (len us vs : List ℕ) (m n : ℕ) → WroteTold w len us m → WroteTold w len vs n → (m ≡ n) × (us ≡ vs)
 wrote_told_once w len us vs m n x y = (x.numbered ∙ sym y.numbered, x.told ∙ sym y.told)
 
 pub save_told_once : (words bitmap text len xs ys us vs : List ℕ) (m n : ℕ) → SaveTold words bitmap text xs len us m → SaveTold words bitmap text ys len vs n
@@ -31,8 +29,8 @@ module _ (bitmap xs ys : List ℕ) (p : (i : ℕ) → get_or xs i 0 < 256) (q : 
   unfolding RestoresFrom
   laid_once (Some d) text words us vs m n x y =
       let o = restores_once d text bitmap xs ys x.answer y.answer p q x.restores y.restores in (
-        x.numbered ∙ ap (λ (r : Restored). restored_number r) o.0 ∙ sym y.numbered,
-        x.recorded ∙ ap (λ (r : Restored). restored_words r words) o.0 ∙ sym y.recorded,
+        x.numbered ∙ ap (λ (r : Result Device Refusal). restored_number r) o.0 ∙ sym y.numbered,
+        x.recorded ∙ ap (λ (r : Result Device Refusal). restored_words r words) o.0 ∙ sym y.recorded,
         o.1,
       )
   laid_once None text words us vs m n x y =
@@ -61,10 +59,10 @@ module _ (bitmap xs ys : List ℕ) (p : (i : ℕ) → get_or xs i 0 < 256) (q : 
   unfolding OldIf
   old_once true text old us vs fields ks ls m n x y =
       let o = to_old_once bitmap xs ys p q text old us vs x.answer y.answer x.moves y.moves in (
-        x.numbered ∙ ap (λ (g : Got). got_number g) o.0 ∙ sym y.numbered,
+        x.numbered ∙ ap (λ (g : Result Fields Refusal). got_number g) o.0 ∙ sym y.numbered,
         o.1,
         o.2,
-        x.told ∙ ap (λ (g : Got). got_words g fields) o.0 ∙ sym y.told,
+        x.told ∙ ap (λ (g : Result Fields Refusal). got_words g fields) o.0 ∙ sym y.told,
       )
   old_once false text old us vs fields ks ls m n x y =
       (x.numbered ∙ sym y.numbered, x.scratch_same ∙ sym y.scratch_same, x.bytes_same ∙ sym y.bytes_same, x.words_same ∙ sym y.words_same)

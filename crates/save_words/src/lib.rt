@@ -9,8 +9,8 @@ ghost use Rattle.save_words.specs.Told.{fields_length, fields_from, length_from}
 ghost use Rattle.save_words.specs.Told.{WroteTold, SaveTold, RestoreTold, ToNewTold, ToOldTold};
 
 use old_form::{to_new, to_old};
-use save::{Fields, Got, Wrote};
-use saving::Restored;
+use refusal::Refusal;
+use save::Fields;
 use words::{decode, encode, write_words};
 
 // The fields' length in words: block size, start, region, requested, usable and plugged size.
@@ -35,12 +35,12 @@ fn fields_of(words: &[u64]) -> Fields
 }
 
 // The number of what was written, whose length goes into a word.
-fn tell_wrote(w: Wrote, length: &mut [u64]) -> u64
+fn tell_wrote(w: Result<u64, Refusal>, length: &mut [u64]) -> u64
     ensures { WroteTold w length.old length.new result }
 {
     match w {
-        Wrote::Refused(number) => number,
-        Wrote::Text(n) => {
+        Err(why) => why.number(),
+        Ok(n) => {
             let all: [u64; LENGTH_WORDS] = [n];
             write_words(length, &all);
             0
@@ -54,10 +54,10 @@ pub fn tell_save_length(words: &[u64], bitmap: &[u8], length: &mut [u64]) -> u64
         length.old length.new result }
 {
     if length.len() < LENGTH_WORDS {
-        return 18;
+        return Refusal::NoState.number();
     }
     let Some(d) = decode(words) else {
-        return 12;
+        return Refusal::NoShape.number();
     };
     let w = saving::save_length(d, bitmap);
     tell_wrote(w, length)
@@ -69,10 +69,10 @@ pub fn tell_save(words: &[u64], bitmap: &[u8], text: &mut [u8], length: &mut [u6
         length.old length.new result }
 {
     if length.len() < LENGTH_WORDS {
-        return 18;
+        return Refusal::NoState.number();
     }
     let Some(d) = decode(words) else {
-        return 12;
+        return Refusal::NoShape.number();
     };
     let w = saving::save(d, bitmap, text);
     tell_wrote(w, length)
@@ -84,11 +84,11 @@ pub fn tell_restore(words: &mut [u64], bitmap: &mut [u8], text: &[u8]) -> u64
         bitmap.old bitmap.new result }
 {
     let Some(d) = decode(&words[..]) else {
-        return 12;
+        return Refusal::NoShape.number();
     };
     match saving::restore(d, bitmap, text) {
-        Restored::Refused(number) => number,
-        Restored::Device(laid) => {
+        Err(why) => why.number(),
+        Ok(laid) => {
             encode(laid, words);
             0
         }
@@ -107,10 +107,10 @@ pub fn tell_new(
         text.old text.new length.old length.new result }
 {
     if fields.len() < FIELDS_WORDS {
-        return 18;
+        return Refusal::NoState.number();
     }
     if length.len() < LENGTH_WORDS {
-        return 18;
+        return Refusal::NoState.number();
     }
     let w = to_new(fields_of(fields), old, scratch, text);
     tell_wrote(w, length)
@@ -122,11 +122,11 @@ pub fn tell_old(text: &[u8], scratch: &mut [u8], old: &mut [u8], fields: &mut [u
         old.old old.new fields.old fields.new result }
 {
     if fields.len() < FIELDS_WORDS {
-        return 18;
+        return Refusal::NoState.number();
     }
     match to_old(text, scratch, old) {
-        Got::Refused(number) => number,
-        Got::Fields(f) => {
+        Err(why) => why.number(),
+        Ok(f) => {
             let all: [u64; FIELDS_WORDS] = [
                 f.block,
                 f.start,

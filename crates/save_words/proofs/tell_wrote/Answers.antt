@@ -3,8 +3,8 @@
 use Rattle.save_words.proofs.Ways.{told_number, told_length}
 use Rattle.save_words.proofs.tell_wrote.Goals as goal
 
-pub returns-in-Refused : goal.returns-in-Refused
-returns-in-Refused c = told_number _ _ _ c.in-Refused.is
+pub returns-in-Err : goal.returns-in-Err
+returns-in-Err c = told_number _ _ _ _ c.in-Err.is c.number.ensures
 
-pub returns-in-Text : goal.returns-in-Text
-returns-in-Text c = told_length _ _ _ _ c.in-Text.is c.write_words.ensures
+pub returns-in-Ok : goal.returns-in-Ok
+returns-in-Ok c = told_length _ _ _ _ c.in-Ok.is c.write_words.ensures
