@@ -12,9 +12,7 @@ ghost use Rattle.change.specs.Why.{why, why_number};
 
 use bitmap::all_in_state;
 use rows::mapping_of;
-use units::{
-    GuestAddr, HostAddr, MemTool, RegionOffset, is_multiple, saturating_sub, smaller, sum_within,
-};
+use units::{GuestAddr, HostAddr, MemTool, RegionOffset, is_multiple, sum_within};
 
 // Why a response is an ERROR (R10.17): which of the tests (b), (c) and (d) failed first, or that the host could not
 // discard.
@@ -219,7 +217,7 @@ fn blocks_there(region: u64, block_size: u32, offset: RegionOffset, nb_blocks: u
     }
     let end = MemTool::blocks_in(region, block_size as u64);
     let first = MemTool::blocks_in(offset.0, block_size as u64);
-    smaller(nb_blocks as u64, saturating_sub(end, first))
+    (nb_blocks as u64).min(end.saturating_sub(first))
 }
 
 // The state of a range, over such blocks as the region has (R10.16).

@@ -8,7 +8,7 @@ ghost use Rattle.units.specs.Numbers.{map_regions};
 ghost use Rattle.resize.specs.Resize.{new_size, grown, end_row, creation_size, growth_of};
 
 use rows::first_unmapped;
-use units::{MemTool, map_regions, smaller};
+use units::{MemTool, map_regions};
 
 // The one creation that the growth of the usable size may ask for: its first and its last row, and its bytes.
 #[derive(Clone, Copy)]
@@ -58,7 +58,7 @@ fn end_row(region: u64, size: u64) -> u64
     if count == 0 {
         return 0;
     }
-    smaller(size / MemTool::MAP_REGION_SIZE, count - 1)
+    (size / MemTool::MAP_REGION_SIZE).min(count - 1)
 }
 
 // The bytes of the creation that covers rows i to last of several regions (R6.6).

@@ -23,7 +23,7 @@ use rows::fill;
 use step::{
     Answer, Answered, Shaped, Verdict, pending_refusal, ready_refusal, refuse, respond, sized,
 };
-use units::{GuestAddr, HostAddr, MemTool, RegionOffset, saturating_sub, sum_within};
+use units::{GuestAddr, HostAddr, MemTool, RegionOffset, sum_within};
 use wire::{RequestType, VirtioMemConfig};
 
 // Why a response is an ERROR where the host could not discard (R10.17).
@@ -346,7 +346,7 @@ fn one_answered(
     if !ok {
         return stopped(d, mem, base, status, FAILED_DISCARD);
     }
-    let left = saturating_sub(d.config.plugged_size, d.config.block_size);
+    let left = d.config.plugged_size.saturating_sub(d.config.block_size);
     set_range(bitmap, block as usize, 1, false);
     let cleared = Shaped {
         device: pending_to(plugged_to(d, left), Pending::Nothing),
