@@ -1,2 +1,0 @@
--- SPDX-License-Identifier: Apache-2.0 AND BSD-3-Clause
-mod Looking
