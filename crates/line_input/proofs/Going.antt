@@ -1,7 +1,9 @@
 -- SPDX-License-Identifier: Apache-2.0 AND BSD-3-Clause
 -- How answers come to be those of all lines of an input: a byte, a piece and an end at a time.
-use Rattle.std.proofs.Common.{ℕ, List, [], ◌∷◌, ◌++◌, Option, None, Some, ◌≡◌, refl, append_assoc, arith, take, Result, Ok, Err, OnOk}
+use Rattle.std.proofs.Common.{ℕ, List, [], ◌∷◌, ◌++◌, Option, None, Some, ◌≡◌, Bool, true, ◌==◌, ◌∙◌, refl, sym, append_assoc, arith, length, take, Result, Ok, Err, OnOk}
 use Rattle.std.proofs.lemmas.Grind.{common_steps}
+use Rattle.std.proofs.lemmas.Bool.{eqb-true}
+use Rattle.std.proofs.lemmas.List.{append-nil}
 use Rattle.std.specs.Prelude.{⊤}
 use Rattle.std.specs.Io.KnownBytes.{Consumes, IsAtEnd}
 use Rattle.line_input.specs.Lines.{last_of, lines_from, lines_of, Answers, AnswersInput, Goes}
@@ -53,6 +55,16 @@ reached_end (Some xs) (Some ls) line (Some ys) (Some zs) (Some ms) (Some ns) n b
     let none_left : ys ≡ [] = rw (c, none_taken, e) refl in
     let reached : ms ++ last_of line ≡ ls ++ lines_of xs = rw none_left at r in
     cc
+
+-- at the end of a line that has just begun, nothing is answered
+nothing_left : (line : List ℕ) (old : Option (List (List ℕ))) → length line ≡ 0 → Answers old old (last_of line)
+nothing_left line None e = tt
+nothing_left [] (Some ls) e = sym (append-nil ls)
+nothing_left (b ∷ line) (Some ls) e = absurd (omega arith)
+
+-- where a test says that none of it was read
+pub none_left : (line : List ℕ) (old : Option (List (List ℕ))) (is_empty : Bool) (n : ℕ) → is_empty ≡ (n == 0) → is_empty ≡ true → length line ≡ n → Answers old old (last_of line)
+none_left line old is_empty n means says e = let zero : n ≡ 0 = eqb-true n 0 (sym means ∙ says) in nothing_left line old (omega arith)
 
 -- what follows of an answer, where there is one
 pub on_ok : {A E P Q : Type 0} (r : Result A E) → (P → Q) → OnOk r P → OnOk r Q

@@ -63,10 +63,11 @@ fn finish<A: Allocator, T: AnswerLine>(line: &Vec<u8, A>, to: &mut T) -> io::Res
     ensures { OnOk result (Answers (T.answered to.old) (T.answered to.new)
         (last_of line.now.items)) }
 {
-    if line.is_empty() {
+    let last = line.as_slice();
+    if last.is_empty() {
         return Ok(());
     }
-    to.answer(line.as_slice())
+    to.answer(last)
 }
 
 // Answers each line of an input: those that have ended are answered, and the answers written, before the next read.
