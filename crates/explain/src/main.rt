@@ -7,15 +7,16 @@
 #![tactic(auto)]
 
 use explaining::{explain, put_shown};
-use forms::{put_form, put_form_at};
+use line_input::{AnswerLine, answer_lines};
 use record::Device;
 use refusals::put_waits;
 use sentences::{put_gap, put_row, same_row};
+use std::alloc::Global;
 use std::io;
-use std::io::{BufWriter, Read, Write};
+use std::io::{BufWriter, Write};
 use step::Answer;
 use trace_run::{Run, first_bytes};
-use units::{MemTool, saturating_add, smaller};
+use units::MemTool;
 
 // A row of the map has so many blocks. A region is whole rows: it is a multiple of 256 MiB.
 const ROW: u32 = 64;
@@ -23,52 +24,28 @@ const ROW: u32 = 64;
 // The rows of the largest region.
 const ROWS: u64 = 4096;
 
-// What one read can bring, and how many bytes are held before they are written.
+// How many bytes are held before they are written.
 const ROOM: usize = 65536;
-
-// What has been read of a line fills so many bytes of its buffer, which has 201: one more than a line may have. `lines`
-// counts those that were served, `why` is the last that was a refusal, a NACK or an ERROR, since the guest had what was
-// requested or a size change was done, or 0; its sentence has `said` bytes.
-#[derive(Clone, Copy)]
-struct State {
-    run: Run,
-    filled: usize,
-    lines: u64,
-    why: u64,
-    said: usize,
-}
 
 // Whether an answer is a refusal, a NACK or an ERROR.
 fn holds_back(answer: Answer) -> bool {
     match answer {
         Answer::Refused(_) => true,
-        Answer::Wants(_) => false,
-        Answer::Sized => false,
-        Answer::Unserved(_) => false,
         Answer::Served(reply) => 0 < reply.response.resp_type,
-        Answer::Done => false,
-    }
-}
-
-// Whether a size change, or placing, is done: what was refused before it keeps the guest from nothing.
-fn is_sized(answer: Answer) -> bool {
-    match answer {
-        Answer::Refused(_) => false,
-        Answer::Wants(_) => false,
-        Answer::Sized => true,
-        Answer::Unserved(_) => false,
-        Answer::Served(_) => false,
-        Answer::Done => false,
+        _ => false,
     }
 }
 
 // Whether the guest has what was requested.
 fn has_all(run: Run) -> bool {
-    match run {
-        Run::Before => false,
-        Run::On(device) => device.config.plugged_size == device.config.requested_size,
-        Run::Ended => false,
-    }
+    matches!(run, Run::On(device) if device.config.plugged_size == device.config.requested_size)
+}
+
+// Writes a line, or a sentence, as it is shown.
+fn write_shown<W: Write>(line: &[u8], to: &mut W) -> io::Result<()> {
+    let mut text = [0; 256];
+    let end = put_shown(&mut text, 0, line);
+    to.write_all(first_bytes(&text, end))
 }
 
 // Writes a line with its number, its answer if it has one, and its sentence.
@@ -77,321 +54,183 @@ fn write_line<W: Write>(
     line: &[u8],
     answer: &[u8],
     said: &[u8],
-    out: &mut W,
+    to: &mut W,
 ) -> io::Result<()> {
-    let mut text = [0u8; 1024];
-    let mut to = put_form(&mut text, b"#: ", &[number]);
-    to = put_shown(&mut text, to, line);
-    to = put_form_at(&mut text, to, b"\n", &[]);
-    out.write_all(first_bytes(&text, to))?;
-    if 0 < answer.len() {
-        out.write_all(b"    ")?;
-        out.write_all(answer)?;
+    write!(to, "{number}: ")?;
+    write_shown(line, to)?;
+    to.write_all(b"\n")?;
+    if !answer.is_empty() {
+        to.write_all(b"    ")?;
+        to.write_all(answer)?;
     }
-    to = put_form(&mut text, b"    ", &[]);
-    to = put_shown(&mut text, to, said);
-    to = put_form_at(&mut text, to, b"\n", &[]);
-    out.write_all(first_bytes(&text, to))
+    to.write_all(b"    ")?;
+    write_shown(said, to)?;
+    to.write_all(b"\n")
 }
 
-// What keeps the guest from what was requested, when line `lines` was answered and told by the first bytes of `said`.
-fn after(s: State, next: Run, answer: Answer, lines: u64, said: &[u8], why: &mut [u8]) -> State {
-    if is_sized(answer) | has_all(next) {
-        return State {
-            run: next,
-            filled: 0,
-            lines,
-            why: 0,
-            said: 0,
-        };
-    }
-    if holds_back(answer) {
-        let kept = put_shown(why, 0, said);
-        return State {
-            run: next,
-            filled: 0,
-            lines,
-            why: lines,
-            said: kept,
-        };
-    }
-    State {
-        run: next,
-        filled: 0,
-        lines,
-        ..s
-    }
-}
-
-// A line has ended: it is explained, and what keeps the guest from what was requested is kept.
-fn end_line<W: Write>(
-    s: State,
-    bitmap: &mut [u8],
-    table: &mut [u64],
-    mem: &mut [u8],
-    line: &[u8],
-    why: &mut [u8],
-    to: &mut W,
-) -> io::Result<State> {
-    let mut out = [0u8; 256];
-    let mut said = [0u8; 256];
-    let lines = saturating_add(s.lines, 1);
-    let told = explain(
-        s.run,
-        bitmap,
-        table,
-        mem,
-        first_bytes(line, s.filled),
-        &mut out,
-        &mut said,
-    );
-    let shown = told.shown;
-    let sentence = first_bytes(&said, told.said);
-    write_line(
-        lines,
-        first_bytes(line, s.filled),
-        first_bytes(&out, shown.length),
-        sentence,
-        to,
-    )?;
-    Ok(after(s, shown.run, shown.answer, lines, sentence, why))
-}
-
-// One byte of input. What passes the buffer is dropped: a full buffer is no line, whatever follows.
-fn take<W: Write>(
-    s: State,
-    b: u8,
-    bitmap: &mut [u8],
-    table: &mut [u64],
-    mem: &mut [u8],
-    line: &mut [u8],
-    why: &mut [u8],
-    to: &mut W,
-) -> io::Result<State> {
-    if b == b'\n' {
-        return end_line(s, bitmap, table, mem, line, why, to);
-    }
-    if s.filled < line.len() {
-        line[s.filled] = b;
-        return Ok(State {
-            filled: s.filled + 1,
-            ..s
-        });
-    }
-    Ok(s)
-}
-
-// The bytes that one read brought.
-fn take_all<W: Write>(
-    s: State,
-    input: &[u8],
-    bitmap: &mut [u8],
-    table: &mut [u64],
-    mem: &mut [u8],
-    line: &mut [u8],
-    why: &mut [u8],
-    to: &mut W,
-) -> io::Result<State> {
-    let mut now = s;
-    for b in input {
-        now = take(now, *b, bitmap, table, mem, line, why, to)?;
-    }
-    Ok(now)
-}
-
-// Reads until no bytes come, and answers where the run stands then. What a read has brought is answered before the next
-// one. A proved loop has to end, and nothing says that the input does: so this one has a number of turns that no run
-// uses up.
-fn replay<R: Read, W: Write>(
-    from: &mut R,
-    bitmap: &mut [u8],
-    table: &mut [u64],
-    mem: &mut [u8],
-    line: &mut [u8],
-    why: &mut [u8],
-    to: &mut W,
-) -> io::Result<State> {
-    let mut input = [0u8; ROOM];
-    let mut state = State {
-        run: Run::Before,
-        filled: 0,
-        lines: 0,
-        why: 0,
-        said: 0,
-    };
-    for _ in 0..u64::MAX {
-        let n = from.read(&mut input)?;
-        if n == 0 {
-            break;
-        }
-        state = take_all(state, &input[..n], bitmap, table, mem, line, why, to)?;
-        to.flush()?;
-    }
-    Ok(state)
-}
-
-// A last line may lack its newline.
-fn finish<W: Write>(
-    s: State,
-    bitmap: &mut [u8],
-    table: &mut [u64],
-    mem: &mut [u8],
-    line: &[u8],
-    why: &mut [u8],
-    to: &mut W,
-) -> io::Result<State> {
-    if s.filled == 0 {
-        return Ok(s);
-    }
-    end_line(s, bitmap, table, mem, line, why, to)
-}
-
-// How many rows a line of the map stands for, where it is more than one.
-fn put_count(out: &mut [u8], at: usize, rows: u32) -> usize {
+// Writes a line of the map: so many equal rows, and the number of their first block.
+fn write_rows<W: Write>(bitmap: &[u8], block: u32, rows: u32, to: &mut W) -> io::Result<()> {
+    let mut text = [0; 256];
+    let end = put_row(&mut text, 0, bitmap, block, ROW);
+    to.write_all(b"    ")?;
+    to.write_all(first_bytes(&text, end))?;
     if 1 < rows {
-        return put_form_at(out, at, b", # rows alike\n", &[rows as u64]);
+        return writeln!(to, "  block {block}, {rows} rows alike");
     }
-    put_form_at(out, at, b"\n", &[])
-}
-
-// Writes a line of the map: so many equal rows, of which this is the first, and the number of its first block.
-fn write_rows<W: Write>(bitmap: &[u8], first: u32, rows: u32, out: &mut W) -> io::Result<()> {
-    let mut text = [0u8; 256];
-    let mut to = put_form(&mut text, b"    ", &[]);
-    to = put_row(&mut text, to, bitmap, first, ROW);
-    to = put_form_at(&mut text, to, b"  block #", &[first as u64]);
-    to = put_count(&mut text, to, rows);
-    out.write_all(first_bytes(&text, to))
+    writeln!(to, "  block {block}")
 }
 
 // Writes the map, a line for each run of equal rows.
-fn write_map<W: Write>(bitmap: &[u8], blocks: u64, out: &mut W) -> io::Result<()> {
-    let rows = smaller(blocks / 64, ROWS) as u32;
+fn write_map<W: Write>(bitmap: &[u8], blocks: u64, to: &mut W) -> io::Result<()> {
+    let rows = (blocks / 64).min(ROWS) as u32;
     let mut first = 0;
-    let mut i = 1;
-    while i < rows {
-        if same_row(bitmap, first * ROW, i * ROW, ROW) {
-            i += 1;
-        } else {
-            write_rows(bitmap, first * ROW, i - first, out)?;
-            first = i;
-            i += 1;
+    for row in 1..rows {
+        if !same_row(bitmap, first * ROW, row * ROW, ROW) {
+            write_rows(bitmap, first * ROW, row - first, to)?;
+            first = row;
         }
     }
     if first < rows {
-        write_rows(bitmap, first * ROW, rows - first, out)?;
+        write_rows(bitmap, first * ROW, rows - first, to)?;
     }
     Ok(())
-}
-
-// Writes what has kept the guest from what was requested.
-fn write_why<W: Write>(s: State, why: &[u8], out: &mut W) -> io::Result<()> {
-    let mut text = [0u8; 512];
-    if s.why == 0 {
-        return out.write_all(b"    why: no refusal, no NACK and no ERROR keeps it there\n");
-    }
-    let mut to = put_form(&mut text, b"    why: line #: ", &[s.why]);
-    to = put_shown(&mut text, to, first_bytes(why, s.said));
-    to = put_form_at(&mut text, to, b"\n", &[]);
-    out.write_all(first_bytes(&text, to))
-}
-
-// Whether the device is in a place.
-fn put_place(out: &mut [u8], at: usize, placed: bool) -> usize {
-    if placed {
-        return put_form_at(out, at, b"\n    ", &[]);
-    }
-    put_form_at(out, at, b"\n    the device is in no place\n    ", &[])
 }
 
 // Writes the sizes, what is pending, and how far the guest is from what was requested.
-fn write_sizes<W: Write>(d: Device, out: &mut W) -> io::Result<()> {
-    let mut text = [0u8; 1024];
-    let mut to = put_form(
-        &mut text,
-        b"\nsummary: requested # MiB, usable # MiB, plugged # MiB",
-        &[
-            d.config.requested_size / MemTool::MIB,
-            d.config.usable_region_size / MemTool::MIB,
-            d.config.plugged_size / MemTool::MIB,
-        ],
-    );
-    to = put_place(&mut text, to, d.placed);
-    to = put_waits(&mut text, to, d);
-    to = put_form_at(&mut text, to, b"\n    ", &[]);
-    to = put_gap(
-        &mut text,
+fn write_sizes<W: Write>(d: Device, to: &mut W) -> io::Result<()> {
+    let requested = d.config.requested_size / MemTool::MIB;
+    let usable = d.config.usable_region_size / MemTool::MIB;
+    let plugged = d.config.plugged_size / MemTool::MIB;
+    writeln!(
         to,
-        d.config.requested_size,
-        d.config.plugged_size,
-    );
-    to = put_form_at(&mut text, to, b"\n", &[]);
-    out.write_all(first_bytes(&text, to))
-}
-
-// The summary of a run that has a device.
-fn summary<W: Write>(
-    s: State,
-    d: Device,
-    bitmap: &[u8],
-    why: &[u8],
-    out: &mut W,
-) -> io::Result<()> {
-    write_sizes(d, out)?;
-    if !has_all(s.run) {
-        write_why(s, why, out)?;
+        "\nsummary: requested {requested} MiB, usable {usable} MiB, plugged {plugged} MiB"
+    )?;
+    if !d.placed {
+        to.write_all(b"    the device is in no place\n")?;
     }
-    out.write_all(b"    blocks, 64 to a row, # plugged, . unplugged:\n")?;
-    write_map(
-        bitmap,
-        MemTool::blocks_in(d.config.region_size, d.config.block_size),
-        out,
-    )
+    let mut text = [0; 1024];
+    let end = put_waits(&mut text, 0, d);
+    to.write_all(b"    ")?;
+    to.write_all(first_bytes(&text, end))?;
+    let end = put_gap(&mut text, 0, d.config.requested_size, d.config.plugged_size);
+    to.write_all(b"\n    ")?;
+    to.write_all(first_bytes(&text, end))?;
+    to.write_all(b"\n")
 }
 
-// The summary of a run that has no device.
-fn no_summary<W: Write>(s: State, why: &[u8], out: &mut W) -> io::Result<()> {
-    out.write_all(b"\nsummary: the run never had a device\n")?;
-    if 0 < s.why {
-        write_why(s, why, out)?;
+// A line that keeps the guest from what was requested: its number, and its sentence.
+#[derive(Drop)]
+struct Reason {
+    line: u64,
+    said: Vec<u8>,
+}
+
+// A run, with what it lends to the device and to the guest; how many lines were answered; the last of them that was a
+// refusal, a NACK or an ERROR, since the guest had what was requested or a size change was done; and where all of that
+// is written.
+#[derive(Drop)]
+struct Session<W: Write + Drop> {
+    run: Run,
+    bitmap: [u8; 32768],
+    table: [u64; 1536],
+    mem: [u8; 128],
+    lines: u64,
+    reason: Option<Reason>,
+    alloc: Global,
+    to: W,
+}
+
+impl<W: Write + Drop> Session<W> {
+    // A run before its first line.
+    fn new(alloc: Global, to: W) -> Session<W> {
+        Session {
+            run: Run::Before,
+            bitmap: [0; 32768],
+            table: [0; 1536],
+            mem: [0; 128],
+            lines: 0,
+            reason: None,
+            alloc,
+            to,
+        }
     }
-    Ok(())
+
+    // What keeps the guest from what was requested, after an answer that was told by a sentence. What was refused
+    // before a size change, or placing, is done keeps the guest from nothing.
+    fn keep_reason(&mut self, answer: Answer, said: &[u8]) -> io::Result<()> {
+        if matches!(answer, Answer::Sized) || has_all(self.run) {
+            self.reason = None;
+        } else if holds_back(answer) {
+            self.reason = Some(Reason {
+                line: self.lines,
+                said: said.to_vec(self.alloc)?,
+            });
+        }
+        Ok(())
+    }
+
+    // Writes what has kept the guest from what was requested.
+    fn write_reason(&mut self) -> io::Result<()> {
+        let Some(Reason { line, said }) = &self.reason else {
+            return self.to.write_all(b"    why: no refusal, no NACK and no ERROR keeps it there\n");
+        };
+        write!(self.to, "    why: line {line}: ")?;
+        write_shown(said.as_slice(), &mut self.to)?;
+        self.to.write_all(b"\n")
+    }
+
+    // Writes the summary.
+    fn sum_up(&mut self) -> io::Result<()> {
+        let Run::On(device) = self.run else {
+            self.to
+                .write_all(b"\nsummary: the run never had a device\n")?;
+            if self.reason.is_some() {
+                self.write_reason()?;
+            }
+            return Ok(());
+        };
+        write_sizes(device, &mut self.to)?;
+        if !has_all(self.run) {
+            self.write_reason()?;
+        }
+        self.to
+            .write_all(b"    blocks, 64 to a row, # plugged, . unplugged:\n")?;
+        let blocks = MemTool::blocks_in(device.config.region_size, device.config.block_size);
+        write_map(&self.bitmap, blocks, &mut self.to)
+    }
 }
 
-fn sum_up<W: Write>(s: State, bitmap: &[u8], why: &[u8], out: &mut W) -> io::Result<()> {
-    match s.run {
-        Run::Before => no_summary(s, why, out),
-        Run::On(device) => summary(s, device, bitmap, why, out),
-        Run::Ended => no_summary(s, why, out),
+impl<W: Write + Drop> AnswerLine for Session<W> {
+    // The line is explained, and what keeps the guest from what was requested is kept.
+    fn answer(&mut self, line: &[u8]) -> io::Result<()> {
+        let mut out = [0; 256];
+        let mut said = [0; 256];
+        self.lines = self.lines.saturating_add(1);
+        let told = explain(
+            self.run,
+            &mut self.bitmap,
+            &mut self.table,
+            &mut self.mem,
+            line,
+            &mut out,
+            &mut said,
+        );
+        self.run = told.shown.run;
+        let answer = first_bytes(&out, told.shown.length);
+        let sentence = first_bytes(&said, told.said);
+        write_line(self.lines, line, answer, sentence, &mut self.to)?;
+        self.keep_reason(told.shown.answer, sentence)
+    }
+
+    fn flush(&mut self) -> io::Result<()> {
+        self.to.flush()
     }
 }
 
 fn main(rt: HostRuntime) -> io::Result<()> {
-    let mut bitmap = [0; 32768];
-    let mut table = [0u64; 1536];
-    let mut mem = [0u8; 128];
-    let mut line = [0u8; 201];
-    let mut why = [0u8; 256];
-    let mut from = rt.reader();
-    let mut to = BufWriter::with_capacity(rt.alloc(), ROOM, io::writer(&rt))?;
-    let read = replay(
-        &mut from,
-        &mut bitmap,
-        &mut table,
-        &mut mem,
-        &mut line,
-        &mut why,
-        &mut to,
-    )?;
-    let state = finish(
-        read,
-        &mut bitmap,
-        &mut table,
-        &mut mem,
-        &line,
-        &mut why,
-        &mut to,
-    )?;
-    sum_up(state, &bitmap, &why, &mut to)?;
-    to.flush()
+    let to = BufWriter::with_capacity(rt.alloc(), ROOM, io::writer(&rt))?;
+    let mut session = Session::new(rt.alloc(), to);
+    answer_lines(rt.alloc(), &mut rt.reader(), &mut session)?;
+    session.sum_up()?;
+    session.flush()
 }

@@ -1,346 +1,255 @@
 // SPDX-License-Identifier: Apache-2.0 AND BSD-3-Clause
 // Where a text or old bytes can first no longer be those of a state, and why. This explains, and decides nothing:
 // whether they are refused, and as which number, the crates `save` and `old_form` say.
-use super::saying::behind;
+use super::saying::{ALIGNMENT, Kind, LEAST_REGION, MOST_REGION, Why};
 use forms::scan_at;
 use save::Fields;
-use std::num::wrapping_add_u64;
+use std::fmt;
+use std::fmt::{Display, Formatter, Write};
 use units::{MemTool, sum_within};
 
-const ALIGNMENT: u64 = 128 * MemTool::MIB;
-
-const LEAST_REGION: u64 = 256 * MemTool::MIB;
-
-const MOST_REGION: u64 = 1024 * MemTool::GIB;
-
-// Why, by the key of its words in saying.rt.
-pub const NOTHING: u8 = b'.';
-
-// Of any line; a line that is not what it should be has its own number as its key, and a run's 7.
-pub const BEHIND: u8 = b'b';
-
-pub const NO_NEWLINE: u8 = b'n';
-
-pub const ENDS: u8 = b'e';
-
-// Of the number of the form, and of a field.
-pub const EARLIER: u8 = b'f';
-
-pub const LATER: u8 = b'l';
-
-pub const START: u8 = b's';
-
-pub const START_HIGH: u8 = b'S';
-
-pub const REGION: u8 = b'r';
-
-pub const REGION_HIGH: u8 = b'R';
-
-pub const REQUESTED: u8 = b'q';
-
-pub const USABLE: u8 = b'u';
-
-pub const PLUGGED: u8 = b'p';
-
-pub const UNUSABLE: u8 = b'P';
-
-// Of a run, and of the plugged size beside all runs.
-pub const EMPTY: u8 = b'z';
-
-pub const TOUCHES: u8 = b't';
-
-pub const PAST: u8 = b'o';
-
-pub const RUNS: u8 = b'c';
-
-// Of a byte, and of the plugged size beside all bytes.
-pub const NO_BIT: u8 = b'x';
-
-pub const PAST_BYTE: u8 = b'y';
-
-pub const TOO_MANY: u8 = b'm';
-
-pub const MISSING: u8 = b'i';
-
-pub const BYTES: u8 = b'B';
-
-// What is wrong: in which line of a text, and why, with up to two numbers.
+// Where it is wrong, and why: in a line of a text; or in old bytes and their fields.
 #[derive(Clone, Copy)]
-pub struct Found {
-    pub line: u64,
-    pub why: u8,
-    pub a: u64,
-    pub b: u64,
+pub enum Found {
+    Line { number: u64, why: Why },
+    Old(Why),
 }
 
-// The number of each of the first six lines, by the line.
-type Numbers = [u64; 7];
-
-// What was read before a line: its number, the numbers of the first six, where a run may begin, and how many blocks
-// the runs have.
-#[derive(Clone, Copy)]
-struct Seen {
-    line: u64,
-    v: Numbers,
-    from: u64,
-    blocks: u64,
-}
-
-fn report(line: u64, why: u8, a: u64, b: u64) -> Found {
-    Found { line, why, a, b }
-}
-
-// The first of two that is wrong.
-pub fn first_of(one: Found, other: Found) -> Found {
-    if is_wrong(one) {
-        return one;
+impl Display for Found {
+    fn fmt<W: Write>(&self, f: &mut Formatter<W>) -> fmt::Result {
+        match *self {
+            Found::Line { number, why } => write!(f, "line {number}: {why}"),
+            Found::Old(why) => write!(f, "{why}"),
+        }
     }
-    other
 }
 
-pub fn is_wrong(f: Found) -> bool {
-    f.why != NOTHING
-}
-
-// A line's key: its number, and 7 for a run.
-fn key_of(line: u64) -> u8 {
-    if line < 7 {
-        return b'0' + (line as u8);
+// The number of the form.
+fn check_form(form: u64) -> Result<(), Why> {
+    if form < 2 {
+        return Err(Why::Earlier { form });
     }
-    b'7'
+    if 2 < form {
+        return Err(Why::Later { form });
+    }
+    Ok(())
+}
+
+// The start of the region.
+fn check_start(start: u64) -> Result<(), Why> {
+    if start % ALIGNMENT != 0 {
+        return Err(Why::Unaligned { start });
+    }
+    if !sum_within(start, LEAST_REGION, u64::MAX) {
+        return Err(Why::TooHigh { start });
+    }
+    Ok(())
+}
+
+// The size of the region, which has this start.
+fn check_region(start: u64, region: u64) -> Result<(), Why> {
+    if region == 0 || region % LEAST_REGION != 0 || MOST_REGION < region {
+        return Err(Why::Region { region });
+    }
+    if !sum_within(start, region, u64::MAX) {
+        return Err(Why::RegionHigh { start, region });
+    }
+    Ok(())
 }
 
 // One of three sizes: a multiple of the block size, at most the region.
-fn is_size(n: u64, region: u64) -> bool {
-    (n % MemTool::BLOCK_SIZE == 0) & (n <= region)
+fn check_size(kind: Kind, size: u64, region: u64) -> Result<(), Why> {
+    if size % MemTool::BLOCK_SIZE != 0 || region < size {
+        return Err(Why::Size { kind, size, region });
+    }
+    Ok(())
 }
 
-fn start_wrong(n: u64) -> Found {
-    if n % ALIGNMENT != 0 {
-        return report(2, START, n, 0);
+// The plugged size, beside the region's and the usable one.
+fn check_plugged(f: Fields) -> Result<(), Why> {
+    check_size(Kind::Plugged, f.plugged, f.region)?;
+    if f.usable < f.plugged {
+        return Err(Why::Unusable {
+            plugged: f.plugged,
+            usable: f.usable,
+        });
     }
-    if !sum_within(n, LEAST_REGION, u64::MAX) {
-        return report(2, START_HIGH, n, 0);
-    }
-    report(2, NOTHING, n, 0)
-}
-
-fn region_wrong(start: u64, n: u64) -> Found {
-    if (n == 0) | (n % LEAST_REGION != 0) | (MOST_REGION < n) {
-        return report(3, REGION, n, 0);
-    }
-    if !sum_within(start, n, u64::MAX) {
-        return report(3, REGION_HIGH, start, n);
-    }
-    report(3, NOTHING, n, 0)
-}
-
-fn plugged_wrong(region: u64, usable: u64, n: u64) -> Found {
-    if !is_size(n, region) {
-        return report(6, PLUGGED, n, region);
-    }
-    if usable < n {
-        return report(6, UNUSABLE, n, usable);
-    }
-    report(6, NOTHING, n, 0)
-}
-
-fn size_wrong(line: u64, why: u8, region: u64, n: u64) -> Found {
-    if !is_size(n, region) {
-        return report(line, why, n, region);
-    }
-    report(line, NOTHING, n, 0)
-}
-
-fn form_wrong(n: u64) -> Found {
-    if n < 2 {
-        return report(1, EARLIER, n, 0);
-    }
-    if 2 < n {
-        return report(1, LATER, n, 0);
-    }
-    report(1, NOTHING, n, 0)
-}
-
-fn run_wrong(seen: Seen, first: u64, count: u64) -> Found {
-    if count == 0 {
-        return report(seen.line, EMPTY, first, count);
-    }
-    if first < seen.from {
-        return report(seen.line, TOUCHES, first, count);
-    }
-    if !sum_within(
-        first,
-        count,
-        MemTool::blocks_in(seen.v[5], MemTool::BLOCK_SIZE),
-    ) {
-        return report(seen.line, PAST, first, count);
-    }
-    report(seen.line, NOTHING, first, count)
-}
-
-// The numbers of a line, after those of the lines before it.
-fn numbers_wrong(seen: Seen, a: u64, b: u64) -> Found {
-    let line = seen.line;
-    let v = seen.v;
-    match line {
-        1 => form_wrong(a),
-        2 => start_wrong(a),
-        3 => region_wrong(v[2], a),
-        4 => size_wrong(4, REQUESTED, v[3], a),
-        5 => size_wrong(5, USABLE, v[3], a),
-        6 => plugged_wrong(v[3], v[5], a),
-        _ => run_wrong(seen, a, b),
-    }
-}
-
-fn line_wrong(seen: Seen, line: &[u8]) -> Found {
-    let mut v = [0u64; 2];
-    let key = key_of(seen.line);
-    let form = behind(
-        b"1 form=#
-2 start=#
-3 region=#
-4 requested=#
-5 usable=#
-6 plugged=#
-7 run=#,#
-",
-        key,
-    );
-    let Some(end) = scan_at(line, 0, form, &mut v) else {
-        return report(seen.line, key, 0, 0);
-    };
-    if end < line.len() {
-        return report(seen.line, BEHIND, 0, 0);
-    }
-    numbers_wrong(seen, v[0], v[1])
-}
-
-// What was seen after a line with these numbers.
-fn after(seen: Seen, a: u64, b: u64) -> Seen {
-    let line = seen.line;
-    let next = wrapping_add_u64(line, 1);
-    let mut v = seen.v;
-    if line < 7 {
-        v[line as usize] = a;
-        return Seen {
-            line: next,
-            v: v,
-            from: 0,
-            blocks: 0,
-        };
-    }
-    Seen {
-        line: next,
-        v: v,
-        from: wrapping_add_u64(wrapping_add_u64(a, b), 1),
-        blocks: wrapping_add_u64(seen.blocks, b),
-    }
-}
-
-// What the end of a text lacks.
-fn end_wrong(seen: Seen) -> Found {
-    let plugged = seen.v[6];
-    if seen.line <= 6 {
-        return report(seen.line, ENDS, 0, 0);
-    }
-    if MemTool::blocks_in(plugged, MemTool::BLOCK_SIZE) != seen.blocks {
-        return report(6, RUNS, plugged, seen.blocks);
-    }
-    report(seen.line, NOTHING, 0, 0)
-}
-
-// A last line without a newline: what has none is no later form.
-fn last_wrong(seen: Seen, line: &[u8]) -> Found {
-    let f = line_wrong(seen, line);
-    if is_wrong(f) & (f.why != LATER) {
-        return f;
-    }
-    report(seen.line, NO_NEWLINE, 0, 0)
-}
-
-// The first line at which a text can no longer be that of a state.
-pub fn wrong_line(s: &[u8]) -> Found {
-    let v = [0u64; 7];
-    let mut seen = Seen {
-        line: 1,
-        v: v,
-        from: 0,
-        blocks: 0,
-    };
-    let mut start = 0;
-    let mut i = 0;
-    while i < s.len() {
-        if s[i] == b'\n' {
-            let f = line_wrong(seen, &s[start..i]);
-            if is_wrong(f) {
-                return f;
-            }
-            seen = after(seen, f.a, f.b);
-            start = i + 1;
-        }
-        i += 1;
-    }
-    if start < s.len() {
-        return last_wrong(seen, &s[start..]);
-    }
-    end_wrong(seen)
+    Ok(())
 }
 
 // What is wrong with the fields that old bytes are given, as in the lines of a text.
-pub fn wrong_fields(f: Fields) -> Found {
-    let region = f.region;
-    let start = first_of(start_wrong(f.start), region_wrong(f.start, region));
-    let requested = size_wrong(4, REQUESTED, region, f.requested);
-    let usable = size_wrong(5, USABLE, region, f.usable);
-    let plugged = plugged_wrong(region, f.usable, f.plugged);
-    first_of(start, first_of(requested, first_of(usable, plugged)))
+fn check_fields(f: Fields) -> Result<(), Why> {
+    check_start(f.start)?;
+    check_region(f.start, f.region)?;
+    check_size(Kind::Requested, f.requested, f.region)?;
+    check_size(Kind::Usable, f.usable, f.region)?;
+    check_plugged(f)
 }
 
-fn wide(b: u8) -> u64 {
-    b as u64
+// What was read of a text: its fields, where a run may begin, and how many blocks the runs have.
+#[derive(Drop)]
+struct Seen {
+    fields: Fields,
+    free: u64,
+    blocks: u64,
 }
 
-// A byte, and 1 in `b` where it is a plugged block.
-fn byte_wrong(i: u64, b: u64, all: u64, used: u64) -> Found {
-    if all <= i {
-        return report(0, TOO_MANY, i, all);
-    }
-    if 1 < b {
-        return report(0, NO_BIT, i, b);
-    }
-    if (b == 1) & (used <= i) {
-        return report(0, PAST_BYTE, i, used);
-    }
-    report(0, NOTHING, i, b)
-}
-
-// What the end of n old bytes lacks, of which so many are 1.
-fn bytes_wrong(n: u64, set: u64, f: Fields) -> Found {
-    let all = MemTool::blocks_in(f.region, f.block);
-    if n < all {
-        return report(0, MISSING, n, all);
-    }
-    if MemTool::blocks_in(f.plugged, f.block) != set {
-        return report(0, BYTES, f.plugged, set);
-    }
-    report(0, NOTHING, 0, 0)
-}
-
-// The first of old bytes at which they can no longer be those of a state with these fields.
-pub fn wrong_byte(old: &[u8], f: Fields) -> Found {
-    let all = MemTool::blocks_in(f.region, f.block);
-    let used = MemTool::blocks_in(f.usable, f.block);
-    let mut set: u64 = 0;
-    let mut i = 0;
-    while i < old.len() {
-        let w = byte_wrong(i as u64, wide(old[i]), all, used);
-        if is_wrong(w) {
-            return w;
+impl Seen {
+    // Of a text of which nothing was read.
+    fn nothing() -> Seen {
+        Seen {
+            fields: Fields {
+                block: MemTool::BLOCK_SIZE,
+                start: 0,
+                region: 0,
+                requested: 0,
+                usable: 0,
+                plugged: 0,
+            },
+            free: 0,
+            blocks: 0,
         }
-        set = wrapping_add_u64(set, w.b);
-        i += 1;
     }
-    bytes_wrong(i as u64, set, f)
+
+    // A run, after those before it.
+    fn run(&mut self, first: u64, count: u64) -> Result<(), Why> {
+        if count == 0 {
+            return Err(Why::Empty { first });
+        }
+        if first < self.free {
+            return Err(Why::Touches { first, count });
+        }
+        let usable = MemTool::blocks_in(self.fields.usable, self.fields.block);
+        if !sum_within(first, count, usable) {
+            return Err(Why::Past { first, count });
+        }
+        self.free = first.wrapping_add(count).wrapping_add(1);
+        self.blocks = self.blocks.wrapping_add(count);
+        Ok(())
+    }
+
+    // A line of this kind, without its newline, after the lines before it.
+    fn line(&mut self, kind: Kind, line: &[u8]) -> Result<(), Why> {
+        let mut numbers = [0; 2];
+        let Some(end) = scan_at(line, 0, kind.form(), &mut numbers) else {
+            return Err(Why::NotLine(kind));
+        };
+        if end < line.len() {
+            return Err(Why::Behind);
+        }
+        let [number, count] = numbers;
+        let f = &mut self.fields;
+        match kind {
+            Kind::Form => check_form(number),
+            Kind::Start => {
+                f.start = number;
+                check_start(number)
+            }
+            Kind::Region => {
+                f.region = number;
+                check_region(f.start, number)
+            }
+            Kind::Requested => {
+                f.requested = number;
+                check_size(kind, number, f.region)
+            }
+            Kind::Usable => {
+                f.usable = number;
+                check_size(kind, number, f.region)
+            }
+            Kind::Plugged => {
+                f.plugged = number;
+                check_plugged(*f)
+            }
+            Kind::Run => self.run(number, count),
+        }
+    }
+
+    // A last line without a newline: what has none is no later form.
+    fn last_line(&mut self, kind: Kind, line: &[u8]) -> Why {
+        match self.line(kind, line) {
+            Ok(()) | Err(Why::Later { form: _ }) => Why::NoNewline,
+            Err(why) => why,
+        }
+    }
+
+    // The end of a text, before the line with this number.
+    fn end(&self, number: u64) -> Result<(), Found> {
+        if number <= 6 {
+            return Err(Found::Line {
+                number,
+                why: Why::Ends,
+            });
+        }
+        let plugged = self.fields.plugged;
+        let blocks = self.blocks;
+        if MemTool::blocks_in(plugged, self.fields.block) != blocks {
+            return Err(Found::Line {
+                number: 6,
+                why: Why::Runs { plugged, blocks },
+            });
+        }
+        Ok(())
+    }
+}
+
+// The first line at which a text can no longer be that of a state.
+pub fn check_text(text: &[u8]) -> Result<(), Found> {
+    let mut seen = Seen::nothing();
+    let mut number = 1u64;
+    for line in text.split_inclusive(|b| *b == b'\n') {
+        let kind = Kind::of_line(number);
+        match line.strip_suffix(b"\n") {
+            Some(line) => seen
+                .line(kind, line)
+                .map_err(|why| Found::Line { number, why })?,
+            None => {
+                let why = seen.last_line(kind, line);
+                return Err(Found::Line { number, why });
+            }
+        }
+        number = number.saturating_add(1);
+    }
+    seen.end(number)
+}
+
+// One of old bytes.
+fn check_byte(at: u64, byte: u8, all: u64, usable: u64) -> Result<(), Why> {
+    if all <= at {
+        return Err(Why::TooMany { at, all });
+    }
+    if 1 < byte {
+        return Err(Why::NoBit { at, byte });
+    }
+    if byte == 1 && usable <= at {
+        return Err(Why::PastByte { at, usable });
+    }
+    Ok(())
+}
+
+// All of old bytes.
+fn check_bytes(old: &[u8], f: Fields) -> Result<(), Why> {
+    let all = MemTool::blocks_in(f.region, f.block);
+    let usable = MemTool::blocks_in(f.usable, f.block);
+    for (at, byte) in old.iter().enumerate() {
+        check_byte(at as u64, *byte, all, usable)?;
+    }
+    let at = old.len() as u64;
+    if at < all {
+        return Err(Why::Missing { at, all });
+    }
+    let set = old.iter().filter(|byte| **byte == 1).count() as u64;
+    if MemTool::blocks_in(f.plugged, f.block) != set {
+        return Err(Why::Bytes {
+            plugged: f.plugged,
+            set,
+        });
+    }
+    Ok(())
+}
+
+// The first of the fields, or else of old bytes, at which they can no longer be those of a state.
+pub fn check_old(old: &[u8], f: Fields) -> Result<(), Found> {
+    check_fields(f).map_err(Found::Old)?;
+    check_bytes(old, f).map_err(Found::Old)
 }

@@ -4,291 +4,173 @@
 // why. Then nothing else is written.
 #![tactic(auto)]
 
+ghost use Rattle.std.specs.Prelude.{◌≡◌};
 ghost use Rattle.saved.specs.Telling.{TellsWrong};
 
-use finding::{Found, first_of, wrong_byte, wrong_fields, wrong_line};
-use forms::put_form;
+use finding::{Found, check_old, check_text};
 use old_form::{to_new, to_old};
-use save::{Checked, Fields, Got, Wrote};
-use saying::{first_bytes, put_why};
+use refusal::Refusal;
+use save::Fields;
 use std::env::FillError;
-use std::io;
+use std::fmt::{Display, Formatter};
 use std::io::{Read, Write};
 use std::rt::Env;
-use text::put;
+use std::{fmt, io};
 use units::MemTool;
 
-mod finding; // where it is wrong, and why
-mod saying; // the same in words
+mod finding; // where it is wrong
+mod saying; // why, in words
 
-// A number that a text is refused as, with the first line at which it can no longer be that of a state.
+// No text of a state is as long as this, so one that does not fit is refused for what fits.
+const ROOM: usize = 2097152;
+
+// What a text or old bytes are refused for, and what is found wrong with them.
 #[derive(Clone, Copy)]
-pub enum Wrong {
-    Nothing,
-    Is { number: u64, found: Found },
+pub struct Wrong {
+    refusal: Refusal,
+    found: Option<Found>,
+}
+
+impl Wrong {
+    // A text that is refused.
+    fn in_text(refusal: Refusal, text: &[u8]) -> Wrong
+        ensures { result.refusal ≡ refusal }
+    {
+        Wrong {
+            refusal,
+            found: check_text(text).err(),
+        }
+    }
+}
+
+impl Display for Wrong {
+    fn fmt<W: fmt::Write>(&self, f: &mut Formatter<W>) -> fmt::Result {
+        let number = self.refusal.number();
+        match self.found {
+            Some(found) => write!(f, "{number}: {found}"),
+            // No promise says that what is refused is found; on every input that was tried it is.
+            None => write!(f, "{number}: "),
+        }
+    }
 }
 
 // What is wrong with a text. `save::check` decides.
-fn look(s: &[u8]) -> Wrong
-    ensures { TellsWrong s.now result }
+fn look(text: &[u8]) -> Result<(), Wrong>
+    ensures { TellsWrong text.now result }
 {
-    let checked = save::check(s);
-    match checked {
-        Checked::State { fields: _, runs: _ } => Wrong::Nothing,
-        Checked::Refused(number) => {
-            let line = wrong_line(s);
-            Wrong::Is {
-                number,
-                found: line,
-            }
+    match save::check(text) {
+        Ok(_) => Ok(()),
+        Err(why) => Err(Wrong::in_text(why, text)),
+    }
+}
+
+// The old bytes of a text, which go into a buffer with room for them.
+fn old_of(text: &[u8], scratch: &mut [u8], mut old: Vec<u8>) -> Result<Vec<u8>, Wrong> {
+    look(text)?;
+    match to_old(text, scratch, old.as_mut_slice()) {
+        Ok(f) => {
+            old.truncate(MemTool::blocks_in(f.region, f.block) as usize);
+            Ok(old)
         }
+        Err(refusal) => Err(Wrong::in_text(refusal, text)),
+    }
+}
+
+// The text of old bytes with these fields, which goes into a buffer with room for it.
+fn text_of(f: Fields, old: &[u8], scratch: &mut [u8], mut text: Vec<u8>) -> Result<Vec<u8>, Wrong> {
+    match to_new(f, old, scratch, text.as_mut_slice()) {
+        Ok(n) => {
+            text.truncate(n as usize);
+            Ok(text)
+        }
+        Err(refusal) => Err(Wrong {
+            refusal,
+            found: check_old(old, f).err(),
+        }),
     }
 }
 
 // What the program is asked to do.
 #[derive(Clone, Copy)]
-enum Asked {
+enum Task {
     Move,
     Check,
     Old(Fields),
-    Unknown,
 }
 
-// A number that an argument gives, if it does.
-#[derive(Clone, Copy)]
-struct Given {
-    number: u64,
-    is_given: bool,
-}
-
-// Whether there is such an argument.
-fn is_there(rt: &impl Env, i: usize) -> bool {
-    let mut word = [0u8; 64];
-    match rt.arg(i, &mut word) {
-        Ok(_) => true,
-        Err(FillError::NotPresent) => false,
-        Err(FillError::TooLong) => true,
+// The arguments behind the program's name. One that is longer than any that is asked for is kept as an empty one.
+fn arguments<R: Env + AllocGlobal>(rt: &R) -> io::Result<Vec<Vec<u8>>> {
+    let mut word = [0; 64];
+    let mut all = Vec::new(rt.alloc());
+    for i in 1..usize::MAX {
+        match rt.arg(i, &mut word) {
+            Ok(n) => all.push(word[..n].to_vec(rt.alloc())?)?,
+            Err(FillError::TooLong) => all.push(Vec::new(rt.alloc()))?,
+            Err(FillError::NotPresent) => break,
+        }
     }
+    Ok(all)
 }
 
-// Whether an argument is a word.
-fn is_word(rt: &impl Env, i: usize, form: &[u8], v: &mut [u64]) -> bool {
-    let mut word = [0u8; 64];
-    match rt.arg(i, &mut word) {
-        Ok(n) => forms::scan(&word[..n], form, v),
-        Err(_) => false,
-    }
-}
-
-fn argument(rt: &impl Env, i: usize, form: &[u8]) -> Given {
-    let mut v = [0u64; 1];
-    let is_given = is_word(rt, i, form, &mut v);
-    Given {
-        number: v[0],
-        is_given,
-    }
+// The number that an argument of a form with one hole gives.
+fn number_in(argument: &[u8], form: &[u8]) -> Option<u64> {
+    let mut numbers = [0; 1];
+    let is_of_form = forms::scan(argument, form, &mut numbers);
+    let [number] = numbers;
+    is_of_form.then_some(number)
 }
 
 // The fields, each an argument as its line in a text.
-fn old_task(rt: &impl Env) -> Asked {
-    let start = argument(rt, 2, b"start=#");
-    let region = argument(rt, 3, b"region=#");
-    let requested = argument(rt, 4, b"requested=#");
-    let usable = argument(rt, 5, b"usable=#");
-    let plugged = argument(rt, 6, b"plugged=#");
-    let all = start.is_given
-        & region.is_given
-        & requested.is_given
-        & usable.is_given
-        & plugged.is_given;
-    if !all {
-        return Asked::Unknown;
-    }
-    Asked::Old(Fields {
+fn fields_in(arguments: &[Vec<u8>]) -> Option<Fields> {
+    let [start, region, requested, usable, plugged] = arguments else {
+        return None;
+    };
+    Some(Fields {
         block: MemTool::BLOCK_SIZE,
-        start: start.number,
-        region: region.number,
-        requested: requested.number,
-        usable: usable.number,
-        plugged: plugged.number,
+        start: number_in(start.as_slice(), b"start=#")?,
+        region: number_in(region.as_slice(), b"region=#")?,
+        requested: number_in(requested.as_slice(), b"requested=#")?,
+        usable: number_in(usable.as_slice(), b"usable=#")?,
+        plugged: number_in(plugged.as_slice(), b"plugged=#")?,
     })
 }
 
-fn task(rt: &impl Env) -> Asked {
-    let mut v = [0u64; 1];
-    if !is_there(rt, 1) {
-        return Asked::Move;
-    }
-    if !is_there(rt, 2) & is_word(rt, 1, b"--check", &mut v) {
-        return Asked::Check;
-    }
-    if is_there(rt, 6) & !is_there(rt, 7) & is_word(rt, 1, b"--old", &mut v) {
-        return old_task(rt);
-    }
-    Asked::Unknown
-}
-
-// Where the output fails, that is said in one line too.
-fn write<W: Write, E: Write>(bytes: &[u8], to: &mut W, said: &mut E) -> io::Result<()> {
-    match to.write_all(bytes) {
-        Ok(()) => Ok(()),
-        Err(e) => writeln!(said, "the standard output: {e}"),
-    }
-}
-
-// One line on the standard error: where it is wrong stands first in a buffer, up to `at`, and then why.
-fn say<E: Write>(out: &mut [u8], at: usize, f: Found, said: &mut E) -> io::Result<()> {
-    let to = put_why(out, at, f);
-    let end = put(out, to, b'\n');
-    said.write_all(first_bytes(out, end))
-}
-
-fn say_line<E: Write>(number: u64, f: Found, said: &mut E) -> io::Result<()> {
-    let mut out = [0u8; 256];
-    let to = put_form(&mut out, b"#: line #: ", &[number, f.line]);
-    say(&mut out, to, f, said)
-}
-
-fn say_old<E: Write>(number: u64, old: &[u8], f: Fields, said: &mut E) -> io::Result<()> {
-    let mut out = [0u8; 256];
-    let to = put_form(&mut out, b"#: ", &[number]);
-    say(
-        &mut out,
-        to,
-        first_of(wrong_fields(f), wrong_byte(old, f)),
-        said,
-    )
-}
-
-// The old bytes of a text that is right.
-fn move_text<W: Write, E: Write>(
-    s: &[u8],
-    scratch: &mut [u8],
-    old: &mut [u8],
-    to: &mut W,
-    said: &mut E,
-) -> io::Result<()> {
-    let got = to_old(s, scratch, old);
-    match got {
-        Got::Fields(f) => write(
-            first_bytes(old, MemTool::blocks_in(f.region, f.block) as usize),
-            to,
-            said,
-        ),
-        Got::Refused(number) => say_line(number, wrong_line(s), said),
-    }
-}
-
-fn take_text<W: Write, E: Write>(
-    s: &[u8],
-    only: bool,
-    scratch: &mut [u8],
-    out: &mut [u8],
-    to: &mut W,
-    said: &mut E,
-) -> io::Result<()> {
-    let w = look(s);
-    match w {
-        Wrong::Is { number, found } => say_line(number, found, said),
-        Wrong::Nothing => {
-            if only {
-                write(b"ok\n", to, said)
-            } else {
-                move_text(s, scratch, out, to, said)
-            }
+// What the arguments ask for, if they are right.
+fn task_in(arguments: &[Vec<u8>]) -> Option<Task> {
+    match arguments {
+        [] => Some(Task::Move),
+        [word] if word.as_slice() == b"--check".as_slice() => Some(Task::Check),
+        [word, fields @ ..] if word.as_slice() == b"--old".as_slice() => {
+            Some(Task::Old(fields_in(fields)?))
         }
+        _ => None,
     }
-}
-
-fn take_old<W: Write, E: Write>(
-    old: &[u8],
-    f: Fields,
-    scratch: &mut [u8],
-    text: &mut [u8],
-    to: &mut W,
-    said: &mut E,
-) -> io::Result<()> {
-    let wrote = to_new(f, old, scratch, text);
-    match wrote {
-        Wrote::Text(n) => write(first_bytes(text, n as usize), to, said),
-        Wrote::Refused(number) => say_old(number, old, f, said),
-    }
-}
-
-fn is_check(asked: Asked) -> bool {
-    match asked {
-        Asked::Check => true,
-        _ => false,
-    }
-}
-
-// Reads until the buffer is full or no bytes come, and answers how many came.
-fn read_full<R: Read>(from: &mut R, input: &mut [u8]) -> io::Result<usize> {
-    let mut filled = 0;
-    while filled < input.len() {
-        let n = from.read(&mut input[filled..])?;
-        if n == 0 {
-            break;
-        }
-        filled += n;
-    }
-    Ok(filled)
-}
-
-// No text of a state is as long as the room for it, so one that does not fit is refused for what fits.
-fn run<R: Read, W: Write, E: Write>(
-    asked: Asked,
-    input: &mut [u8],
-    scratch: &mut [u8],
-    out: &mut [u8],
-    from: &mut R,
-    to: &mut W,
-    said: &mut E,
-) -> io::Result<()> {
-    let n = read_full(from, input)?;
-    let s = first_bytes(input, n);
-    match asked {
-        Asked::Old(f) => take_old(s, f, scratch, out, to, said),
-        _ => take_text(s, is_check(asked), scratch, out, to, said),
-    }
-}
-
-fn usage<E: Write>(said: &mut E) -> io::Result<()> {
-    said.write_all(
-        b"usage: bin/saved [--check] [FILE], or \
-        bin/saved --old start=N region=N requested=N usable=N plugged=N [FILE]\n",
-    )
-}
-
-// What a check knows of an array's length it knows here from its type, at no cost.
-fn lend<R: Read, W: Write, E: Write>(
-    asked: Asked,
-    input: &mut [u8; 2097152],
-    scratch: &mut [u8; 32768],
-    out: &mut [u8; 2097152],
-    from: &mut R,
-    to: &mut W,
-    said: &mut E,
-) -> io::Result<()> {
-    run(asked, input, scratch, out, from, to, said)
 }
 
 fn main(rt: HostRuntime) -> io::Result<()> {
-    let mut input = [0u8; 2097152];
-    let mut scratch = [0u8; 32768];
-    let mut out = [0u8; 2097152];
-    let mut said = rt.stderr();
-    let asked = task(&rt);
-    match asked {
-        Asked::Unknown => usage(&mut said),
-        _ => lend(
-            asked,
-            &mut input,
-            &mut scratch,
-            &mut out,
-            &mut rt.reader(),
-            &mut io::writer(&rt),
-            &mut said,
-        ),
+    let Some(task) = task_in(arguments(&rt)?.as_slice()) else {
+        return eprintln!(rt;
+            "usage: bin/saved [--check] [FILE], or \
+            bin/saved --old start=N region=N requested=N usable=N plugged=N [FILE]"
+        );
+    };
+    let mut input = Vec::with_capacity(rt.alloc(), ROOM)?;
+    rt.reader().take(ROOM as u64).read_to_end(&mut input)?;
+    let mut scratch = [0; save::BITMAP];
+    let out = vec![in rt.alloc(); 0; ROOM]?;
+    let made = match task {
+        Task::Move => old_of(input.as_slice(), &mut scratch, out),
+        Task::Old(fields) => text_of(fields, input.as_slice(), &mut scratch, out),
+        Task::Check => {
+            let ok = b"ok\n".to_vec(rt.alloc())?;
+            look(input.as_slice()).map(|()| ok)
+        }
+    };
+    match made {
+        Ok(bytes) => match io::writer(&rt).write_all(bytes.as_slice()) {
+            Ok(()) => Ok(()),
+            Err(e) => eprintln!(rt; "the standard output: {e}"),
+        },
+        Err(wrong) => eprintln!(rt; "{wrong}"),
     }
 }

@@ -7,129 +7,61 @@
 // Input without a byte prints nothing.
 #![tactic(auto)]
 
+use line_input::{AnswerLine, answer_lines};
 use std::io;
-use std::io::{BufWriter, Read, Write};
+use std::io::{BufWriter, Write};
 use trace_run::{Run, first_bytes, serve};
 
-// What one read can bring, and how many bytes of answers are held before they are written.
+// How many bytes of answers are held before they are written.
 const ROOM: usize = 65536;
 
-// What has been read of a line fills so many bytes of its buffer, which has 201: one more than a line may have.
-#[derive(Clone, Copy)]
-struct State {
+// A run, with what it lends to the device and to the guest, and where its answers go.
+#[derive(Drop)]
+struct Session<W: Write + Drop> {
     run: Run,
-    filled: usize,
+    bitmap: [u8; 32768],
+    table: [u64; 1536],
+    mem: [u8; 128],
+    to: W,
 }
 
-// A line has ended: it is served, and what it prints goes into the output, which is flushed after each read.
-fn end_line<W: Write>(
-    s: State,
-    bitmap: &mut [u8],
-    table: &mut [u64],
-    mem: &mut [u8],
-    line: &[u8],
-    to: &mut W,
-) -> io::Result<State> {
-    let mut out = [0u8; 256];
-    let shown = serve(
-        s.run,
-        bitmap,
-        table,
-        mem,
-        first_bytes(line, s.filled),
-        &mut out,
-    );
-    to.write_all(first_bytes(&out, shown.length))?;
-    Ok(State {
-        run: shown.run,
-        filled: 0,
-    })
-}
-
-// One byte of input. What passes the buffer is dropped: a full buffer is no line, whatever follows.
-fn take<W: Write>(
-    s: State,
-    b: u8,
-    bitmap: &mut [u8],
-    table: &mut [u64],
-    mem: &mut [u8],
-    line: &mut [u8],
-    to: &mut W,
-) -> io::Result<State> {
-    if b == b'\n' {
-        return end_line(s, bitmap, table, mem, line, to);
-    }
-    if s.filled < line.len() {
-        line[s.filled] = b;
-        return Ok(State {
-            filled: s.filled + 1,
-            ..s
-        });
-    }
-    Ok(s)
-}
-
-// The bytes that one read brought.
-fn take_all<W: Write>(
-    s: State,
-    input: &[u8],
-    bitmap: &mut [u8],
-    table: &mut [u64],
-    mem: &mut [u8],
-    line: &mut [u8],
-    to: &mut W,
-) -> io::Result<State> {
-    let mut now = s;
-    for b in input {
-        now = take(now, *b, bitmap, table, mem, line, to)?;
-    }
-    Ok(now)
-}
-
-// Reads until no bytes come, and answers where the run stands then. What a read has brought is answered before the next
-// one. A proved loop has to end, and nothing says that the input does: so this one has a number of turns that no run
-// uses up.
-fn replay<R: Read, W: Write>(
-    from: &mut R,
-    bitmap: &mut [u8],
-    table: &mut [u64],
-    mem: &mut [u8],
-    line: &mut [u8],
-    to: &mut W,
-) -> io::Result<State> {
-    let mut input = [0u8; ROOM];
-    let mut state = State {
-        run: Run::Before,
-        filled: 0,
-    };
-    for _ in 0..u64::MAX {
-        let n = from.read(&mut input)?;
-        if n == 0 {
-            break;
+impl<W: Write + Drop> Session<W> {
+    // A run before its first line.
+    fn new(to: W) -> Session<W> {
+        Session {
+            run: Run::Before,
+            bitmap: [0; 32768],
+            table: [0; 1536],
+            mem: [0; 128],
+            to,
         }
-        state = take_all(state, &input[..n], bitmap, table, mem, line, to)?;
-        to.flush()?;
     }
-    Ok(state)
+}
+
+impl<W: Write + Drop> AnswerLine for Session<W> {
+    // The line is served, and what it prints goes into the output.
+    fn answer(&mut self, line: &[u8]) -> io::Result<()> {
+        let mut out = [0; 256];
+        let shown = serve(
+            self.run,
+            &mut self.bitmap,
+            &mut self.table,
+            &mut self.mem,
+            line,
+            &mut out,
+        );
+        self.run = shown.run;
+        self.to.write_all(first_bytes(&out, shown.length))
+    }
+
+    fn flush(&mut self) -> io::Result<()> {
+        self.to.flush()
+    }
 }
 
 fn main(rt: HostRuntime) -> io::Result<()> {
-    let mut bitmap = [0; 32768];
-    let mut table = [0u64; 1536];
-    let mut mem = [0u8; 128];
-    let mut line = [0u8; 201];
-    let mut from = rt.reader();
-    let mut to = BufWriter::with_capacity(rt.alloc(), ROOM, io::writer(&rt))?;
-    let state = replay(
-        &mut from,
-        &mut bitmap,
-        &mut table,
-        &mut mem,
-        &mut line,
-        &mut to,
-    )?;
-    if state.filled > 0 {
-        end_line(state, &mut bitmap, &mut table, &mut mem, &line, &mut to)?;
-    }
-    to.flush()
+    let to = BufWriter::with_capacity(rt.alloc(), ROOM, io::writer(&rt))?;
+    let mut session = Session::new(to);
+    answer_lines(rt.alloc(), &mut rt.reader(), &mut session)?;
+    session.flush()
 }

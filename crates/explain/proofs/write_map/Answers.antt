@@ -3,8 +3,5 @@
 use Rattle.std.proofs.Common.{arith}
 use Rattle.explain.proofs.write_map.Goals as goal
 
-pub overflow_cast-rows : goal.overflow_cast-rows
-overflow_cast-rows g c = let e = c.smaller-rows.ensures in omega arith
-
-pub loop-i-init : goal.loop-i-init
-loop-i-init g c = let e = c.smaller-rows.ensures in (omega arith, omega arith, omega arith)
+pub loop-row-init : goal.loop-row-init
+loop-row-init g c = let e = c.min-rows.ensures in (omega arith, omega arith)

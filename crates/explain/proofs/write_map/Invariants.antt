@@ -1,10 +1,7 @@
 -- SPDX-License-Identifier: Apache-2.0 AND BSD-3-Clause
--- `explain::write_map` is safe and ends. Invariant: the first row of the run stands before row i, and there are at most 4,096. The measure is the rows that are left.
-use Rattle.std.proofs.Common.{◌-◌, ◌≤◌, ◌<◌}
+-- `explain::write_map` is safe. Invariant: the first row of the run stands before the row, and there are at most 4,096.
+use Rattle.std.proofs.Common.{◌≤◌, ◌<◌}
 use Rattle.explain.proofs.write_map.Given as goal
 
-abbrev pub invariant-loop-i : goal.invariant-loop-i
-invariant-loop-i g l = (l.first < l.i) × (l.i ≤ 4097) × (l.rows ≤ 4096)
-
-abbrev pub decreases-loop-i : goal.decreases-loop-i
-decreases-loop-i g l = l.rows - l.i
+abbrev pub invariant-loop-row : goal.invariant-loop-row
+invariant-loop-row g l = (l.first < l.row) × (l.rows ≤ 4096)

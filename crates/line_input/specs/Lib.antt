@@ -1,2 +1,2 @@
 -- SPDX-License-Identifier: Apache-2.0 AND BSD-3-Clause
-mod Looking
+pub mod Lines
