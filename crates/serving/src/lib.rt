@@ -429,17 +429,19 @@ pub fn host_answer(
             first,
             count,
             status,
-        } => unplug_answered(
-            shaped,
-            bitmap,
-            &table[..],
-            mem,
-            base,
-            first,
-            count,
-            status,
-            ok,
-        ),
+        } => {
+            unplug_answered(
+                shaped,
+                bitmap,
+                &table[..],
+                mem,
+                base,
+                first,
+                count,
+                status,
+                ok,
+            )
+        }
         Pending::DiscardOne { block, status } => {
             one_answered(shaped, bitmap, &table[..], mem, base, block, status, ok)
         }
