@@ -316,7 +316,8 @@ fn unplug_answered(
         (lent bitmap.new table.now mem.new) result }
 {
     let d = shaped.device;
-    if !ok {
+    let failed = !ok;
+    if failed {
         return stopped(d, mem, base, status, FAILED_DISCARD);
     }
     let left = d.config.plugged_size - count * d.config.block_size;
@@ -429,19 +430,17 @@ pub fn host_answer(
             first,
             count,
             status,
-        } => {
-            unplug_answered(
-                shaped,
-                bitmap,
-                &table[..],
-                mem,
-                base,
-                first,
-                count,
-                status,
-                ok,
-            )
-        }
+        } => unplug_answered(
+            shaped,
+            bitmap,
+            &table[..],
+            mem,
+            base,
+            first,
+            count,
+            status,
+            ok,
+        ),
         Pending::DiscardOne { block, status } => {
             one_answered(shaped, bitmap, &table[..], mem, base, block, status, ok)
         }

@@ -7,8 +7,8 @@ use Rattle.record.proofs.Laws.{shaped_is, discard_is}
 use Rattle.serving.proofs.Entries.{unplug_fails, unplug_done}
 use Rattle.serving.proofs.unplug_answered.Goals as goal
 
-pub returns-then-not-ok : goal.returns-then-not-ok
-returns-then-not-ok c = unplug_fails _ _ _ c.args.shaped.shape _ _ _ _ _ _ c.if-not-ok.true c.stopped.ensures
+pub returns-then-failed : goal.returns-then-failed
+returns-then-failed c = unplug_fails _ _ _ c.args.shaped.shape _ _ _ _ _ _ c.if-failed.true c.stopped.ensures
 
 pub overflow_mul-left : goal.overflow_mul-left
 overflow_mul-left c =
@@ -25,4 +25,4 @@ overflow_sub-left c =
     omega (arith, shape, same, discard_is _ c.args.shaped.shape _ _ _ c.requires)
 
 pub returns : goal.returns
-returns c = unplug_done _ _ _ c.args.shaped.shape _ _ _ _ _ _ c.if-not-ok.false _ c.set_range.ensures _ _ c.plugged_to.ensures c.pending_to-unplugged.ensures (rw c.ack.ensures at c.respond.ensures)
+returns c = unplug_done _ _ _ c.args.shaped.shape _ _ _ _ _ _ c.if-failed.false _ c.set_range.ensures _ _ c.plugged_to.ensures c.pending_to-unplugged.ensures (rw c.ack.ensures at c.respond.ensures)
