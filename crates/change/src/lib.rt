@@ -66,6 +66,22 @@ pub fn why_number(why: Option<Reason>) -> u64
     }
 }
 
+// Where requests may lie: `size` bytes from the start on, in blocks of this size. The size is the usable one, or the
+// region's for a state.
+#[derive(Clone, Copy)]
+pub struct Area {
+    pub start: GuestAddr,
+    pub size: u64,
+    pub block_size: u32,
+}
+
+// The blocks that a request names: so many from an address on.
+#[derive(Clone, Copy)]
+pub struct Blocks {
+    pub addr: GuestAddr,
+    pub nb_blocks: u16,
+}
+
 // A change that passed the tests (b), (c) and (d): its first block, its offset and its host address.
 #[derive(Clone, Copy)]
 pub struct Change {
@@ -94,31 +110,6 @@ fn inside_of(
         return Err(Reason::EndPastUsable);
     }
     Ok(offset)
-}
-
-// Test (b), part by part.
-pub fn range_of(
-    start: GuestAddr,
-    usable: u64,
-    block_size: u32,
-    addr: GuestAddr,
-    nb_blocks: u16,
-) -> Result<RegionOffset, Reason>
-    ensures { result ≡ range_of block_size start.0 usable addr.0 nb_blocks }
-{
-    let aligned = is_multiple(addr.0, block_size as u64);
-    if !aligned {
-        return Err(Reason::Alignment);
-    }
-    let no_blocks = nb_blocks == 0;
-    if no_blocks {
-        return Err(Reason::ZeroBlocks);
-    }
-    let size = MemTool::bytes_of(nb_blocks, block_size);
-    if !sum_within(addr.0, size, u64::MAX) {
-        return Err(Reason::Overflow);
-    }
-    inside_of(start, usable, addr, size)
 }
 
 // A range at an offset from what is mapped at `host`.
@@ -164,35 +155,6 @@ pub fn host_of(
     host_in(mapping_of(table, offset.map_region()), within, size)
 }
 
-// The tests (b), (c) and (d) of a plug, or of an unplug (R10.2).
-pub fn change_of(
-    start: GuestAddr,
-    usable: u64,
-    block_size: u32,
-    several: bool,
-    addr: GuestAddr,
-    nb_blocks: u16,
-    plug: bool,
-    bitmap: &[u8],
-    table: &[u64],
-) -> Result<Change, Reason>
-    ensures { result ≡ change_of block_size start.0 usable several addr.0 nb_blocks plug
-        (blocks bitmap.now) (rows_of table.now) }
-{
-    let offset = range_of(start, usable, block_size, addr, nb_blocks)?;
-    let first = MemTool::blocks_in(offset.0, block_size as u64);
-    if !all_in_state(bitmap, first as usize, nb_blocks as usize, !plug) {
-        return Err(Reason::WrongState);
-    }
-    let size = MemTool::bytes_of(nb_blocks, block_size);
-    let host = host_of(several, table, offset, size)?;
-    Ok(Change {
-        first: first,
-        offset: offset,
-        host: host,
-    })
-}
-
 // The state of blocks: plugged 0, unplugged 1, mixed 2 (R7.4).
 fn state_in(bitmap: &[u8], first: usize, count: usize) -> u16
     ensures { result ≡ state_in (range (blocks bitmap.now) first count) }
@@ -220,25 +182,75 @@ fn blocks_there(region: u64, block_size: u32, offset: RegionOffset, nb_blocks: u
     (nb_blocks as u64).min(end.saturating_sub(first))
 }
 
-// The state of a range, over such blocks as the region has (R10.16).
-pub fn state_of(
-    start: GuestAddr,
-    region: u64,
-    block_size: u32,
-    addr: GuestAddr,
-    nb_blocks: u16,
-    bitmap: &[u8],
-) -> u16
-    ensures { result ≡ state_of block_size start.0 region addr.0 nb_blocks (blocks bitmap.now) }
-{
-    if addr.0 < start.0 {
-        return 0;
+impl Area {
+    // Test (b), part by part.
+    pub fn range_of(self, asked: Blocks) -> Result<RegionOffset, Reason>
+        ensures { result ≡ range_of self.block_size self.start.0 self.size asked.addr.0 asked.nb_blocks }
+    {
+        let addr = asked.addr;
+        let nb_blocks = asked.nb_blocks;
+        let block_size = self.block_size;
+        let aligned = is_multiple(addr.0, block_size as u64);
+        if !aligned {
+            return Err(Reason::Alignment);
+        }
+        let no_blocks = nb_blocks == 0;
+        if no_blocks {
+            return Err(Reason::ZeroBlocks);
+        }
+        let size = MemTool::bytes_of(nb_blocks, block_size);
+        if !sum_within(addr.0, size, u64::MAX) {
+            return Err(Reason::Overflow);
+        }
+        inside_of(self.start, self.size, addr, size)
     }
-    if block_size == 0 {
-        return 0;
+
+    // The tests (b), (c) and (d) of a plug, or of an unplug (R10.2).
+    pub fn change_of(
+        self,
+        several: bool,
+        asked: Blocks,
+        plug: bool,
+        bitmap: &[u8],
+        table: &[u64],
+    ) -> Result<Change, Reason>
+        ensures { result ≡ change_of self.block_size self.start.0 self.size several asked.addr.0 asked.nb_blocks plug
+            (blocks bitmap.now) (rows_of table.now) }
+    {
+        let nb_blocks = asked.nb_blocks;
+        let block_size = self.block_size;
+        let offset = self.range_of(asked)?;
+        let first = MemTool::blocks_in(offset.0, block_size as u64);
+        if !all_in_state(bitmap, first as usize, nb_blocks as usize, !plug) {
+            return Err(Reason::WrongState);
+        }
+        let size = MemTool::bytes_of(nb_blocks, block_size);
+        let host = host_of(several, table, offset, size)?;
+        Ok(Change {
+            first: first,
+            offset: offset,
+            host: host,
+        })
     }
-    let offset = addr.offset_from(start);
-    let count = blocks_there(region, block_size, offset, nb_blocks);
-    let first = MemTool::blocks_in(offset.0, block_size as u64);
-    state_in(bitmap, first as usize, count as usize)
+
+    // The state of a range, over such blocks as the region has (R10.16).
+    pub fn state_of(self, asked: Blocks, bitmap: &[u8]) -> u16
+        ensures { result ≡ state_of self.block_size self.start.0 self.size asked.addr.0 asked.nb_blocks (blocks bitmap.now) }
+    {
+        let start = self.start;
+        let region = self.size;
+        let block_size = self.block_size;
+        let addr = asked.addr;
+        let nb_blocks = asked.nb_blocks;
+        if addr.0 < start.0 {
+            return 0;
+        }
+        if block_size == 0 {
+            return 0;
+        }
+        let offset = addr.offset_from(start);
+        let count = blocks_there(region, block_size, offset, nb_blocks);
+        let first = MemTool::blocks_in(offset.0, block_size as u64);
+        state_in(bitmap, first as usize, count as usize)
+    }
 }

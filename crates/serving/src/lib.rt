@@ -16,7 +16,7 @@ ghost use Rattle.bitmap.specs.Blocks.{blocks, block_at};
 
 use bitmap::{next_set, set_range};
 use chain::{Asked, NoRequest, parse};
-use change::{Reason, change_of, host_of, range_of, state_of};
+use change::{Area, Blocks, Reason, host_of};
 use record::{Device, HostCall, Pending};
 use refusal::Refusal;
 use rows::fill;
@@ -24,7 +24,7 @@ use step::{
     Answer, Answered, Shaped, Verdict, pending_refusal, ready_refusal, refuse, respond, sized,
 };
 use units::{GuestAddr, HostAddr, MemTool, RegionOffset, sum_within};
-use wire::{RequestType, VirtioMemConfig};
+use wire::{RequestType, VirtioMemConfig, VirtioMemReq};
 
 // Why a response is an ERROR where the host could not discard (R10.17).
 const FAILED_DISCARD: Reason = Reason::FailedDiscard;
@@ -53,6 +53,32 @@ fn pending_to(d: Device, pending: Pending) -> Device
     }
 }
 
+// Where a request may lie: so many bytes from the start on. By the shape the block size fits 32 bits.
+fn area_of(shaped: Shaped, size: u64) -> Area
+    ensures { result ≡ record {
+      start = shaped.device.config.addr;
+      size = size;
+      block_size = shaped.device.config.block_size;
+    } }
+{
+    let config = shaped.device.config;
+    Area {
+        start: config.addr,
+        size: size,
+        block_size: config.block_size as u32,
+    }
+}
+
+// The blocks that a request names.
+fn blocks_of(request: VirtioMemReq) -> Blocks
+    ensures { result ≡ record { addr = request.addr; nb_blocks = request.nb_blocks } }
+{
+    Blocks {
+        addr: request.addr,
+        nb_blocks: request.nb_blocks,
+    }
+}
+
 // Ends an unplug or an unplug-all with ERROR: nothing has changed but that nothing is pending.
 fn stopped(d: Device, mem: &mut [u8], base: GuestAddr, status: GuestAddr, why: Reason) -> Answered
     ensures { Does (λ w. stops why w status.0) d base
@@ -77,28 +103,16 @@ fn plug(
         (lent bitmap.new table.now mem.new) result }
 {
     let d = shaped.device;
-    let addr = asks.request.addr;
-    let nb_blocks = asks.request.nb_blocks;
+    let blocks = blocks_of(asks.request);
+    let nb_blocks = blocks.nb_blocks;
     let status = asks.status;
     let plugged = d.config.plugged_size;
-    let block_size = d.config.block_size as u32;
-    let size = MemTool::bytes_of(nb_blocks, block_size);
+    let area = area_of(shaped, d.config.usable_region_size);
+    let size = MemTool::bytes_of(nb_blocks, area.block_size);
     if !sum_within(plugged, size, d.config.requested_size) {
         return respond(d, mem, base, status, Verdict::nack());
     }
-    let start = d.config.addr;
-    let usable = d.config.usable_region_size;
-    let tested = change_of(
-        start,
-        usable,
-        block_size,
-        d.several,
-        addr,
-        nb_blocks,
-        true,
-        &bitmap[..],
-        table,
-    );
+    let tested = area.change_of(d.several, blocks, true, &bitmap[..], table);
     let change = match tested {
         Ok(change) => change,
         Err(why) => return respond(d, mem, base, status, Verdict::error(why)),
@@ -138,20 +152,16 @@ fn unplug(
         (lent bitmap.now table.now mem.new) result }
 {
     let d = shaped.device;
-    let addr = asks.request.addr;
-    let nb_blocks = asks.request.nb_blocks;
+    let blocks = blocks_of(asks.request);
+    let nb_blocks = blocks.nb_blocks;
     let status = asks.status;
-    let start = d.config.addr;
-    let usable = d.config.usable_region_size;
-    let block_size = d.config.block_size as u32;
-    let tested = change_of(
-        start, usable, block_size, d.several, addr, nb_blocks, false, bitmap, table,
-    );
+    let area = area_of(shaped, d.config.usable_region_size);
+    let tested = area.change_of(d.several, blocks, false, bitmap, table);
     let change = match tested {
         Ok(change) => change,
         Err(why) => return respond(d, mem, base, status, Verdict::error(why)),
     };
-    let size = MemTool::bytes_of(nb_blocks, block_size);
+    let size = MemTool::bytes_of(nb_blocks, area.block_size);
     if d.config.plugged_size < size {
         return refuse(d, Refusal::NoShape);
     }
@@ -220,17 +230,13 @@ fn unplug_all(
     unplug_one(shaped, bitmap, table, mem, base, block as u64, status)
 }
 
-// What a state request comes to.
-fn state(shaped: Shaped, bitmap: &[u8], addr: GuestAddr, nb_blocks: u16) -> Verdict
-    ensures { result ≡ state_verdict (world_of shaped.device bitmap.now []) addr.0 nb_blocks }
+// What a state request comes to: the state is over the blocks that the region has, also where they are not usable.
+fn state(shaped: Shaped, bitmap: &[u8], blocks: Blocks) -> Verdict
+    ensures { result ≡ state_verdict (world_of shaped.device bitmap.now []) blocks.addr.0 blocks.nb_blocks }
 {
-    let d = shaped.device;
-    let start = d.config.addr;
-    let usable = d.config.usable_region_size;
-    let region = d.config.region_size;
-    let block_size = d.config.block_size as u32;
-    let state = state_of(start, region, block_size, addr, nb_blocks, bitmap);
-    match range_of(start, usable, block_size, addr, nb_blocks) {
+    let config = shaped.device.config;
+    let state = area_of(shaped, config.region_size).state_of(blocks, bitmap);
+    match area_of(shaped, config.usable_region_size).range_of(blocks) {
         Ok(_) => Verdict::ack().with_state(state),
         Err(why) => Verdict::error(why).with_state(state),
     }
@@ -263,7 +269,7 @@ fn serve(
         RequestType::Unplug => unplug(shaped, &bitmap[..], table, mem, base, asks),
         RequestType::UnplugAll => unplug_all(shaped, &bitmap[..], table, mem, base, 0, status),
         RequestType::State => {
-            let verdict = state(shaped, &bitmap[..], req.addr, req.nb_blocks);
+            let verdict = state(shaped, &bitmap[..], blocks_of(req));
             respond(d, mem, base, status, verdict)
         }
     }

@@ -21,4 +21,4 @@ pub returns-in-UnplugAll : goal.returns-in-UnplugAll
 returns-in-UnplugAll c = as_given (serve-unplug_all _ _ _ _ (typed _ _ _ c.try_from.ensures c.in-Ok.is c.in-UnplugAll.is)) c.unplug_all.ensures
 
 pub returns-in-State : goal.returns-in-State
-returns-in-State c = states _ _ _ _ _ _ _ (typed _ _ _ c.try_from.ensures c.in-Ok.is c.in-State.is) _ c.state-verdict.ensures c.respond.ensures
+returns-in-State c = states _ _ _ _ _ _ _ (typed _ _ _ c.try_from.ensures c.in-Ok.is c.in-State.is) _ (rw c.blocks_of.ensures at c.state-verdict.ensures) c.respond.ensures

@@ -5,14 +5,11 @@ use Rattle.record.proofs.Laws.{shaped_is}
 use Rattle.serving.proofs.Ways.{unplug_errs, unplug_refuses, unplug_asks}
 use Rattle.serving.proofs.unplug.Goals as goal
 
-pub overflow_cast-block_size : goal.overflow_cast-block_size
-overflow_cast-block_size c = let shape = shaped_is _ c.args.shaped.shape in omega arith
-
 pub returns-in-Err : goal.returns-in-Err
-returns-in-Err c = unplug_errs _ _ _ c.args.shaped.shape _ _ _ _ _ _ c.change_of-tested.ensures _ c.in-Err.is (rw c.error.ensures at c.respond.ensures)
+returns-in-Err c = unplug_errs _ _ _ c.args.shaped.shape _ _ _ _ _ _ (rw (c.area_of-area.ensures, c.blocks_of-blocks.ensures) at c.change_of-tested.ensures) _ c.in-Err.is (rw c.error.ensures at c.respond.ensures)
 
 pub returns-then-d-size : goal.returns-then-d-size
-returns-then-d-size c = unplug_refuses _ _ _ c.args.shaped.shape _ _ _ _ _ _ c.change_of-tested.ensures _ c.in-Ok.is _ c.bytes_of-size.ensures c.if-d-size.true c.refuse.ensures
+returns-then-d-size c = unplug_refuses _ _ _ c.args.shaped.shape _ _ _ _ _ _ (rw (c.area_of-area.ensures, c.blocks_of-blocks.ensures) at c.change_of-tested.ensures) _ c.in-Ok.is _ (rw (c.area_of-area.ensures, c.blocks_of-blocks.ensures) at c.bytes_of-size.ensures) c.if-d-size.true c.refuse.ensures
 
 pub returns : goal.returns
-returns c = unplug_asks _ _ _ c.args.shaped.shape _ _ _ _ _ _ c.change_of-tested.ensures _ c.in-Ok.is _ c.bytes_of-size.ensures c.if-d-size.false c.asked.ensures
+returns c = unplug_asks _ _ _ c.args.shaped.shape _ _ _ _ _ _ (rw (c.area_of-area.ensures, c.blocks_of-blocks.ensures) at c.change_of-tested.ensures) _ c.in-Ok.is _ (rw (c.area_of-area.ensures, c.blocks_of-blocks.ensures) at c.bytes_of-size.ensures) c.if-d-size.false (rw c.blocks_of-blocks.ensures at c.asked.ensures)

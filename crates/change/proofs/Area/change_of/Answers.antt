@@ -1,5 +1,5 @@
 -- SPDX-License-Identifier: Apache-2.0 AND BSD-3-Clause
--- `change::change_of` meets its contract: each `return` and each `?` is one of the tests (b), (c), (d), in this order.
+-- `Area::change_of` meets its contract: each `return` and each `?` is one of the tests (b), (c), (d), in this order.
 use mathlib.Core.Path.{◌≡◌, sym, ◌∙◌}
 use mathlib.Core.Bool.{true, not}
 use Rattle.std.specs.Prelude.{Ok}
@@ -7,14 +7,14 @@ use Rattle.bitmap.specs.Blocks.{blocks, all_are}
 use Rattle.units.proofs.Tests.{flag}
 use Rattle.change.specs.Change.{range_of, change_in, legal_at}
 use borrow.Author.Rules.{rules}
-use Rattle.change.proofs.change_of.Goals as goal
-use Rattle.change.proofs.change_of.Goals.{Else-not-all_in_state, In_ok-offset}
+use Rattle.change.proofs.Area.change_of.Goals as goal
+use Rattle.change.proofs.Area.change_of.Goals.{Else-not-all_in_state, In_ok-offset}
 
 -- past (b), and past (c)
-inside : (c : In_ok-offset) → (let a = c.args in range_of a.block_size a.start.0 a.usable a.addr.0 a.nb_blocks) ≡ Ok c.in_ok-offset.offset
+inside : (c : In_ok-offset) → (let a = c.args in range_of a.self.block_size a.self.start.0 a.self.size a.asked.addr.0 a.asked.nb_blocks) ≡ Ok c.in_ok-offset.offset
 inside c = sym c.range_of.ensures ∙ c.in_ok-offset.was
 
-free : (c : Else-not-all_in_state) → (let a = c.args in all_are (blocks a.bitmap.now) c.blocks_in-first.result a.nb_blocks (not a.plug)) ≡ true
+free : (c : Else-not-all_in_state) → (let a = c.args in all_are (blocks a.bitmap.now) c.blocks_in-first.result a.asked.nb_blocks (not a.plug)) ≡ true
 free c = flag _ _ _ c.all_in_state.ensures c.if-not-all_in_state.false
 
 pub returns-in_err-offset : goal.returns-in_err-offset
