@@ -88,6 +88,10 @@ impl<A: Allocator> Block<A> {
         Ok(false)
     }
 
+    fn is_begun(&self) -> bool {
+        self.compared.is_some() || !self.answers.is_empty()
+    }
+
     // Whether all answers were known, and the same.
     fn is_same(&self) -> bool {
         self.same & (self.compared == Some(self.answers.len()))
@@ -99,35 +103,55 @@ fn text_of(line: &[u8]) -> &[u8] {
     line.strip_suffix(b"\n").unwrap_or(line)
 }
 
-// Whether a line has the known fields; `*` stands for any value of one.
-fn fits(known: &[u8], given: &[u8]) -> bool {
-    let is_blank = |b: &u8| *b == b' ';
-    known.split(is_blank).count() == given.split(is_blank).count()
-        && known.split(is_blank).zip(given.split(is_blank)).all(|(
-            field,
-            value,
-        )| match field.strip_suffix(b"*") {
-            Some(name) => value.starts_with(name),
-            None => value == field,
-        })
+// Whether a field is as it is known: `*` stands for any value.
+fn is_known(known: &[u8], given: &[u8]) -> bool {
+    match known.strip_suffix(b"*") {
+        Some(name) => given.starts_with(name),
+        None => given == known,
+    }
 }
 
-// Shows each trace that differs, by its number from 1 on.
+// Whether a line has the known fields.
+fn fits(known: &[u8], given: &[u8]) -> bool {
+    let is_blank = |b: &u8| *b == b' ';
+    let mut fields = known.split(is_blank).zip(given.split(is_blank));
+    known.split(is_blank).count() == given.split(is_blank).count()
+        && fields.all(|(known, given)| is_known(known, given))
+}
+
+// How many traces there were, and how many of these differ.
+#[derive(Clone, Copy, Default)]
+struct Count {
+    traces: u64,
+    differing: u64,
+}
+
+impl Count {
+    // Counts a trace, and shows one that differs, by its number from 1 on.
+    fn add(&mut self, rt: &impl Print, is_same: bool) -> io::Result<()> {
+        self.traces = self.traces.saturating_add(1);
+        if !is_same {
+            self.differing = self.differing.saturating_add(1);
+            println!(rt; "{} differs", self.traces)?;
+        }
+        Ok(())
+    }
+}
+
+// A last block that lacks its empty line differs.
 fn run_blocks(rt: &(impl Print + Alloc), text: &[u8]) -> io::Result<()> {
-    let mut traces = 0u64;
-    let mut differing = 0u64;
+    let mut count = Count::default();
     let mut block = Block::new(rt.alloc());
     for line in text.split_inclusive(|b| *b == b'\n') {
         if block.take(rt, line)? {
-            traces = traces.saturating_add(1);
-            if !block.is_same() {
-                differing = differing.saturating_add(1);
-                println!(rt; "{traces} differs")?;
-            }
+            count.add(rt, block.is_same())?;
             block = Block::new(rt.alloc());
         }
     }
-    println!(rt; "{traces} traces, {differing} differ")
+    if block.is_begun() {
+        count.add(rt, false)?;
+    }
+    println!(rt; "{} traces, {} differ", count.traces, count.differing)
 }
 
 fn run_file(rt: &(impl Files + Print + Alloc), name: &str) -> io::Result<()> {
