@@ -1,21 +1,24 @@
 // SPDX-License-Identifier: Apache-2.0 AND BSD-3-Clause
 // Raw descriptors, and what the chain makes of them, by itself and through a reader that holds the memory.
-use super::lines::{Numbers, front, small};
-use super::show::{end, number, print, wide, word};
+use super::{Line, narrow, small};
 use chain::Parsed;
 use chain_reader::{parse_chain, second_link};
 use little_endian::{write_u16, write_u32, write_u64};
 use std::io;
+use test_support::front;
 use units::GuestAddr;
 use wire::VirtioMemResp;
+
+// Where the memory and its table are for a reader.
+const START: GuestAddr = GuestAddr(4096);
 
 // Writes a descriptor from byte `at` on.
 fn lay(mem: &mut [u8], at: u16, addr: u64, len: u64, flags: u64, next: u64) {
     let at = at as usize;
     write_u64(mem, at, addr);
     write_u32(mem, at + 8, (len % 4294967296) as u32);
-    write_u16(mem, at + 12, (flags % 65536) as u16);
-    write_u16(mem, at + 14, (next % 65536) as u16);
+    write_u16(mem, at + 12, narrow(flags));
+    write_u16(mem, at + 14, narrow(next));
 }
 
 // Writes a request of 24 bytes from byte `at` on; each byte that is ignored is 170.
@@ -29,37 +32,21 @@ fn lay_request(mem: &mut [u8], at: u16) {
 }
 
 // Parses, and writes the request or the reason.
-fn parse(
-    rt: &impl Print,
-    name: &[u8],
-    mem: &[u8],
-    base: u64,
-    table: u64,
-    head: u64,
-) -> io::Result<()> {
-    word(rt, name)?;
-    let parsed = chain::parse(
-        mem,
-        GuestAddr(base),
-        GuestAddr(table),
-        (head % 65536) as u16,
-    );
-    let Parsed::Request(req, status) = parsed else {
-        return print(rt, b": reason=#\n", &[parsed.reason()]);
-    };
-    print(
-        rt,
-        b": type=# addr=# blocks=# status=#\n",
-        &[
-            req.req_type as u64,
-            req.addr.0,
-            req.nb_blocks as u64,
-            status.0,
-        ],
-    )
+fn parse(rt: &impl Print, mem: &[u8], base: u64, table: u64, head: u64) -> io::Result<()> {
+    let parsed = chain::parse(mem, GuestAddr(base), GuestAddr(table), narrow(head));
+    match parsed {
+        Parsed::Request(req, status) => {
+            println!(rt;
+                ": type={} addr={} blocks={} status={}",
+                req.req_type, req.addr.0, req.nb_blocks, status.0
+            )
+        }
+        Parsed::Bad(_) => println!(rt; ": reason={}", parsed.reason()),
+    }
 }
 
 // Where `size` bytes lie in the memory.
+<<<<<<< HEAD
 fn place(
     rt: &impl Print,
     name: &[u8],
@@ -78,69 +65,79 @@ fn place(
 fn show(rt: &impl Print, bytes: &[u8]) -> io::Result<()> {
     for b in bytes {
         number(rt, b" ", wide(*b))?;
+=======
+fn place(rt: &impl Print, mem: &[u8], base: u64, addr: u64, size: u64) -> io::Result<()> {
+    match descriptors::place_of(mem, GuestAddr(base), GuestAddr(addr), size) {
+        Place::At(at) => println!(rt; ": at={at}"),
+        Place::Outside => println!(rt; ": outside"),
+>>>>>>> 3863932998deaa795b907c6bedc4d16e9be130a3
     }
-    end(rt)
 }
 
 // Delivers a response into 12 bytes of 7, and writes them all.
-fn deliver(rt: &impl Print, name: &[u8], base: u64, status: u64) -> io::Result<()> {
-    let mut mem = [7u8; 12];
+fn deliver(rt: &impl Print, base: u64, status: u64) -> io::Result<()> {
+    let mut mem = [7; 12];
     let resp = VirtioMemResp {
         resp_type: 259,
         state: 513,
     };
-    word(rt, name)?;
     if chain::deliver(&mut mem, GuestAddr(base), GuestAddr(status), resp) {
-        word(rt, b": done")?;
+        print!(rt; ": done")?;
     } else {
-        word(rt, b": not inside")?;
+        print!(rt; ": not inside")?;
     }
-    show(rt, &mem)
+    for byte in mem {
+        print!(rt; " {byte}")?;
+    }
+    println!(rt)
 }
 
-// The request or the reason, and the second descriptor, by a reader that holds the memory, which is at 4096 with its
-// table.
-fn show_read(rt: &impl Print, mem: &[u8], head: u16) -> io::Result<()> {
-    number(rt, b"head ", head as u64)?;
-    let parsed = parse_chain(mem, GuestAddr(4096), GuestAddr(4096), head);
-    let Parsed::Request(req, status) = parsed else {
-        return number(rt, b" reason ", parsed.reason());
-    };
-    print(
-        rt,
-        b" type # addr # blocks # status #",
-        &[
-            req.req_type as u64,
-            req.addr.0,
-            req.nb_blocks as u64,
-            status.0,
-        ],
-    )
-}
-
+// The request or the reason, and the second descriptor, by a reader that holds the memory.
 fn read(rt: &impl Print, mem: &[u8], head: u16) -> io::Result<()> {
+<<<<<<< HEAD
     show_read(rt, mem, head)?;
     let Some(second) = second_link(mem, GuestAddr(4096), GuestAddr(4096), head) else {
         return word(rt, b", no second\n");
     };
     print(rt, b", second at #\n", &[second.addr.0])
+=======
+    let parsed = parse_chain(mem, START, START, head);
+    match parsed {
+        Parsed::Request(req, status) => {
+            print!(rt;
+                "head {head} type {} addr {} blocks {} status {}",
+                req.req_type, req.addr.0, req.nb_blocks, status.0
+            )?;
+        }
+        Parsed::Bad(_) => print!(rt; "head {head} reason {}", parsed.reason())?,
+    }
+    match second_link(mem, START, START, head) {
+        Link::Is(second) => println!(rt; ", second at {}", second.addr.0),
+        Link::Missing => println!(rt; ", no second"),
+    }
+>>>>>>> 3863932998deaa795b907c6bedc4d16e9be130a3
 }
 
-pub fn command(
-    rt: &impl Print,
-    kind: u8,
-    v: Numbers,
-    name: &[u8],
-    mem: &mut [u8],
-) -> io::Result<bool> {
-    match kind {
-        b'L' => lay(mem, (v.0 % 65536) as u16, v.1, v.2, v.3, v.4),
-        b'R' => lay_request(mem, (v.0 % 65536) as u16),
-        b'W' => write_u64(mem, small(v.0), v.1),
-        b'c' => parse(rt, name, front(&mem[..], small(v.0)), v.1, v.2, v.3)?,
-        b'p' => place(rt, name, front(&mem[..], small(v.0)), v.1, v.2, v.3)?,
-        b'd' => deliver(rt, name, v.0, v.1)?,
-        b'r' => read(rt, front(&mem[..], small(v.0)), (v.1 % 65536) as u16)?,
+// Whether a line is a command.
+pub fn command(rt: &impl Print, mem: &mut [u8], line: Line) -> io::Result<bool> {
+    let v = line.v;
+    match line.kind {
+        b'L' => lay(mem, narrow(v[0]), v[1], v[2], v[3], v[4]),
+        b'R' => lay_request(mem, narrow(v[0])),
+        b'W' => write_u64(mem, small(v[0]), v[1]),
+        b'c' => {
+            print!(rt; "{}", line.name)?;
+            parse(rt, front(mem, small(v[0])), v[1], v[2], v[3])?;
+        }
+        b'p' => {
+            print!(rt; "{}", line.name)?;
+            place(rt, front(mem, small(v[0])), v[1], v[2], v[3])?;
+        }
+        b'd' => {
+            print!(rt; "{}", line.name)?;
+            deliver(rt, v[0], v[1])?;
+        }
+        b'r' => read(rt, front(mem, small(v[0])), narrow(v[1]))?,
         _ => return Ok(false),
     }
     Ok(true)

@@ -11,194 +11,123 @@
 // numbers, the record's shape and the usable size.
 #![tactic(auto)]
 
-use lines::Numbers;
-use scene::Scene;
 use std::rt::Files;
 use std::{fs, io};
+use world::World;
 
 mod bitmaps; // bitmaps.txt
 mod chains; // chains.txt
 mod changes; // changes.txt
-mod lines; // parts of a text
 mod placings; // placings.txt
-mod scene; // what the calls of a file stand on
 mod servings; // servings.txt
-mod show; // what they print
 mod values; // values.txt
+mod world; // what the calls of a file stand on
 
-// A command that calls a part of the device with what is lent to it; `known` says whether it is one.
-fn call_lent(
-    rt: &impl Print,
-    scene: Scene,
-    file: u64,
+// A line: its name, and the first letter of its command, 0 where it has none, with its numbers.
+#[derive(Clone, Copy)]
+pub struct Line<'a> {
+    name: &'a str,
     kind: u8,
-    v: Numbers,
-    name: &[u8],
-    bitmap: &mut [u8],
-    table: &mut [u64],
-    slots: &[u32],
-) -> io::Result<Scene> {
-    if file == 1 {
-        let known = changes::command(rt, kind, v, name, bitmap, table)?;
-        return Ok(scene::after(scene, known));
-    }
-    if file == 4 {
-        let known = values::command(rt, scene.device, kind, v, name, table)?;
-        return Ok(scene::after(scene, known));
-    }
-    if file == 5 {
-        let known = bitmaps::command(rt, kind, v, name, bitmap)?;
-        return Ok(scene::after(scene, known));
-    }
-    if file == 2 {
-        return placings::command(rt, scene, kind, v, bitmap, table, slots);
-    }
-    servings::command(rt, scene, kind, v, bitmap, table)
+    v: [u64; 8],
 }
 
-fn call(
-    rt: &impl Print,
-    scene: Scene,
-    file: u64,
-    kind: u8,
-    v: Numbers,
-    name: &[u8],
-    bitmap: &mut [u8],
-    bytes: usize,
-    table: &mut [u64],
-    words: usize,
-    slots: &[u32],
-) -> io::Result<Scene> {
-    if bytes <= bitmap.len() {
-        if words <= table.len() {
-            return call_lent(
-                rt,
-                scene,
-                file,
-                kind,
-                v,
-                name,
-                &mut bitmap[..bytes],
-                &mut table[..words],
-                slots,
-            );
-        }
-    }
-    Ok(scene)
+// A number of the table as a length or an index: none is larger.
+fn small(n: u64) -> usize {
+    (n % 65536) as usize
 }
 
-// One command, by the file that it stands in.
-fn command(
-    rt: &impl Print,
-    scene: Scene,
-    file: u64,
-    kind: u8,
-    v: Numbers,
-    name: &[u8],
-    bitmap: &mut [u8],
-    table: &mut [u64],
-    slots: &mut [u32],
-    mem: &mut [u8],
-) -> io::Result<Scene> {
-    if file == 0 {
-        let known = chains::command(rt, kind, v, name, mem)?;
-        return Ok(scene::after(scene, known));
+fn narrow(n: u64) -> u16 {
+    (n % 65536) as u16
+}
+
+// The numbers of a command, in their order, and 0 where there are no more. What stands between them is for the reader.
+fn numbers_of(command: &str) -> [u64; 8] {
+    let mut v = [0; 8];
+    let numbers = command
+        .split(|c: char| !c.is_ascii_digit())
+        .filter_map(|n| n.parse().ok());
+    for (slot, n) in v.iter_mut().zip(numbers) {
+        *slot = n;
     }
-    if kind < b'a' {
-        return Ok(scene::command(scene, kind, v, bitmap, table, slots));
-    }
-    call(
-        rt,
-        scene,
-        file,
-        kind,
-        v,
+    v
+}
+
+fn line_of(line: &str) -> Line<'_> {
+    let (name, command) = line.split_once(':').unwrap_or((line, line));
+    let command = command.trim_start();
+    Line {
         name,
-        bitmap,
-        scene.bytes,
-        table,
-        scene.words,
-        slots,
-    )
-}
-
-fn run_line(
-    rt: &impl Print,
-    scene: Scene,
-    file: u64,
-    line: &[u8],
-    bitmap: &mut [u8],
-    table: &mut [u64],
-    slots: &mut [u32],
-    mem: &mut [u8],
-) -> io::Result<Scene> {
-    let colon = lines::find(line, 0, b':');
-    let name = lines::front(line, colon);
-    let text = lines::command_of(line, colon);
-    let kind = lines::byte_at(text, 0);
-    let v = lines::numbers_of(text);
-    let after = command(rt, scene, file, kind, v, name, bitmap, table, slots, mem)?;
-    if !after.known {
-        show::word(rt, name)?;
-        show::end(rt)?;
+        kind: command.as_bytes().first().copied().unwrap_or(0),
+        v: numbers_of(command),
     }
-    Ok(after)
 }
 
-fn run_lines(
-    rt: &impl Print,
-    text: &[u8],
-    file: u64,
-    bitmap: &mut [u8],
-    table: &mut [u64],
-    slots: &mut [u32],
-    mem: &mut [u8],
-) -> io::Result<()> {
-    let mut scene = scene::first();
-    let mut at = 0;
-    while at < text.len() {
-        let end = lines::find(text, at, b'\n');
-        if end < at {
-            return Ok(());
+// A file of data/. Each line is a command, or is printed by its name.
+fn run_file<F: FnMut(Line) -> io::Result<bool>>(
+    rt: &(impl Files + Print + Alloc),
+    name: &str,
+    mut command: F,
+) -> io::Result<()>
+    requires { F.IsAlwaysCallable command }
+{
+    let text = fs::read_to_string(rt, name)?;
+    for line in text.lines() {
+        let line = line_of(line);
+        if !command(line)? {
+            println!(rt; "{}", line.name)?;
         }
-        if text.len() <= end {
-            return Ok(());
-        }
-        let next = end + 1;
-        let line = lines::rest_of(lines::front(text, end), at);
-        scene = run_line(rt, scene, file, line, bitmap, table, slots, mem)?;
-        at = next;
     }
     Ok(())
 }
 
-// A file of data/, on tables of its own.
-fn run_text(rt: &impl Print, text: &[u8], file: u64) -> io::Result<()> {
-    let mut bitmap = [0u8; 32768];
-    let mut table = [0u64; 1536];
-    let mut slots = [4294967295u32; 512];
-    let mut mem = [0u8; 2082];
-    run_lines(
-        rt,
-        text,
-        file,
-        &mut bitmap,
-        &mut table,
-        &mut slots,
-        &mut mem,
-    )
-}
-
-fn run_file(rt: &(impl Files + Print + Alloc), name: &str, file: u64) -> io::Result<()> {
-    let text = fs::read(rt, name)?;
-    run_text(rt, text.as_slice(), file)
+// A file whose calls stand on a world.
+fn run_calls<F: FnMut(&mut World, Line) -> io::Result<bool>>(
+    rt: &(impl Files + Print + Alloc),
+    name: &str,
+    mut call: F,
+) -> io::Result<()>
+    requires { (f : _) (world : _) (line : _) → F.pre f world line }
+{
+    let mut world = World::new();
+    run_file(rt, name, |line| {
+        if line.kind < b'a' {
+            Ok(world.set(line))
+        } else {
+            call(&mut world, line)
+        }
+    })
 }
 
 fn main(rt: HostRuntime) -> io::Result<()> {
-    run_file(&rt, "bitmaps.txt", 5)?;
-    run_file(&rt, "chains.txt", 0)?;
-    run_file(&rt, "changes.txt", 1)?;
-    run_file(&rt, "placings.txt", 2)?;
-    run_file(&rt, "servings.txt", 3)?;
-    run_file(&rt, "values.txt", 4)
+    let mut mem = [0; 2082];
+    run_calls(
+        &rt,
+        "bitmaps.txt",
+        |world, line| bitmaps::call(&rt, world, line),
+    )?;
+    run_file(
+        &rt,
+        "chains.txt",
+        |line| chains::command(&rt, &mut mem, line),
+    )?;
+    run_calls(
+        &rt,
+        "changes.txt",
+        |world, line| changes::call(&rt, world, line),
+    )?;
+    run_calls(
+        &rt,
+        "placings.txt",
+        |world, line| placings::call(&rt, world, line),
+    )?;
+    run_calls(
+        &rt,
+        "servings.txt",
+        |world, line| servings::call(&rt, world, line),
+    )?;
+    run_calls(
+        &rt,
+        "values.txt",
+        |world, line| values::call(&rt, world, line),
+    )
 }

@@ -5,98 +5,47 @@
 // begin with #.
 #![tactic(auto)]
 
-use little_endian::from;
-use parts::{byte_at, find, front, numbers_of};
-use std::num::{wrapping_add_u64, wrapping_add_usize, wrapping_sub_usize};
 use std::rt::Files;
 use std::{fs, io};
+use test_support::run_rows;
 
-mod parts; // parts of a text
 mod tables; // rows.txt
 mod texts; // texts.txt
 mod wires; // wire.txt
 
-// A file of data/, how many rows of it were run, and how many of these differ.
-#[derive(Clone, Copy)]
-struct Count {
-    file: u64,
-    rows: u64,
-    differing: u64,
-}
+// The numbers of a row, in their order, and 0 where there are no more.
+type Row = [u64; 34];
 
-// Puts the answer, and gives its length: 0 where there is none. The first letter of a command says what it is.
-fn answer(out: &mut [u8], file: u64, command: &[u8]) -> usize {
-    let kind = byte_at(command, 0);
-    let v = numbers_of(command);
-    match file {
-        0 => wires::answer(out, kind, v),
-        1 => tables::answer(out, kind, v),
-        _ => texts::answer(out, kind, v, command),
+// What stands between the numbers of a call is for the reader.
+fn numbers_of(call: &str) -> Row {
+    let mut v = [0; 34];
+    let numbers = call
+        .split(|c: char| !c.is_ascii_digit())
+        .filter_map(|n| n.parse().ok());
+    for (slot, n) in v.iter_mut().zip(numbers) {
+        *slot = n;
     }
+    v
 }
 
-// A row that has not what came of it.
-fn show_row(rt: &impl Print, row: &[u8], given: &[u8]) -> io::Result<()> {
-    rt.write_all(row)?;
-    rt.write_all(b"\n  but got ")?;
-    rt.write_all(given)?;
-    rt.write_all(b"\n")
+fn narrow(n: u64) -> u16 {
+    (n % 65536) as u16
 }
 
-// 1, with the row, where its answer is another.
-fn differs(rt: &impl Print, row: &[u8], file: u64) -> io::Result<u64> {
-    let mut out = [b'.'; 256];
-    let arrow = find(row, b'>');
-    let known = from(row, wrapping_add_usize(arrow, 2));
-    let count = answer(&mut out, file, front(row, wrapping_sub_usize(arrow, 2)));
-    let given = front(&out, count);
-    if (0 < count) & (known == given) {
-        return Ok(0);
-    }
-    show_row(rt, row, given)?;
-    Ok(1)
-}
-
-// A line that is empty or begins with # is no row.
-fn run_line(rt: &impl Print, count: Count, line: &[u8]) -> io::Result<Count> {
-    let first = byte_at(line, 0);
-    if (first == 0) | (first == b'#') {
-        return Ok(count);
-    }
-    let wrong = differs(rt, line, count.file)?;
-    Ok(Count {
-        rows: wrapping_add_u64(count.rows, 1),
-        differing: wrapping_add_u64(count.differing, wrong),
-        ..count
-    })
-}
-
-fn run(rt: &impl Print, text: &[u8], file: u64) -> io::Result<Count> {
-    let mut count = Count {
-        file: file,
-        rows: 0,
-        differing: 0,
-    };
-    let mut start = 0;
-    let mut i = 0;
-    while i < text.len() {
-        if text[i] == b'\n' {
-            count = run_line(rt, count, &text[start..i])?;
-            start = i + 1;
-        }
-        i += 1;
-    }
-    Ok(count)
-}
-
-fn run_file(rt: &(impl Files + Print + Alloc), name: &str, file: u64) -> io::Result<()> {
-    let text = fs::read(rt, name)?;
-    let count = run(rt, text.as_slice(), file)?;
-    println!(rt; "{} rows, {} differ", count.rows, count.differing)
+fn run_file<F: FnMut(&mut [u8], &str) -> usize>(
+    rt: &(impl Files + Print + Alloc),
+    name: &str,
+    answer: F,
+) -> io::Result<()>
+    requires { F.IsAlwaysCallable answer }
+{
+    let text = fs::read_to_string(rt, name)?;
+    let count = run_rows(rt, &text, &mut [0; 256], false, answer)?;
+    println!(rt; "{count}")
 }
 
 fn main(rt: HostRuntime) -> io::Result<()> {
-    run_file(&rt, "wire.txt", 0)?;
-    run_file(&rt, "rows.txt", 1)?;
-    run_file(&rt, "texts.txt", 2)
+    run_file(&rt, "wire.txt", wires::answer)?;
+    run_file(&rt, "rows.txt", tables::answer)?;
+    run_file(&rt, "texts.txt", texts::answer)
 }

@@ -1,9 +1,8 @@
 // SPDX-License-Identifier: Apache-2.0 AND BSD-3-Clause
 // texts.txt: the lines of a trace as they are read, and the answers as they are put.
-use super::parts::{Row, front, narrow};
+use super::{Row, narrow, numbers_of};
 use forms::{put_form, put_form_at};
-use little_endian::{copy, from};
-use std::num::wrapping_sub_usize;
+use test_support::front;
 use trace_text::{FirstLine, Line, Op};
 use units::{GuestAddr, HostAddr, RegionOffset};
 
@@ -11,12 +10,13 @@ use units::{GuestAddr, HostAddr, RegionOffset};
 fn meant(b: u8) -> u8 {
     match b {
         b'~' => 0,
-        b'^' => 9,
-        b'`' => 13,
+        b'^' => b'\t',
+        b'`' => b'\r',
         _ => b,
     }
 }
 
+<<<<<<< HEAD
 fn line_of(command: &[u8]) -> [u8; 256] {
     let mut line = [0u8; 256];
     copy(&mut line, from(command, 5));
@@ -38,11 +38,18 @@ fn number_of(node: Option<u16>) -> u64 {
 
 fn put_first(out: &mut [u8], f: FirstLine) -> usize {
     let node = f.node;
+=======
+fn put_first(out: &mut [u8], f: FirstLine) -> usize {
+    let node = match f.node {
+        Node::None => 65536,
+        Node::Number(n) => n as u64,
+    };
+>>>>>>> 3863932998deaa795b907c6bedc4d16e9be130a3
     let numbers = [
         f.capacity_mib,
         f.requested_mib,
         f.multi as u64,
-        number_of(node),
+        node,
         f.boot,
         f.addr.0,
         f.slot,
@@ -51,57 +58,52 @@ fn put_first(out: &mut [u8], f: FirstLine) -> usize {
 }
 
 // A later line: the letter of its kind, and its numbers.
-#[derive(Clone, Copy)]
-struct Later(u8, u64, u64);
-
-fn later_of(op: Op) -> Later {
+fn put_later(out: &mut [u8], op: Op) -> usize {
     match op {
-        Op::Host { ok, addr } => Later(b'h', ok as u64, addr.0),
-        Op::Plug { addr, blocks } => Later(b'p', addr.0, blocks as u64),
-        Op::Unplug { addr, blocks } => Later(b'u', addr.0, blocks as u64),
-        Op::State { addr, blocks } => Later(b's', addr.0, blocks as u64),
-        Op::UnplugAll => Later(b'a', 0, 0),
-        Op::Size { mib } => Later(b'm', mib, 0),
+        Op::Host { ok, addr } => put_form(out, b"h # #", &[ok as u64, addr.0]),
+        Op::Plug { addr, blocks } => put_form(out, b"p # #", &[addr.0, blocks as u64]),
+        Op::Unplug { addr, blocks } => put_form(out, b"u # #", &[addr.0, blocks as u64]),
+        Op::State { addr, blocks } => put_form(out, b"s # #", &[addr.0, blocks as u64]),
+        Op::UnplugAll => put_form(out, b"a 0 0", &[]),
+        Op::Size { mib } => put_form(out, b"m # 0", &[mib]),
     }
 }
 
-fn put_later(out: &mut [u8], later: Later) -> usize {
-    let to = text::put(out, 0, later.0);
-    put_form_at(out, to, b" # #", &[later.1, later.2])
-}
-
-fn put_line(out: &mut [u8], line: Line) -> usize {
-    match line {
+// What is read in a line: it stands behind the call's word and one blank.
+fn read_line(out: &mut [u8], line: &str) -> usize {
+    let mut bytes = [0; 256];
+    for (to, b) in bytes.iter_mut().zip(line.bytes()) {
+        *to = meant(b);
+    }
+    match trace_text::read_line(front(&bytes, line.len())) {
         Line::First(f) => put_first(out, f),
-        Line::Later(op) => put_later(out, later_of(op)),
-        Line::Bad => put_form(out, b"13", &[0]),
+        Line::Later(op) => put_later(out, op),
+        Line::Bad => put_form(out, b"13", &[]),
     }
 }
 
-fn read_line(out: &mut [u8], command: &[u8]) -> usize {
-    let bytes = line_of(command);
-    let length = wrapping_sub_usize(command.len(), 5);
-    put_line(out, trace_text::read_line(front(&bytes, length)))
-}
-
-fn put(room: &mut [u8], kind: u8, a: u64, b: u64, c: u64, d: u64, e: u64) -> usize {
+fn put(room: &mut [u8], kind: Option<&u8>, v: Row) -> usize {
     match kind {
-        b'c' => answer_text::put_create(room, GuestAddr(a), b, c),
-        b'd' => answer_text::put_discard(room, RegionOffset(a), b, HostAddr(c)),
-        b'g' => answer_text::put_response(room, narrow(a), narrow(b), c, d, e),
-        b'r' => answer_text::put_refusal(room, a),
-        _ => answer_text::put_sized(room, a, b),
+        Some(b'c') => answer_text::put_create(room, GuestAddr(v[1]), v[2], v[3]),
+        Some(b'd') => answer_text::put_discard(room, RegionOffset(v[1]), v[2], HostAddr(v[3])),
+        Some(b'g') => {
+            answer_text::put_response(room, narrow(v[1]), narrow(v[2]), v[3], v[4], v[5])
+        }
+        Some(b'r') => answer_text::put_refusal(room, v[1]),
+        _ => answer_text::put_sized(room, v[1], v[2]),
     }
 }
 
-pub fn answer(out: &mut [u8], kind: u8, v: Row, command: &[u8]) -> usize {
-    if kind == b'l' {
-        return read_line(out, command);
+pub fn answer(out: &mut [u8], call: &str) -> usize {
+    if let Some(line) = call.strip_prefix("line ") {
+        return read_line(out, line);
     }
+    let v = numbers_of(call);
     let room = v[0] as usize;
     if out.len() < room {
         return 0;
     }
-    let n = put(&mut out[..room], kind, v[1], v[2], v[3], v[4], v[5]);
+    out[..room].fill(b'.');
+    let n = put(&mut out[..room], call.as_bytes().first(), v);
     put_form_at(out, room, b" #", &[n as u64])
 }

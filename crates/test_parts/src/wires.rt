@@ -1,42 +1,19 @@
 // SPDX-License-Identifier: Apache-2.0 AND BSD-3-Clause
 // wire.txt: numbers, requests, responses and the config as bytes.
-use super::parts::{Row, front, narrow};
+use super::{Row, narrow, numbers_of};
 use forms::put_form;
+use test_support::front;
 use units::GuestAddr;
 use wire::{VirtioMemConfig, VirtioMemResp};
 
-// A digit of a number below 16.
-fn digit(n: u8) -> u8 {
-    if n < 10 {
-        return b'0' + n;
-    }
-    b'W' + n % 16
-}
-
-fn put_bytes(out: &mut [u8], bytes: [u8; 64], count: usize) -> usize {
-    let mut to = put_form(out, b"bytes=", &[0]);
-    let mut i: usize = 0;
-    while i < 64 {
-        if count <= i {
-            return to;
+fn put_bytes(out: &mut [u8], bytes: &[u8]) -> usize {
+    let mut to = put_form(out, b"bytes=", &[]);
+    for b in bytes {
+        for digit in [b / 16, b % 16] {
+            to = text::put(out, to, b"0123456789abcdef"[digit as usize]);
         }
-        let b = bytes[i];
-        to = text::put(out, to, digit(b / 16));
-        to = text::put(out, to, digit(b % 16));
-        i += 1;
     }
     to
-}
-
-// The bytes of a row, behind the number of those that are lent and a place.
-fn bytes_of(v: Row) -> [u8; 32] {
-    let mut bytes = [0u8; 32];
-    let mut i: usize = 0;
-    while i < 32 {
-        bytes[i] = (v[i + 2] % 256) as u8;
-        i += 1;
-    }
-    bytes
 }
 
 fn numbers(out: &mut [u8], lent: &[u8], at: usize) -> usize {
@@ -55,19 +32,20 @@ fn request(out: &mut [u8], lent: &[u8], at: usize) -> usize {
     )
 }
 
-fn read(out: &mut [u8], kind: u8, v: Row) -> usize {
-    let bytes = bytes_of(v);
-    let lent = front(&bytes, v[0] as usize);
-    let at = v[1] as usize;
-    if kind == b'n' {
-        return numbers(out, lent, at);
+// What is read at a place of the first bytes of a row, which stand behind the number of those that are lent and the
+// place.
+fn read<F: Fn(&mut [u8], &[u8], usize) -> usize>(out: &mut [u8], v: Row, answer: F) -> usize
+    requires { F.IsAlwaysCallable answer }
+{
+    let mut bytes = [0; 32];
+    for (byte, n) in bytes.iter_mut().zip(&v[2..]) {
+        *byte = (n % 256) as u8;
     }
-    request(out, lent, at)
+    answer(out, front(&bytes, v[0] as usize), v[1] as usize)
 }
 
 fn field(out: &mut [u8], k: usize) -> usize {
-    let fields = wire::config_fields();
-    let f = fields[k % 8];
+    let f = wire::config_fields()[k % 8];
     put_form(out, b"offset=# width=#", &[f.0 as u64, f.1 as u64])
 }
 
@@ -77,14 +55,6 @@ fn write_number(bytes: &mut [u8], at: usize, width: u64, n: u64) {
         4 => little_endian::write_u32(bytes, at, (n % 4294967296) as u32),
         _ => little_endian::write_u64(bytes, at, n),
     }
-}
-
-fn write_response(bytes: &mut [u8], at: usize, resp_type: u64, state: u64) {
-    let resp = VirtioMemResp {
-        resp_type: narrow(resp_type),
-        state: narrow(state),
-    };
-    wire::write_response(bytes, at, resp);
 }
 
 // The config whose bytes are each one more than their places.
@@ -100,38 +70,43 @@ fn counting() -> VirtioMemConfig {
     }
 }
 
-fn config_of(kind: u8, v: Row) -> VirtioMemConfig {
-    if kind == b'm' {
-        return VirtioMemConfig::new(v[2], narrow(v[3]), v[4], v[5]);
-    }
-    counting()
-}
-
-fn write(bytes: &mut [u8], kind: u8, at: u64, a: u64, b: u64, config: VirtioMemConfig) {
-    match kind {
-        b'p' => write_response(bytes, at as usize, a, b),
-        b'w' => write_number(bytes, at as usize, a, b),
-        _ => wire::read_config(config, at, bytes),
-    }
-}
-
 // What a call writes into so many bytes.
-fn written(out: &mut [u8], kind: u8, v: Row) -> usize {
-    let mut bytes = [238u8; 64];
-    let lent = v[0] as usize;
+fn written<F: FnOnce(&mut [u8])>(out: &mut [u8], lent: u64, write: F) -> usize
+    requires { F.IsAlwaysCallable write }
+{
+    let mut bytes = [238; 64];
+    let lent = lent as usize;
     if 64 < lent {
         return 0;
     }
-    let config = config_of(kind, v);
-    write(&mut bytes[..lent], kind, v[1], v[2], v[3], config);
-    put_bytes(out, bytes, lent)
+    write(&mut bytes[..lent]);
+    put_bytes(out, &bytes[..lent])
 }
 
-pub fn answer(out: &mut [u8], kind: u8, v: Row) -> usize {
-    match kind {
-        b'f' => field(out, v[0] as usize),
-        b'n' | b'r' => read(out, kind, v),
-        b'c' | b'm' | b'p' | b'w' => written(out, kind, v),
+pub fn answer(out: &mut [u8], call: &str) -> usize {
+    let v = numbers_of(call);
+    let at = v[1] as usize;
+    match call.as_bytes().first() {
+        Some(b'f') => field(out, v[0] as usize),
+        Some(b'n') => read(out, v, numbers),
+        Some(b'r') => read(out, v, request),
+        Some(b'c') => written(
+            out,
+            v[0],
+            |bytes| wire::read_config(counting(), v[1], bytes),
+        ),
+        Some(b'm') => {
+            let config = VirtioMemConfig::new(v[2], narrow(v[3]), v[4], v[5]);
+            written(out, v[0], |bytes| wire::read_config(config, v[1], bytes))
+        }
+        Some(b'p') => {
+            let resp = VirtioMemResp {
+                resp_type: narrow(v[2]),
+                state: narrow(v[3]),
+            };
+            written(out, v[0], |bytes| wire::write_response(bytes, at, resp))
+        }
+        Some(b'w') => written(out, v[0], |bytes| write_number(bytes, at, v[2], v[3])),
         _ => 0,
     }
 }

@@ -1,5 +1,6 @@
 // SPDX-License-Identifier: Apache-2.0 AND BSD-3-Clause
 // The calls.
+<<<<<<< HEAD
 use super::memory::first_unseen;
 use super::scene::{
     AVAILABLE, BASE, BLOCKS, BYTES, CHANGED, CREATE, DESCRIPTORS, DISCARD, DONE, EMPTY, FIRST,
@@ -11,13 +12,20 @@ use record::{Device, HostCall};
 use rings::Queue;
 use step::{Answer, Reply};
 use units::{GuestAddr, HostAddr};
+=======
+use super::world::{Told, World};
+use queue::Turn;
+use step::Answer;
+use units::HostAddr;
+>>>>>>> 3863932998deaa795b907c6bedc4d16e9be130a3
 
 #[derive(Clone, Copy)]
 pub enum Call {
     Serve,
-    Host(bool, u64),
+    Host { ok: bool, addr: u64 },
 }
 
+<<<<<<< HEAD
 fn turn(
     call: Call,
     d: Device,
@@ -99,12 +107,58 @@ fn lent(
                         base,
                     );
                 }
+=======
+impl World {
+    // The call with as much as is lent to it, where there is so much; what it left, and what it told.
+    pub fn call(&mut self, call: Call) {
+        self.told = Told::Call(Some(Answer::Done));
+        let Some(bitmap) = self.bitmap.get_mut(..self.bytes) else {
+            return;
+        };
+        let Some(table) = self.table.get_mut(..self.words) else {
+            return;
+        };
+        let Some(mem) = self.memory.bytes.get_mut(self.from..self.to) else {
+            return;
+        };
+        let t = match call {
+            Call::Serve => queue::serve_next(
+                self.device,
+                self.queue,
+                bitmap,
+                table,
+                mem,
+                self.base,
+            ),
+            Call::Host { ok, addr } => {
+                queue::host_answer(
+                    self.device,
+                    self.queue,
+                    bitmap,
+                    table,
+                    mem,
+                    self.base,
+                    ok,
+                    HostAddr(addr),
+                )
+>>>>>>> 3863932998deaa795b907c6bedc4d16e9be130a3
             }
+        };
+        self.device = t.device;
+        self.queue = t.queue;
+        self.told = Told::Call(answer_of(t));
+    }
+
+    // Whether a call is to change nothing: it was refused, but with 10, or found no head.
+    fn is_refusal(&self) -> bool {
+        match self.told {
+            Told::Call(Some(Answer::Refused(number))) => number != 10,
+            Told::Call(None) => true,
+            _ => false,
         }
     }
-    no_turn(d, q)
-}
 
+<<<<<<< HEAD
 fn with_queue(scene: Scene, q: Queue) -> Scene {
     let mut s = scene;
     let taken = q.taken;
@@ -208,23 +262,23 @@ fn is_same(a: Scene, b: Scene) -> bool {
     while i < 25 {
         if a[i] != b[i] {
             return false;
+=======
+    // A call; one that is to change nothing and did tells so.
+    pub fn make(&mut self, call: Call) {
+        let before = self.state();
+        self.call(call);
+        let changed = before != self.state() || self.memory.first_unseen().is_some();
+        if changed && self.is_refusal() {
+            self.told = Told::Changed;
+>>>>>>> 3863932998deaa795b907c6bedc4d16e9be130a3
         }
-        i += 1;
     }
-    true
 }
 
-// Whether a call is to change nothing: it was refused, but with 10, or found no head.
-fn is_refusal(s: Scene) -> bool {
-    ((s[TOLD] == REFUSED as u64) & (s[FIRST] != 10)) | (s[TOLD] == EMPTY as u64)
-}
-
-// A call; one that is to change nothing and did tells so.
-pub fn make(scene: Scene, call: Call, bytes: &mut [u8]) -> Scene {
-    let s = made(scene, call, bytes);
-    let changed = !is_same(scene, s) | (first_unseen(&bytes[..]) < 4096);
-    if changed & is_refusal(s) {
-        return told(s, CHANGED, 0, 0, 0);
+// What a turn answers, where it found a head.
+fn answer_of(t: Turn) -> Option<Answer> {
+    match t.answer {
+        None => None,
+        Some(answer) => Some(answer),
     }
-    s
 }

@@ -8,178 +8,123 @@ use little_endian::read_u64;
 use record::{Device, Pending};
 use saving::Restored;
 use std::num::wrapping_sub_usize;
-use trace_run::{Run, first_bytes, serve};
+use test_support::front;
+use trace_run::{Run, serve};
 use units::GuestAddr;
 use wire::VirtioMemConfig;
 
-// A device, and how many bytes of its bitmap are lent.
-#[derive(Clone, Copy)]
-pub struct Scene {
-    pub device: Device,
-    pub bytes: usize,
+// A device, its bitmap, and how many bytes of that are lent.
+#[derive(Drop)]
+pub struct World {
+    device: Device,
+    bitmap: [u8; 32776],
+    bytes: usize,
 }
 
-// A scene, and how long the answer is.
-#[derive(Clone, Copy)]
-pub struct Told {
-    pub scene: Scene,
-    pub length: usize,
-}
-
-fn pending_of(kind: u64) -> Pending {
-    if kind == 0 {
-        return Pending::Nothing;
-    }
-    Pending::Create { first: 0, last: 0 }
-}
-
-// device: columns bytes, align, several, placed, pending.
-pub fn scene_of(v: Row) -> Scene {
-    let config = VirtioMemConfig {
-        block_size: v[0],
-        node_id: 0,
-        addr: GuestAddr(v[1]),
-        region_size: v[2],
-        usable_region_size: v[4],
-        plugged_size: v[5],
-        requested_size: v[3],
-    };
-    let pending = pending_of(v[16]);
-    let device = Device {
-        config: config,
+// device: columns align, several, placed, pending.
+fn device_of(v: Row) -> Device {
+    Device {
+        config: VirtioMemConfig {
+            block_size: v[0],
+            node_id: 0,
+            addr: GuestAddr(v[1]),
+            region_size: v[2],
+            usable_region_size: v[4],
+            plugged_size: v[5],
+            requested_size: v[3],
+        },
         alignment: v[13],
         several: v[14] == 1,
         avail_features: 4294967296,
         placed: v[15] == 1,
-        pending: pending,
-    };
-    Scene {
-        device: device,
-        bytes: v[12] as usize,
+        pending: if v[16] == 0 {
+            Pending::Nothing
+        } else {
+            Pending::Create { first: 0, last: 0 }
+        },
     }
 }
 
-fn make(out: &mut [u8], v: Row, bitmap: &mut [u8]) -> Told {
-    set_range(bitmap, 0, 262208, false);
-    lay(bitmap, v);
-    let scene = scene_of(v);
-    let length = put_form(out, b"made", &[]);
-    Told { scene, length }
-}
-
-fn with_device(scene: Scene, d: Device) -> Scene {
-    Scene { device: d, ..scene }
-}
-
-// What a device has, the first 64 blocks of its bitmap, and how many bits of all that there is are set.
-fn told_device(out: &mut [u8], d: Device, bitmap: &[u8]) -> usize {
-    let c = d.config;
-    put_form(
-        out,
-        b"requested=# usable=# plugged=# blocks=# set=#",
-        &[
-            c.requested_size,
-            c.usable_region_size,
-            c.plugged_size,
-            read_u64(bitmap, 0),
-            count_set(bitmap, 0, 262208) as u64,
-        ],
-    )
-}
-
-// What was restored; where nothing was, the bitmap is to have as many bits set as before.
-fn told_restored(out: &mut [u8], scene: Scene, r: Restored, before: usize, bitmap: &[u8]) -> Told {
-    match r {
-        Restored::Refused(n) => {
-            let length = refused(out, n, count_set(bitmap, 0, 262208) == before);
-            Told { scene, length }
-        }
-        Restored::Device(d) => {
-            let length = told_device(out, d, bitmap);
-            let now = with_device(scene, d);
-            Told { scene: now, length }
+impl World {
+    pub fn new() -> World {
+        World {
+            device: device_of([0; 17]),
+            bitmap: [0; 32776],
+            bytes: 0,
         }
     }
-}
 
-// restore: a text.
-fn restore(out: &mut [u8], scene: Scene, s: &[u8], bitmap: &mut [u8]) -> Told {
-    let d = scene.device;
-    let bytes = scene.bytes;
-    let before = count_set(&bitmap[..], 0, 262208);
-    if bytes <= bitmap.len() {
-        let r = saving::restore(d, &mut bitmap[..bytes], s);
-        return told_restored(out, scene, r, before, &bitmap[..]);
+    // device: column bytes too.
+    pub fn make(&mut self, out: &mut [u8], v: Row) -> usize {
+        set_range(&mut self.bitmap, 0, 262208, false);
+        lay(&mut self.bitmap, v);
+        self.device = device_of(v);
+        self.bytes = v[12] as usize;
+        put_form(out, b"made", &[])
     }
-    Told { scene, length: 0 }
-}
 
-// save: column room.
-fn save_into(out: &mut [u8], scene: Scene, room: usize, bitmap: &[u8], buffer: &mut [u8]) -> usize {
-    if buffer.len() < room {
-        return 0;
+    // How many bits of all that there is are set.
+    fn count(&self) -> u64 {
+        count_set(&self.bitmap, 0, 262208) as u64
     }
-    let d = scene.device;
-    let wrote = saving::save(d, first_bytes(bitmap, scene.bytes), &mut buffer[..room]);
-    told_text(out, wrote, &buffer[..])
-}
 
-fn save(out: &mut [u8], scene: Scene, room: u64, bitmap: &[u8]) -> usize {
-    let mut buffer = [UNTOUCHED; 256];
-    save_into(out, scene, room as usize, bitmap, &mut buffer)
-}
-
-fn measure(out: &mut [u8], scene: Scene, bitmap: &[u8]) -> usize {
-    let d = scene.device;
-    told_length(
-        out,
-        saving::save_length(d, first_bytes(bitmap, scene.bytes)),
-    )
-}
-
-// The device that a run goes on with.
-fn device_of(run: Run, d: Device) -> Device {
-    match run {
-        Run::On(now) => now,
-        _ => d,
-    }
-}
-
-// op: a line of a trace, and what it prints, without its newline; two map regions are mapped.
-fn traced(out: &mut [u8], scene: Scene, line: &[u8], bitmap: &mut [u8]) -> Told {
-    let mut table = [7, 1, 140737488355328, 8, 1, 140739635838976];
-    let mut mem = [0u8; 128];
-    let d = scene.device;
-    let shown = serve(Run::On(d), bitmap, &mut table, &mut mem, line, out);
-    let run = shown.run;
-    let now = with_device(scene, device_of(run, d));
-    Told {
-        scene: now,
-        length: wrapping_sub_usize(shown.length, 1),
-    }
-}
-
-// A call of the device, by its first letter.
-pub fn call(
-    out: &mut [u8],
-    scene: Scene,
-    call: &[u8],
-    v: Row,
-    s: &[u8],
-    letter: u8,
-    bitmap: &mut [u8],
-) -> Told {
-    match letter {
-        b'd' => make(out, v, bitmap),
-        b'r' => restore(out, scene, s, bitmap),
-        b'o' => traced(out, scene, call, bitmap),
-        b'm' => {
-            let length = measure(out, scene, &bitmap[..]);
-            Told { scene, length }
+    // restore: a text. The answer: what the device has then, the first 64 blocks of its bitmap, and how many bits are
+    // set; where nothing was restored, there are to be as many as before.
+    pub fn restore(&mut self, out: &mut [u8], s: &[u8]) -> usize {
+        let before = self.count();
+        let Some(bitmap) = self.bitmap.get_mut(..self.bytes) else {
+            return 0;
+        };
+        match saving::restore(self.device, bitmap, s) {
+            Restored::Refused(n) => refused(out, n, self.count() == before),
+            Restored::Device(d) => {
+                self.device = d;
+                let c = d.config;
+                put_form(
+                    out,
+                    b"requested=# usable=# plugged=# blocks=# set=#",
+                    &[
+                        c.requested_size,
+                        c.usable_region_size,
+                        c.plugged_size,
+                        read_u64(&self.bitmap, 0),
+                        self.count(),
+                    ],
+                )
+            }
         }
-        _ => {
-            let length = save(out, scene, v[0], &bitmap[..]);
-            Told { scene, length }
+    }
+
+    // save: column room.
+    pub fn save(&self, out: &mut [u8], room: u64) -> usize {
+        let mut buffer = [UNTOUCHED; 256];
+        let Some(room) = buffer.get_mut(..room as usize) else {
+            return 0;
+        };
+        let wrote = saving::save(self.device, front(&self.bitmap, self.bytes), room);
+        told_text(out, wrote, &buffer)
+    }
+
+    pub fn measure(&self, out: &mut [u8]) -> usize {
+        let lent = front(&self.bitmap, self.bytes);
+        told_length(out, saving::save_length(self.device, lent))
+    }
+
+    // op: a line of a trace, and what it prints, without its newline; two map regions are mapped.
+    pub fn trace(&mut self, out: &mut [u8], line: &[u8]) -> usize {
+        let mut table = [7, 1, 140737488355328, 8, 1, 140739635838976];
+        let mut mem = [0; 128];
+        let shown = serve(
+            Run::On(self.device),
+            &mut self.bitmap,
+            &mut table,
+            &mut mem,
+            line,
+            out,
+        );
+        if let Run::On(d) = shown.run {
+            self.device = d;
         }
+        wrapping_sub_usize(shown.length, 1)
     }
 }

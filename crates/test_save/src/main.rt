@@ -4,19 +4,23 @@
 // gets none. What the rows are, and their columns, the file says in its lines that begin with #.
 #![tactic(auto)]
 
+<<<<<<< HEAD
 use devices::{Scene, Told};
 use forms::scan_at;
+=======
+use devices::World;
+use forms::scan_at;
+>>>>>>> 3863932998deaa795b907c6bedc4d16e9be130a3
 use little_endian::{copy, from};
-use parts::{Row, UNTOUCHED, byte_at, find};
-use std::num::{wrapping_add_u64, wrapping_add_usize, wrapping_sub_usize};
+use std::num::wrapping_add_usize;
 use std::{fs, io};
-use texts::ONES;
-use trace_run::first_bytes;
+use test_support::{form_of, front, run_rows};
 
 mod devices; // a device, saved and restored
 mod parts; // parts of a row, and what is lent to a call
 mod texts; // texts and old bytes
 
+<<<<<<< HEAD
 // The device that rows stand on, where a line starts, its number, how many rows there were, and how many of these
 // differ.
 #[derive(Clone, Copy)]
@@ -74,110 +78,43 @@ fn make(out: &mut [u8], scene: Scene, form: &[u8], call: &[u8], bitmap: &mut [u8
     let mut s = [0u8; 512];
     let Some(at) = scan_at(call, 0, form, &mut v) else {
         return Told { scene, length: 0 };
+=======
+// Makes a call, by its first letter, and puts its answer: none where it is no call. A text stands behind the numbers
+// and a space.
+fn answer(out: &mut [u8], world: &mut World, form: &str, call: &str) -> usize {
+    let call = call.as_bytes();
+    let mut v = [0; 17];
+    let mut s = [0; 512];
+    let Some(at) = scan_at(call, 0, form.as_bytes(), &mut v) else {
+        return 0;
+>>>>>>> 3863932998deaa795b907c6bedc4d16e9be130a3
     };
     let tail = from(call, wrapping_add_usize(at, 1));
     copy(&mut s, tail);
     parts::swap(&mut s);
-    let text = first_bytes(&s, tail.len());
-    let letter = byte_at(call, 0);
-    if is_call_of_device(letter) {
-        return devices::call(out, scene, call, v, text, letter, bitmap);
+    let s = front(&s, tail.len());
+    match call.first() {
+        Some(b't') => texts::check(out, s),
+        Some(b'i') => texts::read(out, v, s),
+        Some(b'w') => texts::write(out, v),
+        Some(b'l') => texts::length(out, v),
+        Some(b'n') => texts::to_new(out, v),
+        Some(b'b') => texts::to_old(out, v, s),
+        Some(b'd') => world.make(out, v),
+        Some(b'r') => world.restore(out, s),
+        Some(b'o') => world.trace(out, call),
+        Some(b's') => world.save(out, v[0]),
+        Some(b'm') => world.measure(out),
+        _ => 0,
     }
-    let length = answer(out, letter, v, text);
-    Told { scene, length }
-}
-
-// A row that has not what came of it.
-fn show_row(rt: &impl Print, line: u64, row: &[u8], given: &[u8]) -> io::Result<()> {
-    print!(rt; "line {line}: ")?;
-    rt.write_all(row)?;
-    rt.write_all(b"\n  but got ")?;
-    rt.write_all(given)?;
-    rt.write_all(b"\n")
-}
-
-// 1, with the row, where its answer is another.
-fn differs(rt: &impl Print, row: &[u8], line: u64, known: &[u8], given: &[u8]) -> io::Result<u64> {
-    if (0 < given.len()) & (known == given) {
-        return Ok(0);
-    }
-    show_row(rt, line, row, given)?;
-    Ok(1)
-}
-
-fn run_row(
-    rt: &impl Print,
-    state: State,
-    text: &[u8],
-    row: &[u8],
-    bitmap: &mut [u8],
-) -> io::Result<State> {
-    let mut out = [0u8; 512];
-    let scene = state.scene;
-    let arrow = find(row, b'>');
-    let call = first_bytes(row, wrapping_sub_usize(arrow, 2));
-    let t = make(
-        &mut out,
-        scene,
-        form_of(text, byte_at(row, 0)),
-        call,
-        bitmap,
-    );
-    let known = from(row, wrapping_add_usize(arrow, 2));
-    let wrong = differs(rt, row, state.lines, known, first_bytes(&out, t.length))?;
-    Ok(State {
-        scene: t.scene,
-        rows: wrapping_add_u64(state.rows, 1),
-        differing: wrapping_add_u64(state.differing, wrong),
-        ..state
-    })
-}
-
-// The line that ends here, if one does. One that is empty, begins with # or is a form is no row.
-fn run_line(
-    rt: &impl Print,
-    state: State,
-    text: &[u8],
-    end: usize,
-    bitmap: &mut [u8],
-) -> io::Result<State> {
-    if byte_at(text, end) != b'\n' {
-        return Ok(state);
-    }
-    let line = from(first_bytes(text, end), state.start);
-    let next = State {
-        start: wrapping_add_usize(end, 1),
-        lines: wrapping_add_u64(state.lines, 1),
-        ..state
-    };
-    let first = byte_at(line, 0);
-    if (first == 0) | (first == b'#') | (byte_at(line, 1) == b' ') {
-        return Ok(next);
-    }
-    run_row(rt, next, text, line, bitmap)
-}
-
-fn run(rt: &impl Print, text: &[u8], bitmap: &mut [u8]) -> io::Result<State> {
-    let scene = devices::scene_of([0u64; 17]);
-    let mut state = State {
-        scene: scene,
-        start: 0,
-        lines: 0,
-        rows: 0,
-        differing: 0,
-    };
-    let mut next = 0;
-    while next < text.len() {
-        let end = next;
-        next += 1;
-        state = run_line(rt, state, text, end, bitmap)?;
-    }
-    Ok(state)
 }
 
 fn main(rt: HostRuntime) -> io::Result<()> {
-    let mut bitmap = [0u8; 32776];
-    let text = fs::read(&rt, "save.txt")?;
-    let last = run(&rt, text.as_slice(), &mut bitmap)?;
-    println!(rt; "{} rows, {} differ", last.rows, last.differing)
+    let text = fs::read_to_string(&rt, "save.txt")?;
+    let mut world = World::new();
+    let count = run_rows(&rt, &text, &mut [0; 512], true, |out, call| {
+        let letter = call.as_bytes().first().copied().unwrap_or(0);
+        answer(out, &mut world, form_of(&text, letter), call)
+    })?;
+    println!(rt; "{count}")
 }

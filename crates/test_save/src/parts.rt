@@ -11,56 +11,28 @@ pub type Row = [u64; 17];
 // What a byte is that a call may not touch: no text and no old byte has it.
 pub const UNTOUCHED: u8 = 238;
 
-pub fn byte_at(s: &[u8], i: usize) -> u8 {
-    if i < s.len() {
-        return s[i];
-    }
-    0
-}
-
-// Where a byte stands first, or the text's end.
-pub fn find(s: &[u8], b: u8) -> usize {
-    let mut i = 0;
-    while i < s.len() {
-        if s[i] == b {
-            return i;
-        }
-        i += 1;
-    }
-    i
-}
-
 // A row has | for a newline, ^ for a carriage return and ~ for a tab; this takes either to the other.
 fn other(b: u8) -> u8 {
     match b {
-        b'|' => 10,
-        10 => b'|',
-        b'^' => 13,
-        13 => b'^',
-        b'~' => 9,
-        9 => b'~',
+        b'|' => b'\n',
+        b'\n' => b'|',
+        b'^' => b'\r',
+        b'\r' => b'^',
+        b'~' => b'\t',
+        b'\t' => b'~',
         _ => b,
     }
 }
 
 pub fn swap(bytes: &mut [u8]) {
-    let mut i = 0;
-    while i < bytes.len() {
-        bytes[i] = other(bytes[i]);
-        i += 1;
+    for byte in bytes.iter_mut() {
+        *byte = other(*byte);
     }
 }
 
 // Whether all bytes from a place on are as they were.
 pub fn untouched(bytes: &[u8], from: usize, was: u8) -> bool {
-    let mut i = from;
-    while i < bytes.len() {
-        if bytes[i] != was {
-            return false;
-        }
-        i += 1;
-    }
-    true
+    bytes.iter().skip(from).all(|b| *b == was)
 }
 
 pub fn fields_of(v: Row) -> Fields {
@@ -75,9 +47,9 @@ pub fn fields_of(v: Row) -> Fields {
 }
 
 pub fn lay(bitmap: &mut [u8], v: Row) {
-    set_range(bitmap, v[6] as usize, v[7] as usize, true);
-    set_range(bitmap, v[8] as usize, v[9] as usize, true);
-    set_range(bitmap, v[10] as usize, v[11] as usize, true);
+    for (first, count) in [(v[6], v[7]), (v[8], v[9]), (v[10], v[11])] {
+        set_range(bitmap, first as usize, count as usize, true);
+    }
 }
 
 // A refusal, as an answer; `touched` where the call changed something.

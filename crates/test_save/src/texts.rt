@@ -5,9 +5,8 @@ use bitmap::count_set;
 use forms::{put_form, put_form_at};
 use little_endian::{copy, read_u64};
 use save::{Checked, Fields, Got, Wrote};
-use std::num::wrapping_sub_u64;
+use test_support::front;
 use text::put;
-use trace_run::first_bytes;
 use units::MemTool;
 
 // Every bit of a bitmap that is read onto is set before.
@@ -21,7 +20,7 @@ pub fn told_text(out: &mut [u8], wrote: Wrote, buffer: &[u8]) -> usize {
             if !untouched(buffer, n as usize, UNTOUCHED) {
                 return refused(out, 0, false);
             }
-            copy(out, first_bytes(buffer, n as usize));
+            copy(out, front(buffer, n as usize));
             swap(out);
             n as usize
         }
@@ -29,18 +28,15 @@ pub fn told_text(out: &mut [u8], wrote: Wrote, buffer: &[u8]) -> usize {
 }
 
 // write: columns bytes and room.
-pub fn write(out: &mut [u8], v: Row, bitmap: &mut [u8], buffer: &mut [u8]) -> usize {
-    let room = v[13] as usize;
-    lay(bitmap, v);
-    if buffer.len() < room {
+pub fn write(out: &mut [u8], v: Row) -> usize {
+    let mut bitmap = [0; 32776];
+    let mut buffer = [UNTOUCHED; 512];
+    lay(&mut bitmap, v);
+    let Some(room) = buffer.get_mut(..v[13] as usize) else {
         return 0;
-    }
-    let wrote = save::write(
-        fields_of(v),
-        first_bytes(&bitmap[..], v[12] as usize),
-        &mut buffer[..room],
-    );
-    told_text(out, wrote, &buffer[..])
+    };
+    let wrote = save::write(fields_of(v), front(&bitmap, v[12] as usize), room);
+    told_text(out, wrote, &buffer)
 }
 
 pub fn told_length(out: &mut [u8], long: Wrote) -> usize {
@@ -51,11 +47,12 @@ pub fn told_length(out: &mut [u8], long: Wrote) -> usize {
 }
 
 // length: column bytes.
-pub fn length(out: &mut [u8], v: Row, bitmap: &mut [u8]) -> usize {
-    lay(bitmap, v);
+pub fn length(out: &mut [u8], v: Row) -> usize {
+    let mut bitmap = [0; 32776];
+    lay(&mut bitmap, v);
     told_length(
         out,
-        save::text_length(fields_of(v), first_bytes(&bitmap[..], v[12] as usize)),
+        save::text_length(fields_of(v), front(&bitmap, v[12] as usize)),
     )
 }
 
@@ -91,53 +88,44 @@ fn told_read(out: &mut [u8], got: Got, bitmap: &[u8]) -> usize {
 }
 
 // into: columns room and most, and a text.
-pub fn read(out: &mut [u8], room: u64, most: u64, s: &[u8], bitmap: &mut [u8]) -> usize {
-    let room = room as usize;
-    if bitmap.len() < room {
+pub fn read(out: &mut [u8], v: Row, s: &[u8]) -> usize {
+    let mut bitmap = [ONES; 32776];
+    let Some(room) = bitmap.get_mut(..v[0] as usize) else {
         return 0;
-    }
-    let got = save::read(s, most as usize, &mut bitmap[..room]);
-    told_read(out, got, &bitmap[..])
+    };
+    let got = save::read(s, v[1] as usize, room);
+    told_read(out, got, &bitmap)
 }
 
-// The number that a text is refused as where it is read, and where it is only checked; 0 where it is not refused.
-fn number_of(got: Got) -> u64 {
+// The number that a text is refused as where it is read, and where it is only checked.
+fn refusal_of(got: Got) -> Option<u64> {
     match got {
-        Got::Refused(n) => n,
-        Got::Fields(_) => 0,
+        Got::Refused(n) => Some(n),
+        Got::Fields(_) => None,
     }
 }
 
-fn checked(s: &[u8]) -> u64 {
-    let found = save::check(s);
-    match found {
-        Checked::Refused(n) => n,
-        Checked::State { fields: _, runs: _ } => 0,
+fn refusal_of_check(s: &[u8]) -> Option<u64> {
+    match save::check(s) {
+        Checked::Refused(n) => Some(n),
+        Checked::State { .. } => None,
     }
 }
 
 // text: a text, checked and read, with the same number; there is no answer where there are two.
-pub fn check(out: &mut [u8], s: &[u8], bitmap: &mut [u8]) -> usize {
-    let got = save::read(s, 262144, bitmap);
-    if number_of(got) != checked(s) {
+pub fn check(out: &mut [u8], s: &[u8]) -> usize {
+    let mut bitmap = [ONES; 32776];
+    let got = save::read(s, 262144, &mut bitmap);
+    if refusal_of(got) != refusal_of_check(s) {
         return 0;
     }
-    told_read(out, got, &bitmap[..])
+    told_read(out, got, &bitmap)
 }
 
-// A byte at a place, where `count` bytes from `first` on are set to b.
-fn filled(was: u8, i: u64, first: u64, count: u64, b: u8) -> u8 {
-    if (first <= i) & (wrapping_sub_u64(i, first) < count) {
-        return b;
-    }
-    was
-}
-
+// Sets `count` bytes from `first` on to b.
 fn fill(bytes: &mut [u8], first: u64, count: u64, b: u8) {
-    let mut i = 0;
-    while i < bytes.len() {
-        bytes[i] = filled(bytes[i], i as u64, first, count, b);
-        i += 1;
+    for byte in bytes.iter_mut().skip(first as usize).take(count as usize) {
+        *byte = b;
     }
 }
 
@@ -150,62 +138,43 @@ fn lay_old(old: &mut [u8], v: Row) {
 }
 
 // new: columns bytes, room, scratch, at and is.
-pub fn to_new(
-    out: &mut [u8],
-    v: Row,
-    old: &mut [u8],
-    scratch: &mut [u8],
-    buffer: &mut [u8],
-) -> usize {
-    let room = v[13] as usize;
-    let lent = v[14] as usize;
-    lay_old(old, v);
-    if buffer.len() < room {
+pub fn to_new(out: &mut [u8], v: Row) -> usize {
+    let mut old = [0; 512];
+    let mut scratch = [ONES; 32776];
+    let mut buffer = [UNTOUCHED; 512];
+    lay_old(&mut old, v);
+    let Some(room) = buffer.get_mut(..v[13] as usize) else {
         return 0;
-    }
-    if scratch.len() < lent {
+    };
+    let Some(lent) = scratch.get_mut(..v[14] as usize) else {
         return 0;
-    }
-    let wrote = old_form::to_new(
-        fields_of(v),
-        first_bytes(&old[..], v[12] as usize),
-        &mut scratch[..lent],
-        &mut buffer[..room],
-    );
-    let to = told_text(out, wrote, &buffer[..]);
-    put_form_at(out, to, b" scratch=#", &[read_u64(&scratch[..], 0)])
+    };
+    let wrote = old_form::to_new(fields_of(v), front(&old, v[12] as usize), lent, room);
+    let to = told_text(out, wrote, &buffer);
+    put_form_at(out, to, b" scratch=#", &[read_u64(&scratch, 0)])
 }
 
 // Old bytes, as digits.
 fn put_old(out: &mut [u8], at: usize, old: &[u8]) -> usize {
     let mut to = at;
-    let mut i = 0;
-    while i < old.len() {
-        to = put(out, to, 48 + old[i] % 10);
-        i += 1;
+    for byte in old {
+        to = put(out, to, b'0' + byte % 10);
     }
     to
 }
 
 // back: columns scratch and room, and a text.
-pub fn to_old(
-    out: &mut [u8],
-    lent: u64,
-    room: u64,
-    s: &[u8],
-    scratch: &mut [u8],
-    old: &mut [u8],
-) -> usize {
-    let lent = lent as usize;
-    let room = room as usize;
-    if scratch.len() < lent {
+pub fn to_old(out: &mut [u8], v: Row, s: &[u8]) -> usize {
+    let mut scratch = [ONES; 32776];
+    let mut old = [UNTOUCHED; 512];
+    let Some(lent) = scratch.get_mut(..v[0] as usize) else {
         return 0;
-    }
-    if old.len() < room {
+    };
+    let Some(room) = old.get_mut(..v[1] as usize) else {
         return 0;
-    }
-    let got = old_form::to_old(s, &mut scratch[..lent], &mut old[..room]);
-    told_old(out, got, &old[..], untouched(&scratch[..], 0, ONES))
+    };
+    let got = old_form::to_old(s, lent, room);
+    told_old(out, got, &old, untouched(&scratch, 0, ONES))
 }
 
 fn told_old(out: &mut [u8], got: Got, old: &[u8], same: bool) -> usize {
@@ -218,7 +187,7 @@ fn told_old(out: &mut [u8], got: Got, old: &[u8], same: bool) -> usize {
             }
             let at = put_fields(out, f);
             let to = put_form_at(out, at, b" old=", &[]);
-            put_old(out, to, first_bytes(old, all))
+            put_old(out, to, front(old, all))
         }
     }
 }

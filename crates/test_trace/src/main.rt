@@ -11,339 +11,166 @@
 // two at once: the earlier is told (request 8/12).
 #![tactic(auto)]
 
-use std::num::wrapping_add_u64;
+use little_endian::from;
+use std::alloc::Allocator;
 use std::rt::Files;
 use std::{fs, io};
 use trace_run::{Run, first_bytes, serve};
 
-// Where the lines of a block stand: the run, the bytes of a line, the bytes of the answers, and whether `--` has been
-// read.
-#[derive(Clone, Copy)]
-struct State {
+// A block that is run: its device, with tables of its own, what it has answered and, behind the line `--`, how many
+// bytes of that have been compared. The answers are the same so far, or not.
+#[derive(Drop)]
+struct Block<A: Allocator> {
     run: Run,
-    filled: usize,
-    answered: usize,
-    done: bool,
-}
-
-// The block's lines have been run: where its answers start, and how many bytes the run answered.
-#[derive(Clone, Copy)]
-struct Ran {
-    next: usize,
-    answered: usize,
-}
-
-// Where the comparison stands: where the known line and the run's line start, at which byte of the run's it is, whether
-// the known line has a byte yet, whether the lines are the same so far, and whether all before them were.
-#[derive(Clone, Copy)]
-struct Cursor {
-    known: usize,
-    given: usize,
-    at: usize,
-    fresh: bool,
-    same: bool,
-    all: bool,
-    done: bool,
-}
-
-// The block is compared: where the next one starts.
-#[derive(Clone, Copy)]
-struct Compared {
-    next: usize,
+    bitmap: [u8; 32768],
+    table: [u64; 1536],
+    mem: [u8; 128],
+    answers: Vec<u8, A>,
+    compared: Option<usize>,
     same: bool,
 }
 
-fn byte_at(s: &[u8], i: usize) -> u8 {
-    if i < s.len() {
-        return s[i];
-    }
-    0
-}
-
-fn put_byte(s: &mut [u8], i: usize, b: u8) -> usize {
-    if i < s.len() {
-        s[i] = b;
-        return i + 1;
-    }
-    i
-}
-
-// Appends what a line printed to the answers.
-fn append(answers: &mut [u8], answered: usize, printed: &[u8]) -> usize {
-    let mut to = answered;
-    let mut i = 0;
-    while i < printed.len() {
-        to = put_byte(answers, to, printed[i]);
-        i += 1;
-    }
-    to
-}
-
-fn is_rule(line: &[u8], filled: usize) -> bool {
-    (filled == 2) & (byte_at(line, 0) == b'-') & (byte_at(line, 1) == b'-')
-}
-
-// A line of the block has ended: it is served, and its answer kept.
-fn end_line(
-    s: State,
-    bitmap: &mut [u8],
-    table: &mut [u64],
-    mem: &mut [u8],
-    line: &[u8],
-    answers: &mut [u8],
-) -> State {
-    let run = s.run;
-    if is_rule(line, s.filled) {
-        return State {
-            run: run,
-            filled: 0,
-            answered: s.answered,
-            done: true,
-        };
-    }
-    let mut out = [0u8; 256];
-    let shown = serve(
-        run,
-        bitmap,
-        table,
-        mem,
-        first_bytes(line, s.filled),
-        &mut out,
-    );
-    let next = shown.run;
-    let answered = append(answers, s.answered, first_bytes(&out, shown.length));
-    State {
-        run: next,
-        filled: 0,
-        answered: answered,
-        done: false,
-    }
-}
-
-fn take(
-    s: State,
-    b: u8,
-    bitmap: &mut [u8],
-    table: &mut [u64],
-    mem: &mut [u8],
-    line: &mut [u8],
-    answers: &mut [u8],
-) -> State {
-    if b == b'\n' {
-        return end_line(s, bitmap, table, mem, &line[..], answers);
-    }
-    let run = s.run;
-    let filled = put_byte(line, s.filled, b);
-    State {
-        run: run,
-        filled: filled,
-        answered: s.answered,
-        done: false,
-    }
-}
-
-// Runs the lines of the block that starts here.
-fn run_lines(
-    text: &[u8],
-    from: usize,
-    bitmap: &mut [u8],
-    table: &mut [u64],
-    mem: &mut [u8],
-    line: &mut [u8],
-    answers: &mut [u8],
-) -> Ran {
-    let mut s = State {
-        run: Run::Before,
-        filled: 0,
-        answered: 0,
-        done: false,
-    };
-    let mut i = from;
-    while i < text.len() {
-        s = take(s, text[i], bitmap, table, mem, line, answers);
-        i += 1;
-        if s.done {
-            return Ran {
-                next: i,
-                answered: s.answered,
-            };
+impl<A: Allocator> Block<A> {
+    fn new(alloc: A) -> Self {
+        Block {
+            run: Run::Before,
+            bitmap: [0; 32768],
+            table: [0; 1536],
+            mem: [0; 128],
+            answers: Vec::new(alloc),
+            compared: None,
+            same: true,
         }
     }
-    Ran {
-        next: i,
-        answered: s.answered,
-    }
-}
 
-// Where a line ends, or before that a mark.
-fn end_of(answers: &[u8], from: usize, mark: u8) -> usize {
-    let mut i = from;
-    while i < answers.len() {
-        let b = answers[i];
-        if (b == mark) | (b == b'\n') {
-            return i;
+    // Serves a line, and keeps its answer.
+    fn serve(&mut self, line: &[u8]) -> io::Result<()> {
+        let mut out = [0; 256];
+        let shown = serve(
+            self.run,
+            &mut self.bitmap,
+            &mut self.table,
+            &mut self.mem,
+            line,
+            &mut out,
+        );
+        self.run = shown.run;
+        self.answers
+            .extend_from_slice(first_bytes(&out, shown.length))?;
+        Ok(())
+    }
+
+    // Compares a known line with the next answer. One that differs is shown, and what the run gave for it.
+    fn compare(&mut self, rt: &impl Print, known: &[u8], compared: usize) -> io::Result<()> {
+        let given = from(self.answers.as_slice(), compared)
+            .split_inclusive(|b| *b == b'\n')
+            .next()
+            .unwrap_or(&[]);
+        self.compared = Some(compared + given.len());
+        if !fits(text_of(known), text_of(given)) {
+            self.same = false;
+            print!(rt; "\n  known ")?;
+            rt.write_all(known)?;
+            print!(rt; "  given ")?;
+            rt.write_all(given)?;
         }
-        i += 1;
+        Ok(())
     }
-    i
+
+    // Takes a line, and answers whether the block has ended.
+    fn take(&mut self, rt: &impl Print, line: &[u8]) -> io::Result<bool> {
+        match self.compared {
+            None if line == b"--\n".as_slice() => self.compared = Some(0),
+            None => self.serve(text_of(line))?,
+            Some(_) if line == b"\n".as_slice() => return Ok(true),
+            Some(compared) => self.compare(rt, line, compared)?,
+        }
+        Ok(false)
+    }
+
+    fn is_begun(&self) -> bool {
+        self.compared.is_some() || !self.answers.is_empty()
+    }
+
+    // Whether all answers were known, and the same.
+    fn is_same(&self) -> bool {
+        self.same & (self.compared == Some(self.answers.len()))
+    }
 }
 
-fn after(answers: &[u8], i: usize) -> usize {
-    if i < answers.len() {
-        return i + 1;
-    }
-    i
+// A line without its end.
+fn text_of(line: &[u8]) -> &[u8] {
+    line.strip_suffix(b"\n").unwrap_or(line)
 }
 
-fn show_part(rt: &impl Print, what: &[u8], s: &[u8], from: usize, to: usize) -> io::Result<()> {
-    rt.write_all(what)?;
-    let line = first_bytes(s, to);
-    if from < line.len() {
-        rt.write_all(&line[from..])?;
+// Whether a field is as it is known: `*` stands for any value.
+fn is_known(known: &[u8], given: &[u8]) -> bool {
+    match known.strip_suffix(b"*") {
+        Some(name) => given.starts_with(name),
+        None => given == known,
     }
-    Ok(())
 }
 
-// A known line ends before `next`. One that differs is shown, and what the run gave for it.
-fn end_known(
-    rt: &impl Print,
-    c: Cursor,
-    text: &[u8],
-    next: usize,
-    answers: &[u8],
-) -> io::Result<Cursor> {
-    if c.fresh {
-        return Ok(Cursor { done: true, ..c });
-    }
-    let end = end_of(answers, c.given, b'\n');
-    let given = after(answers, end);
-    let same = c.same & (c.at == end);
-    if !same {
-        show_part(rt, b"\n  known ", text, c.known, next)?;
-        show_part(rt, b"  given ", answers, c.given, given)?;
-    }
-    Ok(Cursor {
-        known: next,
-        given,
-        at: given,
-        fresh: true,
-        same: true,
-        all: c.all & same,
-        done: false,
-    })
+// Whether a line has the known fields.
+fn fits(known: &[u8], given: &[u8]) -> bool {
+    let is_blank = |b: &u8| *b == b' ';
+    let mut fields = known.split(is_blank).zip(given.split(is_blank));
+    known.split(is_blank).count() == given.split(is_blank).count()
+        && fields.all(|(known, given)| is_known(known, given))
 }
 
-// One byte of the known answers, before `next`. An empty line ends them.
-fn compare_byte(
-    rt: &impl Print,
-    c: Cursor,
-    text: &[u8],
-    next: usize,
-    b: u8,
-    answers: &[u8],
-) -> io::Result<Cursor> {
-    if b == b'\n' {
-        return end_known(rt, c, text, next, answers);
-    }
-    if b == b'*' {
-        return Ok(Cursor {
-            at: end_of(answers, c.at, b' '),
-            fresh: false,
-            ..c
-        });
-    }
-    let is_same = c.same & (byte_at(answers, c.at) == b);
-    Ok(Cursor {
-        at: after(answers, c.at),
-        fresh: false,
-        same: is_same,
-        ..c
-    })
+// How many traces there were, and how many of these differ.
+#[derive(Clone, Copy, Default)]
+struct Count {
+    traces: u64,
+    differing: u64,
 }
 
-fn compare(rt: &impl Print, text: &[u8], from: usize, answers: &[u8]) -> io::Result<Compared> {
-    let mut c = Cursor {
-        known: from,
-        given: 0,
-        at: 0,
-        fresh: true,
-        same: true,
-        all: true,
-        done: false,
-    };
-    let mut i = from;
-    while i < text.len() {
-        let b = text[i];
-        i += 1;
-        c = compare_byte(rt, c, text, i, b, answers)?;
-        if c.done {
-            return Ok(Compared {
-                next: i,
-                same: c.all & (c.at == answers.len()),
-            });
+impl Count {
+    // Counts a trace, and shows one that differs, by its number from 1 on.
+    fn add(&mut self, rt: &impl Print, is_same: bool) -> io::Result<()> {
+        self.traces = self.traces.saturating_add(1);
+        if !is_same {
+            self.differing = self.differing.saturating_add(1);
+            println!(rt; "{} differs", self.traces)?;
+        }
+        Ok(())
+    }
+}
+
+// A last block that lacks its empty line differs.
+fn run_blocks(rt: &(impl Print + Alloc), text: &[u8]) -> io::Result<()> {
+    let mut count = Count::default();
+    let mut block = Block::new(rt.alloc());
+    for line in text.split_inclusive(|b| *b == b'\n') {
+        if block.take(rt, line)? {
+            count.add(rt, block.is_same())?;
+            block = Block::new(rt.alloc());
         }
     }
-    Ok(Compared {
-        next: i,
-        same: false,
-    })
-}
-
-// Runs the block that starts here on a new device, with tables of its own.
-fn run_block(rt: &impl Print, text: &[u8], from: usize) -> io::Result<Compared> {
-    let mut bitmap = [0; 32768];
-    let mut table = [0u64; 1536];
-    let mut mem = [0u8; 128];
-    let mut line = [0u8; 201];
-    let mut answers = [0u8; 65536];
-    let ran = run_lines(
-        text,
-        from,
-        &mut bitmap,
-        &mut table,
-        &mut mem,
-        &mut line,
-        &mut answers,
-    );
-    compare(rt, text, ran.next, first_bytes(&answers, ran.answered))
-}
-
-// Shows a trace that differs, by its number from 1 on, and counts it.
-fn count_differing(rt: &impl Print, trace: u64, differing: u64, same: bool) -> io::Result<u64> {
-    if same {
-        return Ok(differing);
+    if block.is_begun() {
+        count.add(rt, false)?;
     }
-    println!(rt; "{trace} differs")?;
-    Ok(wrapping_add_u64(differing, 1))
-}
-
-fn run_blocks(rt: &impl Print, text: &[u8]) -> io::Result<()> {
-    let mut at = 0;
-    let mut traces = 0u64;
-    let mut differing = 0u64;
-    while at < text.len() {
-        let block = run_block(rt, text, at)?;
-        if block.next <= at {
-            return Ok(());
-        }
-        at = block.next;
-        traces = wrapping_add_u64(traces, 1);
-        differing = count_differing(rt, traces, differing, block.same)?;
-    }
-    println!(rt; "{traces} traces, {differing} differ")
+    println!(rt; "{} traces, {} differ", count.traces, count.differing)
 }
 
 fn run_file(rt: &(impl Files + Print + Alloc), name: &str) -> io::Result<()> {
     let text = fs::read(rt, name)?;
     print!(rt; "{name}: ")?;
-    run_blocks(rt, text.as_slice())
+    run_blocks(rt, &text)
 }
 
 fn main(rt: HostRuntime) -> io::Result<()> {
-    run_file(&rt, "traces.txt")?;
-    run_file(&rt, "parts.txt")?;
-    run_file(&rt, "amended.txt")?;
-    run_file(&rt, "recorded.txt")?;
-    run_file(&rt, "edges.txt")?;
-    run_file(&rt, "why.txt")
+    let names = [
+        "traces.txt",
+        "parts.txt",
+        "amended.txt",
+        "recorded.txt",
+        "edges.txt",
+        "why.txt",
+    ];
+    for name in names {
+        run_file(&rt, name)?;
+    }
+    Ok(())
 }

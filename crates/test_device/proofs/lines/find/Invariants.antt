@@ -1,8 +1,0 @@
--- SPDX-License-Identifier: Apache-2.0 AND BSD-3-Clause
--- `test_device::lines::find` is safe and ends: the measure is what is left of the text.
-use Prim.Native.Nat.{◌-◌}
-use lib.ListN.{length}
-use Rattle.test_device.proofs.lines.find.Given as goal
-
-abbrev pub decreases-loop-i : goal.decreases-loop-i
-decreases-loop-i l = length l.s - l.i

@@ -1,7 +1,0 @@
--- SPDX-License-Identifier: Apache-2.0 AND BSD-3-Clause
--- `test_parts::parts::find` is safe and ends: the measure is what is left of the text.
-use Rattle.std.proofs.Common.{◌-◌, length}
-use Rattle.test_parts.proofs.parts.find.Given as goal
-
-abbrev pub decreases-loop-i : goal.decreases-loop-i
-decreases-loop-i l = length l.s - l.i

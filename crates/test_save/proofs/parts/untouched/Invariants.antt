@@ -1,7 +1,0 @@
--- SPDX-License-Identifier: Apache-2.0 AND BSD-3-Clause
--- `test_save::parts::untouched` is safe and ends: the measure is how many bytes are left.
-use Rattle.std.proofs.Common.{◌-◌, length}
-use Rattle.test_save.proofs.parts.untouched.Given as goal
-
-abbrev pub decreases-loop-i : goal.decreases-loop-i
-decreases-loop-i l = length l.bytes - l.i

@@ -1,0 +1,89 @@
+// SPDX-License-Identifier: Apache-2.0 AND BSD-3-Clause
+// What the tests share: tables, whose rows are a call and, behind an arrow, its known answer.
+#![tactic(auto)]
+
+ghost use Rattle.std.specs.Prelude.{◌≡◌, ◌+◌, ◌-◌, ◌^◌, ◌≤◌, min, take, length, IfOk};
+
+use std::{fmt, io};
+
+// How many rows there were, and how many of these differ.
+#[derive(Clone, Copy, Default)]
+pub struct Count {
+    pub rows: u64,
+    pub differing: u64,
+}
+
+impl Count {
+    pub fn add(&mut self, more: Count)
+        ensures rows { self.new.rows ≡ min (self.old.rows + more.rows) (2 ^ 64 - 1) }
+        ensures differing { self.new.differing ≡ min (self.old.differing + more.differing) (2 ^ 64 - 1) }
+    {
+        self.rows = self.rows.saturating_add(more.rows);
+        self.differing = self.differing.saturating_add(more.differing);
+    }
+}
+
+impl fmt::Display for Count {
+    fn fmt<W: fmt::Write>(&self, f: &mut fmt::Formatter<W>) -> fmt::Result {
+        write!(f, "{} rows, {} differ", self.rows, self.differing)
+    }
+}
+
+// The first bytes, where there are so many.
+pub fn front(s: &[u8], count: usize) -> &[u8]
+    ensures { result.now ≡ take count s.now }
+{
+    s.get(..count).unwrap_or(s)
+}
+
+// The form that stands behind a key and a blank at the start of a line, or nothing.
+pub fn form_of(text: &str, key: u8) -> &str
+    ensures { length result.now ≤ length text.now }
+{
+    text.lines()
+        .find(|line| line.as_bytes().first() == Some(&key))
+        .and_then(|line| line.get(2..))
+        .unwrap_or("")
+}
+
+// A row that has not what came of it, behind the number of its line, if one is given.
+fn show(rt: &impl Print, line: Option<u64>, row: &str, given: &[u8]) -> io::Result<()> {
+    if let Some(line) = line {
+        print!(rt; "line {line}: ")?;
+    }
+    print!(rt; "{row}\n  but got ")?;
+    rt.write_all(given)?;
+    println!(rt)
+}
+
+// Runs each row of a table, shows those that have another answer, or none, which is an empty one, and counts. A line
+// that is empty, begins with # or is a form, behind a key, is no row.
+pub fn run_rows<F: FnMut(&mut [u8], &str) -> usize>(
+    rt: &impl Print,
+    text: &str,
+    out: &mut [u8],
+    is_numbered: bool,
+    mut answer: F,
+) -> io::Result<Count>
+    requires { F.IsAlwaysCallable answer }
+    ensures { IfOk result (λ count. count.differing ≤ count.rows) }
+{
+    let mut count = Count::default();
+    for (line, row) in (1..=u64::MAX).zip(text.lines()) {
+        if row.is_empty() || row.starts_with('#') || row.get(1..2) == Some(" ") {
+            continue;
+        }
+        let (call, known) = row.split_once(" -> ").unwrap_or((row, ""));
+        let length = answer(out, call);
+        let given = front(out, length);
+        let differs = given.is_empty() || given != known.as_bytes();
+        count.add(Count {
+            rows: 1,
+            differing: differs as u64,
+        });
+        if differs {
+            show(rt, is_numbered.then_some(line), row, given)?;
+        }
+    }
+    Ok(count)
+}
