@@ -98,10 +98,8 @@ pub fn number_of(op: Op) -> u64
 pub fn created_at(d: Device, i: u64) -> u64
     ensures { result ≡ created_at d i }
 {
-    d.config
-        .addr
-        .0
-        .saturating_add(RegionOffset::of_map_region(i).0)
+    let from = RegionOffset::of_map_region(i).0;
+    d.config.addr.0.saturating_add(from)
 }
 
 // The size of the last row of a creation: cut short by the region's end where it is the device's last.
@@ -116,7 +114,6 @@ fn last_size(region: u64, several: bool, last: u64) -> u64
 }
 
 // The size of a creation.
-#[tactic(auto, unfolding(resize::specs::Resize::creation_size))]
 pub fn created_size(d: Device, i: u64, last: u64) -> u64
     ensures { result ≡ created_size d i last }
 {
