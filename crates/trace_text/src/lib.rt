@@ -4,7 +4,7 @@
 
 ghost use Rattle.std.specs.Prelude.{◌≡◌};
 ghost use Rattle.trace_text.specs.Lines.{Reads};
-ghost use Rattle.trace_text.specs.Reading.{first_line_of, on_range, made_of, kind_of, earlier};
+ghost use Rattle.trace_text.specs.Reading.{form_of, first_line_of, made_of, kind_of};
 
 use units::{GuestAddr, HostAddr};
 
@@ -20,35 +20,41 @@ pub struct FirstLine {
     pub slot: u64,
 }
 
-// A line after the first.
-#[derive(Clone, Copy)]
-pub enum Op {
-    Host { ok: bool, addr: HostAddr },
-    Plug { addr: GuestAddr, blocks: u16 },
-    Unplug { addr: GuestAddr, blocks: u16 },
-    State { addr: GuestAddr, blocks: u16 },
-    UnplugAll,
-    Size { mib: u64 },
-}
-
-// Bad is a line that is refused as 13.
-#[derive(Clone, Copy)]
-pub enum Line {
-    First(FirstLine),
-    Later(Op),
-    Bad,
-}
-
-// The ops on a range of blocks.
-#[derive(Drop)]
-enum RangeOp {
+// What a guest may ask of a range of blocks.
+#[derive(Clone, Copy, Debug, PartialEq, Eq)]
+pub enum RangeOp {
     Plug,
     Unplug,
     State,
 }
 
+// A line after the first.
+#[derive(Clone, Copy)]
+pub enum Op {
+    Host {
+        ok: bool,
+        addr: HostAddr,
+    },
+    Range {
+        op: RangeOp,
+        addr: GuestAddr,
+        blocks: u16,
+    },
+    UnplugAll,
+    Size {
+        mib: u64,
+    },
+}
+
+// A line that is in its range. What is no such line is refused as 13.
+#[derive(Clone, Copy)]
+pub enum Line {
+    First(FirstLine),
+    Later(Op),
+}
+
 // What a line can be, by its words.
-#[derive(Drop)]
+#[derive(Clone, Copy)]
 enum Kind {
     FirstNumbered,
     FirstNone,
@@ -58,15 +64,43 @@ enum Kind {
     Size,
 }
 
-// The numbers of a line, which has at most seven, in their order.
-#[derive(Drop)]
-struct Numbers(u64, u64, u64, u64, u64, u64, u64);
+// Every kind, in the order in which they are tried: no text is of two.
+const KINDS: [Kind; 8] = [
+    Kind::FirstNumbered,
+    Kind::FirstNone,
+    Kind::Host,
+    Kind::Range(RangeOp::Plug),
+    Kind::Range(RangeOp::Unplug),
+    Kind::Range(RangeOp::State),
+    Kind::UnplugAll,
+    Kind::Size,
+];
 
 // R12.1. No text that is in range has more than 155.
 const LONGEST: usize = 200;
 
 // The largest `slot` that a first line may have.
 const LAST_SLOT: u64 = 4294966000;
+
+impl Kind {
+    // The words, in which # stands for a number.
+    fn form(self) -> &'static [u8]
+        ensures { result.now ≡ form_of self }
+    {
+        match self {
+            Kind::FirstNumbered =>
+                b"capacity_mib=# requested_mib=# multi=# node=# boot=# addr=# slot=#",
+            Kind::FirstNone =>
+                b"capacity_mib=# requested_mib=# multi=# node=none boot=# addr=# slot=#",
+            Kind::Host => b"op=host ok=# addr=#",
+            Kind::Range(RangeOp::Plug) => b"op=plug addr=# blocks=#",
+            Kind::Range(RangeOp::Unplug) => b"op=unplug addr=# blocks=#",
+            Kind::Range(RangeOp::State) => b"op=state addr=# blocks=#",
+            Kind::UnplugAll => b"op=unplug_all",
+            Kind::Size => b"op=size mib=#",
+        }
+    }
+}
 
 // The first line of these numbers, if they are in their ranges.
 fn first_line(
@@ -77,11 +111,11 @@ fn first_line(
     boot: u64,
     addr: u64,
     slot: u64,
-) -> Line
+) -> Option<Line>
     ensures { result ≡ first_line_of capacity_mib requested_mib multi node boot addr slot }
 {
     if (multi <= 1) & (slot <= LAST_SLOT) {
-        return Line::First(FirstLine {
+        return Some(Line::First(FirstLine {
             capacity_mib,
             requested_mib,
             multi: multi == 1,
@@ -89,104 +123,63 @@ fn first_line(
             boot,
             addr: GuestAddr(addr),
             slot,
-        });
+        }));
     }
-    Line::Bad
+    None
 }
 
-// An op on a range of blocks.
-fn on_range(op: RangeOp, addr: GuestAddr, blocks: u16) -> Op
-    ensures { result ≡ on_range op addr blocks }
-{
-    match op {
-        RangeOp::Plug => Op::Plug { addr, blocks },
-        RangeOp::Unplug => Op::Unplug { addr, blocks },
-        RangeOp::State => Op::State { addr, blocks },
-    }
-}
-
-// The line that the numbers of a kind make, if each is in its range.
-fn made(kind: Kind, n: Numbers) -> Line
+// The line that the numbers of a kind make, if each is in its range. A line has at most seven.
+fn made(kind: Kind, n: [u64; 7]) -> Option<Line>
     ensures { result ≡ made_of kind n }
 {
     match kind {
         Kind::FirstNumbered => {
-            if n.3 <= 65535 {
-                let node = Some(n.3 as u16);
-                return first_line(n.0, n.1, n.2, node, n.4, n.5, n.6);
-            }
-            Line::Bad
+            let node = u16::try_from(n[3]).ok()?;
+            first_line(n[0], n[1], n[2], Some(node), n[4], n[5], n[6])
         }
-        Kind::FirstNone => first_line(n.0, n.1, n.2, None, n.3, n.4, n.5),
+        Kind::FirstNone => first_line(n[0], n[1], n[2], None, n[3], n[4], n[5]),
         Kind::Host => {
-            if n.0 <= 1 {
-                return Line::Later(Op::Host {
-                    ok: n.0 == 1,
-                    addr: HostAddr(n.1),
-                });
+            if 1 < n[0] {
+                return None;
             }
-            Line::Bad
+            Some(Line::Later(Op::Host {
+                ok: n[0] == 1,
+                addr: HostAddr(n[1]),
+            }))
         }
         Kind::Range(op) => {
-            if n.1 <= 65535 {
-                return Line::Later(on_range(op, GuestAddr(n.0), n.1 as u16));
-            }
-            Line::Bad
+            let blocks = u16::try_from(n[1]).ok()?;
+            let addr = GuestAddr(n[0]);
+            Some(Line::Later(Op::Range { op, addr, blocks }))
         }
-        Kind::UnplugAll => Line::Later(Op::UnplugAll),
-        Kind::Size => Line::Later(Op::Size { mib: n.0 }),
+        Kind::UnplugAll => Some(Line::Later(Op::UnplugAll)),
+        Kind::Size => Some(Line::Later(Op::Size { mib: n[0] })),
     }
 }
 
 // The line of a text that is to be of this kind.
-fn of_kind(s: &[u8], form: &[u8], kind: Kind) -> Line
-    ensures { result ≡ kind_of kind form.now s.now }
+fn of_kind(s: &[u8], kind: Kind) -> Option<Line>
+    ensures { result ≡ kind_of kind s.now }
 {
-    let mut v = [0u64; 7];
-    if forms::scan(s, form, &mut v) {
-        return made(kind, Numbers(v[0], v[1], v[2], v[3], v[4], v[5], v[6]));
+    let mut n = [0u64; 7];
+    if forms::scan(s, kind.form(), &mut n) {
+        return made(kind, n);
     }
-    Line::Bad
-}
-
-// The first of two lines that is good.
-fn first(p: Line, q: Line) -> Line
-    ensures { result ≡ earlier p q }
-{
-    match p {
-        Line::First(first) => Line::First(first),
-        Line::Later(op) => Line::Later(op),
-        Line::Bad => q,
-    }
+    None
 }
 
 // The line whose text this is.
-pub fn read_line(s: &[u8]) -> Line
+pub fn read_line(s: &[u8]) -> Option<Line>
     ensures { Reads s.now result }
 {
     if LONGEST < s.len() {
-        return Line::Bad;
+        return None;
     }
-    let numbered = of_kind(
-        s,
-        b"capacity_mib=# requested_mib=# multi=# node=# boot=# addr=# slot=#",
-        Kind::FirstNumbered,
-    );
-    let none = of_kind(
-        s,
-        b"capacity_mib=# requested_mib=# multi=# node=none boot=# addr=# slot=#",
-        Kind::FirstNone,
-    );
-    let host = of_kind(s, b"op=host ok=# addr=#", Kind::Host);
-    let plug = of_kind(s, b"op=plug addr=# blocks=#", Kind::Range(RangeOp::Plug));
-    let unplug = of_kind(
-        s,
-        b"op=unplug addr=# blocks=#",
-        Kind::Range(RangeOp::Unplug),
-    );
-    let state = of_kind(s, b"op=state addr=# blocks=#", Kind::Range(RangeOp::State));
-    let unplug_all = of_kind(s, b"op=unplug_all", Kind::UnplugAll);
-    let size = of_kind(s, b"op=size mib=#", Kind::Size);
-    let requests = first(plug, first(unplug, first(state, first(unplug_all, size))));
-    first(numbered, first(none, first(host, requests)))
+    for kind in KINDS {
+        let line = of_kind(s, kind);
+        if line.is_some() {
+            return line;
+        }
+    }
+    None
 }
