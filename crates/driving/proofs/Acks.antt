@@ -1,8 +1,8 @@
 -- SPDX-License-Identifier: Apache-2.0 AND BSD-3-Clause
 -- A ready device acknowledges what the planner proposes.
-use Rattle.std.specs.Prelude.{Option, Some, None}
+use Rattle.std.specs.Prelude.{Option, Some, None, Ok}
 use Prim.Native.Nat.{ℕ, ◌+◌, ◌*◌, ◌%◌, ◌≤◌, ◌<◌}
-use mathlib.Core.Path.{◌≡◌, refl, sym}
+use mathlib.Core.Path.{◌≡◌, refl, ap, sym}
 use mathlib.Core.Bool.{Bool, true, false, not}
 use mathlib.Core.List.{List}
 use native.Mathlib.Omega.{arith}
@@ -14,12 +14,12 @@ use Rattle.units.specs.declared.GuestAddr.{GuestAddr}
 use Rattle.units.proofs.Tests.{by_test}
 use Rattle.bitmap.specs.Blocks.{next_clear}
 use Rattle.wire.specs.declared.VirtioMemConfig.{VirtioMemConfig}
-use Rattle.chain.specs.declared.Parsed.TheVariants.{Request as Got}
-use Rattle.chain.specs.Chain.{parsed}
+use Rattle.chain.specs.Chain.{asked, parsed}
 use Rattle.record.specs.Shape.{config_shaped_of}
 use Rattle.record.proofs.Laws.{shaped_is}
 use Rattle.step.specs.World.{World, Guest, Request}
 use Rattle.step.specs.Step.{block_size, usable, plugged, requested, start, several, region_blocks, region_rows, tables_fit, ready_refusal, unless, plug_as, plug, serve, request, step}
+use Rattle.driver.specs.declared.Plug.{Plug}
 use Rattle.driver.specs.Plan.{plugging, room_of, count_of, plan_at, plan_of}
 use Rattle.step.proofs.Entry.{ready_when}
 use Rattle.driving.specs.Sound.{Ready, PlugAcknowledged}
@@ -59,15 +59,15 @@ module _ (c : VirtioMemConfig) (bs : List Bool) (addr : GuestAddr) (n : ℕ) whe
   at_found (Some i) s l f e =
       by_test (eqb room 0) (λ t. let q = simp t at e in absurd (cc))
       (λ t.
-      let q = simp t at e in
+      let same : ◌≡◌ {A = Plug} (record { addr = record { 0 = c.addr.0 + bytes_of b i }; nb_blocks = count_of b c.usable_region_size c.plugged_size c.requested_size bs i }) (record { addr = addr; nb_blocks = n }) = cc (simp t at e) in
       record {
         shaped = s;
         long = ltb-false (length bs) (blocks_in b c.region_size) l;
         first = i;
         lowest = f;
         room = eqb-false room 0 t;
-        addr_is = cc;
-        count_is = cc;
+        addr_is = ap (λ (p : Plug). p.addr.0) (sym same);
+        count_is = ap (λ (p : Plug). p.nb_blocks) (sym same);
       })
 
   pub plan_is : plan_of c bs ≡ plugging addr n → Planned c bs addr n
@@ -79,7 +79,7 @@ module _ (c : VirtioMemConfig) (bs : List Bool) (addr : GuestAddr) (n : ℕ) whe
       (λ u. at_found (next_clear bs 0 end) (not-false (config_shaped_of c) t) u refl (simp (t, u) at e)))
 
 -- ---- a ready device is not refused
-pub ready_zero : (w : World) → Ready w → region_blocks w ≤ length w.blocks → ready_refusal w.device (length w.blocks) (length w.rows) ≡ 0
+pub ready_zero : (w : World) → Ready w → region_blocks w ≤ length w.blocks → ready_refusal w.device (length w.blocks) (length w.rows) ≡ Ok tt
 unfolding tables_fit
 ready_zero w r h =
     ready_when _ _ _
@@ -88,7 +88,7 @@ ready_zero w r h =
 -- ---- as many blocks as proposed, or fewer, from the start of the proposal on
 module _ (w : World) (r : Ready w) (addr : GuestAddr) (n : ℕ) (e : plan_of w.device.config w.blocks ≡ plugging addr n)
     (g : Guest) (descriptors head : ℕ) (status : GuestAddr) where
-  up_to : (m : ℕ) → (n ≡ 0 → ⊥) × (0 < m → m ≤ n → parsed g.mem g.base descriptors head ≡ Got (record { req_type = 0; addr = addr; nb_blocks = m }) status → PlugAcknowledged w addr.0 m status.0 g (step w (Request g descriptors head)))
+  up_to : (m : ℕ) → (n ≡ 0 → ⊥) × (0 < m → m ≤ n → parsed g.mem g.base descriptors head ≡ asked (record { req_type = 0; addr = addr; nb_blocks = m }) status → PlugAcknowledged w addr.0 m status.0 g (step w (Request g descriptors head)))
   unfolding step unless request serve plug plug_as
   up_to m =
       let p = plan_is w.device.config w.blocks addr n e in
@@ -109,7 +109,7 @@ module _ (w : World) (r : Ready w) (addr : GuestAddr) (n : ℕ) (e : plan_of w.d
 
 -- ---- R14.9: a device that is ready acknowledges what is proposed
 pub acknowledged : (w : World) → Ready w → (addr : GuestAddr) (n : ℕ) → plan_of w.device.config w.blocks ≡ plugging addr n
-    → (g : Guest) (descriptors head : ℕ) (status : GuestAddr) → parsed g.mem g.base descriptors head ≡ Got (record { req_type = 0; addr = addr; nb_blocks = n }) status
+    → (g : Guest) (descriptors head : ℕ) (status : GuestAddr) → parsed g.mem g.base descriptors head ≡ asked (record { req_type = 0; addr = addr; nb_blocks = n }) status
     → PlugAcknowledged w addr.0 n status.0 g (step w (Request g descriptors head))
 acknowledged w r addr n e g descriptors head status q =
     let u = up_to w r addr n e g descriptors head status n in
@@ -118,7 +118,7 @@ acknowledged w r addr n e g descriptors head status q =
 
 -- ---- and the plug of one block at its start
 pub one_acknowledged : (w : World) → Ready w → (addr : GuestAddr) (n : ℕ) → plan_of w.device.config w.blocks ≡ plugging addr n
-    → (g : Guest) (descriptors head : ℕ) (status : GuestAddr) → parsed g.mem g.base descriptors head ≡ Got (record { req_type = 0; addr = addr; nb_blocks = 1 }) status
+    → (g : Guest) (descriptors head : ℕ) (status : GuestAddr) → parsed g.mem g.base descriptors head ≡ asked (record { req_type = 0; addr = addr; nb_blocks = 1 }) status
     → PlugAcknowledged w addr.0 1 status.0 g (step w (Request g descriptors head))
 one_acknowledged w r addr n e g descriptors head status q =
     let u = up_to w r addr n e g descriptors head status 1 in

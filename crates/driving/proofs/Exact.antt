@@ -1,6 +1,6 @@
 -- SPDX-License-Identifier: Apache-2.0 AND BSD-3-Clause
 -- 17 is given exactly if no plug of one block is acknowledged, and a proposal is as long as can be.
-use Rattle.std.specs.Prelude.{Option, Some, None}
+use Rattle.std.specs.Prelude.{Option, Some, None, Result, Ok, Err}
 use Prim.Native.Nat.{ℕ, suc, ◌+◌, ◌-◌, ◌*◌, ◌/◌, ◌%◌, ◌≤◌, ◌<◌}
 use mathlib.Core.Path.{◌≡◌, refl, ap, sym}
 use mathlib.Core.Bool.{Bool, true, false, not, beq}
@@ -16,15 +16,14 @@ use Rattle.units.proofs.Tests.{by_test, and_left}
 use Rattle.bitmap.specs.Blocks.{block_at, every, all_are, next_set, next_clear}
 use Rattle.bitmap.proofs.Laws.{range_step, all_at, next_at, next_nothing}
 use Rattle.wire.specs.declared.VirtioMemConfig.{VirtioMemConfig}
-use Rattle.chain.specs.declared.Parsed.TheVariants.{Request as Got}
-use Rattle.chain.specs.Chain.{parsed}
+use Rattle.chain.specs.Chain.{asked, parsed}
 use Rattle.record.specs.Shape.{config_shaped_of}
 use Rattle.record.proofs.Laws.{shaped_is, config_shaped_is}
 use Rattle.change.specs.declared.Change.{Change}
-use Rattle.change.specs.declared.Change.TheVariants.{Legal, Outside, WrongState, NoHost}
+use Rattle.change.specs.declared.Reason.{Reason}
 use Rattle.change.proofs.Laws.{legal_is, whole_blocks}
 use Rattle.step.specs.declared.Answer.{Answer}
-use Rattle.step.specs.declared.Answer.TheVariants.{Refused as Refuses, Wants, Sized, Unserved, Served, Done}
+use Rattle.step.specs.declared.Answer.TheVariants.{Refused, Wants, Sized, Unserved, Served, Done}
 use Rattle.step.specs.Answers.{served_with}
 use Rattle.step.specs.World.{World, Guest, Request}
 use Rattle.step.specs.Step.{block_size, region, usable, plugged, requested, start, several, unless, changing, plug_as, plug, serve, request, step, ack}
@@ -88,7 +87,7 @@ clash p q = let z : ◌≡◌ {A = ℕ} 0 1 = cc in absurd (omega arith)
 -- the type of a response, of the answers that are one
 abbrev type_in : Answer → ℕ
 type_in (Served reply) = reply.response.resp_type
-type_in (Refuses n) = 9
+type_in (Refused refusal) = 9
 type_in (Wants call) = 9
 type_in Sized = 9
 type_in (Unserved reason) = 9
@@ -96,19 +95,18 @@ type_in Done = 9
 
 -- ---- 17: no address has an acknowledged plug of one block
 module _ (w : World) (r : Ready w) (e : plan_of w.device.config w.blocks ≡ no_plug) (addr : GuestAddr) (status : GuestAddr) (g : Guest) where
-  not_legal : (x : Change) → changing w addr.0 1 true ≡ x → plugged w + bytes_of (block_size w) 1 ≤ requested w → (len : ℕ) → (plug_as x w 1 status.0 g).answer ≡ served_with ack len → ⊥
+  not_legal : (x : Result Change Reason) → changing w addr.0 1 true ≡ x → plugged w + bytes_of (block_size w) 1 ≤ requested w → (len : ℕ) → (plug_as x w 1 status.0 g).answer ≡ served_with ack len → ⊥
   unfolding plug_as
-  not_legal (Outside part) q t len a = let z : ◌≡◌ {A = ℕ} 3 0 = ap type_in a in omega arith
-  not_legal WrongState q t len a = let z : ◌≡◌ {A = ℕ} 3 0 = ap type_in a in omega arith
-  not_legal (NoHost part) q t len a = let z : ◌≡◌ {A = ℕ} 3 0 = ap type_in a in omega arith
-  not_legal (Legal first offset host) q t len a =
+  not_legal (Err why) q t len a = let z : ◌≡◌ {A = ℕ} 3 0 = ap type_in a in omega arith
+  not_legal (Ok change) q t len a =
+      let first : ℕ = change.first in
       let s = shaped_is w.device r.shaped in
       let p = spent_is w.device.config w.blocks e in
       let bsz = s.block_size in
       let pos : 0 < block_size w = omega arith in
       let al : start w % block_size w ≡ 0 = rw bsz s.start_blocks in
-      let l = legal_is (block_size w) (start w) (usable w) (several w) addr.0 1 true w.blocks w.rows first offset host q in
-      let k = whole_blocks (block_size w) (start w) (usable w) addr.0 1 offset.0 pos al l.in_range in
+      let l = legal_is (block_size w) (start w) (usable w) (several w) addr.0 1 true w.blocks w.rows first change.offset change.host q in
+      let k = whole_blocks (block_size w) (start w) (usable w) addr.0 1 change.offset.0 pos al l.in_range in
       let f = l.first_is in
       let below : first < blocks_in (block_size w) (usable w) = omega (arith, k.blocks_in_lem, f) in
       let u : usable w ≤ region w = s.usable_in in
@@ -119,7 +117,7 @@ module _ (w : World) (r : Ready w) (e : plan_of w.device.config w.blocks ≡ no_
       (λ (n : room_of (block_size w) (plugged w) (requested w) ≡ 0). let m : (requested w - plugged w) / 4194304 ≡ 0 = rw bsz at n in let t' : plugged w + 1 * 4194304 ≤ requested w = rw bsz at t in omega arith)
       p.why
 
-  pub none_acknowledged : (descriptors head : ℕ) → parsed g.mem g.base descriptors head ≡ Got (record { req_type = 0; addr = addr; nb_blocks = 1 }) status
+  pub none_acknowledged : (descriptors head : ℕ) → parsed g.mem g.base descriptors head ≡ asked (record { req_type = 0; addr = addr; nb_blocks = 1 }) status
       → (len : ℕ) → (step w (Request g descriptors head)).answer ≡ served_with ack len → ⊥
   unfolding step unless request serve plug
   none_acknowledged descriptors head q len a =
@@ -138,7 +136,6 @@ module _ (c : VirtioMemConfig) (bs : List Bool) (first n : ℕ) (bsz : c.block_s
       omega (arith, f, (border first (blocks_in c.block_size map_region) (per_some c.block_size pos most)).above)
 
   at_stop : (x : Option ℕ) → next_set bs first (limit_of c.block_size c.usable_region_size first) ≡ x → n ≡ stop_at x (limit_of c.block_size c.usable_region_size first) - first → Stops c bs first n
-  unfolding stop_at
   at_stop (Some i) q k =
       let l = next_at true bs first (limit_of c.block_size c.usable_region_size first) i q in
       let z : first + n ≡ i = omega (arith, l.from_on) in

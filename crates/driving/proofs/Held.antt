@@ -25,8 +25,7 @@ use Rattle.descriptors.specs.Standard.{virtq_desc, descriptor_addr}
 use Rattle.descriptors.specs.Descriptors.{inside, link_at, link_after}
 use Rattle.descriptors.proofs.Laws.{inside_facts}
 use Rattle.descriptors.proofs.Standard.{descriptor_laid}
-use Rattle.chain.specs.declared.Parsed.TheVariants.{Request as Got}
-use Rattle.chain.specs.Chain.{with_second, with_first, parsed}
+use Rattle.chain.specs.Chain.{asked, with_second, with_first, parsed}
 use Rattle.record.proofs.Laws.{config_shaped_is}
 use Rattle.step.specs.Answers.{served_with}
 use Rattle.step.specs.World.{World, Guest, Request}
@@ -61,7 +60,7 @@ module _ (g : Guest) (descriptors head : ℕ) (q : VirtioMemReq) (status : Guest
       (ap Some (descriptor_laid g.mem (descriptor_addr descriptors h.second_index - g.base) second (record { addr = h.status_fits; len = h.len_fits; flags = omega arith; next = h.next_fits }) h.second.are))
 
   -- the chain is parsed as the request, and its status address is the second descriptor's
-  pub held_parses : parsed g.mem g.base descriptors head ≡ Got q status
+  pub held_parses : parsed g.mem g.base descriptors head ≡ asked q status
   unfolding parsed with_first link_after with_second
   held_parses =
       let f = h.request_fits in

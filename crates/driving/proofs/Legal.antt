@@ -1,6 +1,6 @@
 -- SPDX-License-Identifier: Apache-2.0 AND BSD-3-Clause
 -- What the planner proposes is legal on a device with sound rows.
-use Rattle.std.specs.Prelude.{Option, Some, None}
+use Rattle.std.specs.Prelude.{Option, Some, None, Ok}
 use Prim.Native.Nat.{ℕ, zero, suc, ◌+◌, ◌-◌, ◌*◌, ◌/◌, ◌%◌, ◌≤◌, ◌<◌}
 use mathlib.Core.Path.{◌≡◌, refl, ap, ◌∙◌, sym}
 use mathlib.Core.Bool.{Bool, true, false}
@@ -17,9 +17,7 @@ use Rattle.units.specs.declared.HostAddr.{HostAddr}
 use Rattle.rows.specs.declared.MapRow.{MapRow}
 use Rattle.rows.specs.Rows.{row_at}
 use Rattle.rows.proofs.Laws.{mapping_at}
-use Rattle.change.specs.declared.Change.TheVariants.{Legal}
-use Rattle.change.specs.declared.HostRange.TheVariants.{At as HostAt}
-use Rattle.change.specs.Change.{host_of, host_in, host_sum, change_of}
+use Rattle.change.specs.Change.{host_of, host_in, host_sum, legal, change_of}
 use Rattle.change.proofs.Laws.{host_is, legal_when}
 use Rattle.driver.proofs.Laws.{border}
 use Rattle.driver.specs.Plan.{border_after, limit_of, stop_at, stop_of, room_of, count_of}
@@ -40,7 +38,6 @@ module _ (b usable : ℕ) (bs : List Bool) (first : ℕ) (pos : 0 < blocks_in b 
     pub all_free : all_are bs first (stop - first) false ≡ true
 
   pub run : Run (stop_of b usable bs first)
-  unfolding stop_at
   run = go (next_set bs first (limit_of b usable first)) refl
     where
       limit : ℕ
@@ -87,11 +84,11 @@ module _ (b p : ℕ) (pos : 0 < b) where
 -- ---- the host has it
 module _ (several : Bool) (usable : ℕ) (rows : List MapRow) (sound : SoundRows several usable rows) where
   pub hosted : (offset size : ℕ) → 0 < size → offset + size ≤ usable → offset % map_region + size ≤ map_region
-      → (host : HostAddr) × (host_of several rows offset size ≡ HostAt host)
+      → (host : HostAddr) × (host_of several rows offset size ≡ Ok host)
   unfolding host_of host_in host_sum
   hosted offset size s u m = go several refl
     where
-      go : (t : Bool) → several ≡ t → (host : HostAddr) × (host_of several rows offset size ≡ HostAt host)
+      go : (t : Bool) → several ≡ t → (host : HostAddr) × (host_of several rows offset size ≡ Ok host)
       go true e =
           let row = row_at rows (offset / map_region) in
           let mapped : row.mapped ≡ 0 → ⊥ = rw e at (sound.mapped offset (omega arith)) in
@@ -111,7 +108,7 @@ module _ (b start usable plugged requested : ℕ) (several : Bool) (bs : List Bo
     pub some : 0 < count
     pub within : plugged + bytes_of b count ≤ requested
     pub host : HostAddr
-    pub legal : change_of b start usable several (start + bytes_of b first) count true bs rows ≡ Legal first (record { 0 = bytes_of b first }) host
+    pub legal : change_of b start usable several (start + bytes_of b first) count true bs rows ≡ legal first (record { 0 = bytes_of b first }) host
 
   -- as many blocks as proposed, or fewer
   pub proposed : (count : ℕ) → 0 < count → count ≤ count_of b usable plugged requested bs first → Proposed count

@@ -11,24 +11,22 @@ use lib.ListN.{length}
 use Rattle.units.specs.Numbers.{blocks_in}
 use Rattle.units.specs.declared.GuestAddr.{GuestAddr}
 use Rattle.units.proofs.Tests.{by_test}
-use Rattle.little_endian.specs.Bytes.{part}
 use Rattle.bitmap.specs.Blocks.{every}
 use Rattle.wire.specs.declared.VirtioMemReq.{VirtioMemReq}
 use Rattle.wire.specs.declared.VirtioMemResp.{VirtioMemResp}
 use Rattle.wire.specs.declared.VirtioMemConfig.{VirtioMemConfig}
-use Rattle.chain.specs.declared.Parsed.{Parsed}
-use Rattle.chain.specs.declared.Parsed.TheVariants.{Request as Got, Bad}
-use Rattle.chain.specs.Chain.{parsed, reaches}
+use Rattle.chain.specs.declared.Asked.{Asked}
+use Rattle.chain.specs.declared.NoRequest.{NoRequest}
+use Rattle.chain.specs.Chain.{asked, parsed, reaches}
 use Rattle.chain.proofs.Laws.{delivered_reads}
 use Rattle.record.specs.declared.Device.{Device}
 use Rattle.record.specs.declared.Pending.{Pending}
 use Rattle.record.specs.declared.Pending.TheVariants.{Nothing, Create, Discard, DiscardOne}
 use Rattle.record.specs.Shape.{shaped_of}
 use Rattle.record.proofs.Laws.{shaped_is, config-shaped_of}
-use Rattle.change.specs.declared.Range.{Range}
-use Rattle.change.specs.declared.Range.TheVariants.{Inside, Outside as NotInside}
+use Rattle.units.specs.declared.RegionOffset.{RegionOffset}
 use Rattle.change.specs.declared.Change.{Change}
-use Rattle.change.specs.declared.Change.TheVariants.{Legal, Outside, WrongState, NoHost}
+use Rattle.change.specs.declared.Reason.{Reason}
 use Rattle.change.specs.Change.{state_in, state_of}
 use Rattle.change.proofs.Why.{Failed}
 use Rattle.step.specs.declared.Answer.TheVariants.{Served}
@@ -39,7 +37,7 @@ use Rattle.step.specs.World.{World, Guest, Call, Request, HostAnswer, ReadConfig
 use Rattle.step.specs.Step.{region, ack, error, served, state_type, request, host_answer, read_config, step}
 use Rattle.step.proofs.Served.{Of, Known, SaysAt, each_call, serve_of, unplug_ends, one_ends, create_of}
 use Rattle.refusal.specs.declared.Refusal.{Refusal}
-use Rattle.refusal.specs.declared.Refusal.TheVariants.{NoShape, TooShort}
+use Rattle.refusal.specs.declared.Refusal.TheVariants.{NoShape}
 use Rattle.driver.specs.Text.{ReadsConfig, ConfigFits}
 use Rattle.driver.specs.Plan.{plugging, plan_of}
 use Rattle.driver.proofs.Trips.{config_back}
@@ -53,10 +51,10 @@ at_most : (t : Bool) (a b n : ℕ) → a ≤ n → b ≤ n → cond t a b ≤ n
 at_most true a b n h k = h
 at_most false a b n h k = k
 
-type_known : (x : Range) → state_type x ≤ 3
+type_known : (x : Result RegionOffset Reason) → state_type x ≤ 3
 unfolding state_type
-type_known (Inside offset) = omega arith
-type_known (NotInside part) = omega arith
+type_known (Ok offset) = omega arith
+type_known (Err why) = omega arith
 
 state_in_known : (bs : List Bool) → state_in bs ≤ 2
 unfolding state_in
@@ -73,12 +71,10 @@ KnownVerdict v = (v.response.resp_type ≤ 3) × (v.response.state ≤ 2)
 abbrev AnyWorld : World → Type 0
 AnyWorld w = Prim.Unit {0}
 
-any_failed : (x : Change) → Failed (λ why. KnownVerdict (error why)) x
+any_failed : (x : Result Change Reason) → Failed (λ why. KnownVerdict (error why)) x
 unfolding Failed
-any_failed (Legal first offset host) = tt
-any_failed (Outside part) = (omega arith, omega arith)
-any_failed WrongState = (omega arith, omega arith)
-any_failed (NoHost host) = (omega arith, omega arith)
+any_failed (Ok change) = tt
+any_failed (Err why) = (omega arith, omega arith)
 
 known : Known KnownVerdict AnyWorld
 known =
@@ -106,12 +102,12 @@ module _ (w : World) where
   goes_back c g status goes v w' k =
       record { of = record { type_known = k.0; state_known = k.1; guest = g; status = status; goes = goes; read = read_at g status v w' k.0 k.1 } }
 
-  request_told : (g : Guest) (descriptors head : ℕ) (p : Parsed) → parsed g.mem g.base descriptors head ≡ p → Of (ReadBack w (Request g descriptors head)) (request p w g)
+  request_told : (g : Guest) (descriptors head : ℕ) (p : Result Asked NoRequest) → parsed g.mem g.base descriptors head ≡ p → Of (ReadBack w (Request g descriptors head)) (request p w g)
   unfolding request OfReply
-  request_told g descriptors head (Bad reason) e = record { of = tt }
-  request_told g descriptors head (Got q status) e =
+  request_told g descriptors head (Err reason) e = record { of = tt }
+  request_told g descriptors head (Ok found) e =
       let c = Request g descriptors head in
-      serve_of KnownVerdict AnyWorld known (ReadBack w c) g status.0 (goes_back c g status (OfChain descriptors head q refl e)) w tt q
+      serve_of KnownVerdict AnyWorld known (ReadBack w c) g found.status.0 (goes_back c g found.status (OfChain descriptors head found.request refl e)) w tt found.request
 
   answer_told : (g : Guest) (ok : Bool) (host : ℕ) (p : Pending) → w.device.pending ≡ p → Of (ReadBack w (HostAnswer g ok host)) (host_answer p w g ok host)
   unfolding host_answer OfReply
@@ -132,12 +128,13 @@ module _ (w : World) where
       rw e at (told c).of
 
 -- the place is one: that of the chain
-goes_once : (w : World) (g g' : Guest) (descriptors head : ℕ) (q : VirtioMemReq) (status status' : GuestAddr) → parsed g.mem g.base descriptors head ≡ Got q status
+goes_once : (w : World) (g g' : Guest) (descriptors head : ℕ) (q : VirtioMemReq) (status status' : GuestAddr) → parsed g.mem g.base descriptors head ≡ asked q status
     → GoesTo w (Request g descriptors head) g' status' → (g ≡ g') × (status ≡ status')
 goes_once w g g' descriptors head q status status' e (OfChain descriptors' head' q' is e') =
     let a : g ≡ g' = cc in
-    let b : Got q status ≡ Got q' status' = cc in
-    (a, cc)
+    let b : asked q status ≡ asked q' status' = cc in
+    let same : ◌≡◌ {A = Asked} (record { request = q; status = status }) (record { request = q'; status = status' }) = cc b in
+    (a, ap (λ (x : Asked). x.status) same)
 goes_once w g g' descriptors head q status status' e (OfUnplug ok host first count is _) = let z : ◌≡◌ {A = ℕ} 0 1 = cc in absurd (omega arith)
 goes_once w g g' descriptors head q status status' e (OfUnplugAll ok host block is _) = let z : ◌≡◌ {A = ℕ} 0 1 = cc in absurd (omega arith)
 
@@ -204,7 +201,7 @@ turn w r node buffer long got reads c is addr n e g room low =
     let p = in66 g.base in
     let g' = laid_in g p (plug_of addr n) in
     let d = w.device.config in
-    let back : Ok c ≡ Ok d = sym is ∙ config_read_back w r.shaped node buffer long got reads in
+    let back : ◌≡◌ {A = Result VirtioMemConfig Refusal} (Ok c) (Ok d) = sym is ∙ config_read_back w r.shaped node buffer long got reads in
     let same : d ≡ c = cc in
     let plans : plan_of d w.blocks ≡ plugging addr n = ap (λ (k : VirtioMemConfig). plan_of k w.blocks) same ∙ e in
     let h = laid_holds g p (plug_of addr n) (in_66 g room low) (proposal_fits d w.blocks addr n plans) in

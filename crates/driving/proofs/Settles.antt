@@ -22,8 +22,7 @@ use Rattle.record.specs.Shape.{pending_ok, is_idle}
 use Rattle.record.specs.declared.Pending.{Pending}
 use Rattle.record.specs.declared.Pending.TheVariants.{Nothing as Idle, Create, Discard, DiscardOne}
 use Rattle.record.proofs.Laws.{shaped_is, config-shaped_of, plugged_keeps}
-use Rattle.chain.specs.declared.Parsed.TheVariants.{Request as Got}
-use Rattle.chain.specs.Chain.{parsed}
+use Rattle.chain.specs.Chain.{asked, parsed}
 use Rattle.change.proofs.Laws.{legal_is}
 use Rattle.step.specs.World.{World, Guest, Request, Outcome}
 use Rattle.step.specs.Step.{block_size, region, usable, plugged, requested, start, several, region_blocks, step}
@@ -359,7 +358,7 @@ drive_keeps w r c addr n e =
     rw (e, block_at_lem w r addr.0 p.first p.addr_is) (q.ready, q.counts)
 
 pub step_drives : (w : World) → Ready w → (addr : GuestAddr) (n : ℕ) → planned w ≡ plugging addr n
-    → (g : Guest) (descriptors head : ℕ) (status : GuestAddr) → parsed g.mem g.base descriptors head ≡ Got (record { req_type = 0; addr = addr; nb_blocks = n }) status
+    → (g : Guest) (descriptors head : ℕ) (status : GuestAddr) → parsed g.mem g.base descriptors head ≡ asked (record { req_type = 0; addr = addr; nb_blocks = n }) status
     → (step w (Request g descriptors head)).world ≡ drive_at (planned w) w
 unfolding drive_at
 step_drives w r addr n e g descriptors head status q =

@@ -7,8 +7,7 @@ use Rattle.wire.specs.declared.VirtioMemReq.{VirtioMemReq}
 use Rattle.wire.specs.declared.VirtioMemResp.{VirtioMemResp}
 use Rattle.descriptors.specs.Standard.{virtq_desc, descriptor_addr}
 use Rattle.descriptors.specs.Descriptors.{inside}
-use Rattle.chain.specs.declared.Parsed.TheVariants.{Request as Got}
-use Rattle.chain.specs.Chain.{parsed}
+use Rattle.chain.specs.Chain.{asked, parsed}
 use Rattle.record.specs.declared.Pending.TheVariants.{Discard, DiscardOne}
 use Rattle.refusal.specs.declared.Refusal.{Refusal}
 use Rattle.driver.specs.Text.{request_bytes, ReadsResponse}
@@ -109,7 +108,7 @@ in66 base =
 -- where the response of a call goes: the status address of the chain that it brings, or of what waits for the host
 pub data GoesTo (w : World) (c : Call) (g : Guest) (status : GuestAddr) : Type 0 where
   OfChain : (descriptors head : ℕ) (q : VirtioMemReq) → c ≡ Request g descriptors head
-      → parsed g.mem g.base descriptors head ≡ Got q status → GoesTo w c g status
+      → parsed g.mem g.base descriptors head ≡ asked q status → GoesTo w c g status
   OfUnplug : (ok : Bool) (host first count : ℕ) → c ≡ HostAnswer g ok host
       → w.device.pending ≡ Discard first count status → GoesTo w c g status
   OfUnplugAll : (ok : Bool) (host block : ℕ) → c ≡ HostAnswer g ok host

@@ -14,8 +14,7 @@ use Rattle.refusal.specs.Refusal.{number}
 use Rattle.driver.specs.Plan.{Proposal, plugging, no_plug}
 use Rattle.driver.proofs.Laws.{count_few, starts}
 use Rattle.record.proofs.Laws.{shaped_is as facts-of, parts as parts-of}
-use Rattle.chain.specs.declared.Parsed.TheVariants.{Request as Got}
-use Rattle.chain.specs.Chain.{parsed}
+use Rattle.chain.specs.Chain.{asked, parsed}
 use Rattle.step.specs.Answers.{served_with, response}
 use Rattle.step.specs.World.{World, Guest, Call, Request, Outcome}
 use Rattle.step.specs.Step.{step, tables_fit, block_size, usable, plugged, requested, region_blocks, region_rows, ack}
@@ -45,7 +44,7 @@ run_acknowledges s good c t addr count e =
 
 -- ---- 17 exactly
 -- an ACK to a plug is the ACK of state 0
-plain_ack : (w : World) → Ready w → (g : Guest) (descriptors head addr count : ℕ) (status : GuestAddr) → parsed g.mem g.base descriptors head ≡ Got (plug_request addr count) status
+plain_ack : (w : World) → Ready w → (g : Guest) (descriptors head addr count : ℕ) (status : GuestAddr) → parsed g.mem g.base descriptors head ≡ asked (plug_request addr count) status
     → Responds (step w (Request g descriptors head)) VIRTIO_MEM_RESP_ACK → (len : ℕ) × ((step w (Request g descriptors head)).answer ≡ served_with ack len)
 unfolding response tables_fit
 plain_ack w r g descriptors head addr count status q =
