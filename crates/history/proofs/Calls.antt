@@ -148,7 +148,7 @@ module _ (w : World) (K : Call → Outcome → List Event → Type 0) (k : Endin
 
   of_place : (at size : ℕ) (slots : List ℕ) (bs : List Bool) (rows : List MapRow) → w.device.placed ≡ false → Entered w.device (length bs) (length rows) true
       → With (Place at size slots bs rows) [] [] (place w at size slots bs rows)
-  unfolding response refusal lent_bytes number
+  unfolding response refusal lent_bytes
   of_place at size slots bs rows p e =
       let c = Place at size slots bs rows in
       place_cases (With c [] []) w at size slots bs rows
@@ -159,7 +159,7 @@ module _ (w : World) (K : Call → Outcome → List Event → Type 0) (k : Endin
       placing_cases (With c [] []) (placed w at slots bs rows) (k.places a) (λ i last m r. k.place_asks a i last m r) (λ r. k.place_asks_whole a r))
 
   of_size : (mib : ℕ) → w.device.placed ≡ true → Entered w.device (length w.blocks) (length w.rows) true → With (SetRequestedSize mib) [] [] (set_requested_size w mib)
-  unfolding response refusal lent_bytes number
+  unfolding response refusal lent_bytes
   of_size mib p e =
       let c = SetRequestedSize mib in
       size_cases (With c [] []) w mib
@@ -211,7 +211,7 @@ module _ (w : World) (K : Call → Outcome → List Event → Type 0) (k : Endin
 
   of_answer : (p : Pending) (ok : Bool) (a : Answering w p ok)
       → With (answer_of a) (acknowledges w (open_of p) (answer_of a)) (reports (open_of p) (answer_of a)) (host_answer p w a.guest ok a.host)
-  unfolding host_answer open_of acknowledges ack_to_host reports discard_of response refusal lent_bytes number
+  unfolding host_answer open_of acknowledges ack_to_host reports discard_of response refusal lent_bytes
   of_answer Nothing true a = k.refuses (answer_of a) NothingPending (λ z. omega arith) (λ z. absurd (omega arith))
   of_answer Nothing false a = k.refuses (answer_of a) NothingPending (λ z. omega arith) (λ z. absurd (omega arith))
   of_answer (Create i last) true a =
@@ -228,7 +228,7 @@ module _ (w : World) (K : Call → Outcome → List Event → Type 0) (k : Endin
   of_answer (DiscardOne j status) false a = k.one_fails j status a
 
   pub each_call : (c : Call) → K c (step w c) (events_of w (open_of w.device.pending) c (step w c).answer)
-  unfolding step events_of acknowledges reports response refusal lent_bytes number
+  unfolding step events_of acknowledges reports response refusal lent_bytes
   each_call (Place at size slots bs rows) =
       let c = Place at size slots bs rows in
       on_unplaced (With c [] []) w [] _ (λ r. k.refuses c r) (length bs) (length rows) (λ p e. of_place at size slots bs rows p e)

@@ -72,7 +72,7 @@ module _ (P : Outcome → Type 0) (w : World) (bytes : List ℕ) (o : Outcome) (
   Given x = P (unless x w bytes o)
 
   pub on_ready : (w.device.placed ≡ true → Entered w.device blocks rows true → P o) → P (unless (ready_refusal w.device blocks rows) w bytes o)
-  unfolding ready_refusal unless number
+  unfolding ready_refusal unless
   on_ready k =
       by_not Given (shaped_of w.device) _ _
       (λ h₁. by_not Given (is_idle w.device.pending) _ _
@@ -85,7 +85,7 @@ module _ (P : Outcome → Type 0) (w : World) (bytes : List ℕ) (o : Outcome) (
       (λ h₁. refuses NoShape (λ e. omega arith) (λ _. h₁))
 
   pub on_unplaced : (w.device.placed ≡ false → Entered w.device blocks rows true → P o) → P (unless (unplaced_refusal w.device blocks rows) w bytes o)
-  unfolding unplaced_refusal unless number
+  unfolding unplaced_refusal unless
   on_unplaced k =
       by_not Given (shaped_of w.device) _ _
       (λ h₁. by_not Given (is_idle w.device.pending) _ _
@@ -98,7 +98,7 @@ module _ (P : Outcome → Type 0) (w : World) (bytes : List ℕ) (o : Outcome) (
       (λ h₁. refuses NoShape (λ e. omega arith) (λ _. h₁))
 
   pub on_pending : (Entered w.device blocks rows false → P o) → P (unless (pending_refusal w.device blocks rows) w bytes o)
-  unfolding pending_refusal unless number
+  unfolding pending_refusal unless
   on_pending k =
       by_not Given (shaped_of w.device) _ _
       (λ h₁. by_cond Given (is_idle w.device.pending) _ _

@@ -40,7 +40,7 @@ abbrev Balanced : World → Call → Outcome → List Event → Type 0
 Balanced w c o new = asks o.answer + waits w.device.pending ≡ takes_answer c o.answer + waits o.world.device.pending
 
 balanced : (w : World) → Endings w (Balanced w)
-unfolding question takes_answer refusal number waits
+unfolding question takes_answer refusal waits
 balanced w =
     let p = w.device.pending in
     record {
@@ -80,7 +80,7 @@ abbrev Stays : World → Call → Outcome → List Event → Type 0
 Stays w c o new = PendingStays w c o
 
 stays : (w : World) → Endings w (Stays w)
-unfolding question takes_answer refusal number
+unfolding question takes_answer refusal
 stays w =
     let p = w.device.pending in
     record {

@@ -47,7 +47,7 @@ unfolding refusal
 done w c o h = record { same = λ r e _. clash (ap (λ a. present (refusal a)) e) h; ten = λ e. clash (ap (λ a. present (refusal a)) e) h }
 
 left : (w : World) → Endings w (IsLeft w)
-unfolding refusal lent_bytes number
+unfolding refusal lent_bytes
 left w =
     record {
       refuses = λ c r not-ten _. record { same = λ s e _. (refl, refl); ten = λ e. let ten : r ≡ Ten = cc in absurd (not-ten (ap number ten)) };

@@ -36,7 +36,7 @@ are_counted b s c a n p q = rw (q, ← p) (omega arith)
 
 module _ (w : World) (s : Parts w.device) (es : List Event) (h : Inv w es) where
   not_12 : Endings w Not12
-  unfolding refusal number
+  unfolding refusal
   not_12 =
       record {
         refuses = λ c r _ spoilt. ne_eqb (number r) 12 (λ e. clash (shaped-when w.device s) (spoilt e));
@@ -69,7 +69,7 @@ module _ (w : World) (s : Parts w.device) (es : List Event) (h : Inv w es) where
       }
 
 pub never_12 : FromEveryGood Never12
-unfolding refusal number
+unfolding refusal
 never_12 s r c e = clash (ap (λ a. is12 (refusal a)) e) (each_call s.world Not12 (not_12 s.world (is_shaped s r) s.events (invariant s r)) c)
 
 -- ---- the block that an unplug-all waits for is counted
