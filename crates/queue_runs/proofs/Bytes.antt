@@ -23,6 +23,7 @@ use Rattle.queue.specs.Queue.{ending_of}
 use Rattle.standard.specs.Requests.{response_of, among, lent_by, status_for, ResponseWritten, Delivered}
 use Rattle.standard.proofs.Responses.{response_is_delivered, silence_writes_nothing}
 use Rattle.history.proofs.Shaped.{clash}
+use Rattle.queue_runs.proofs.Cases.{impossible}
 
 -- as many bytes as before; none written but the response's, at its status address; and a used length of at most 10
 pub record Keeps (w : World) (call : Call) (g : Guest) (a : Answer) (bytes : List ℕ) : Type 0 where
@@ -40,7 +41,7 @@ module _ (w : World) (call : Call) (g : Guest) where
       record { same_length = rw e; others = λ i _. rw e; silent = λ _. e; nowhere = λ _. e; short = λ len k. let y = z len k in omega arith }
 
   stays : (len : ℕ) → Stays ≡ Used len → len ≡ 0
-  stays len e = let z : ◌≡◌ {A = ℕ} 0 1 = cc in absurd (omega arith)
+  stays len e = impossible cc
 
   -- a response that was delivered, whole or not at all
   said : (reply : Reply) (status : ℕ) (bytes : List ℕ) → status_for w call ≡ some status → Delivered g status reply bytes → Keeps w call g (Served reply) bytes
@@ -53,8 +54,8 @@ module _ (w : World) (call : Call) (g : Guest) where
       record {
         same_length = written.same_length;
         others = λ i outside. apart i written (outside status there);
-        silent = λ n. let z : ◌≡◌ {A = ℕ} 0 1 = cc in absurd (omega arith);
-        nowhere = λ n. let z : ◌≡◌ {A = ℕ} 0 1 = cc in absurd (omega arith);
+        silent = λ n. impossible cc;
+        nowhere = λ n. impossible cc;
         short = λ len k. let same : reply.used ≡ len = cc in omega arith;
       })
       (λ t.
@@ -69,8 +70,8 @@ module _ (w : World) (call : Call) (g : Guest) where
   keeps : (a : Answer) (bytes : List ℕ) → (response_of a ≡ none → bytes ≡ g.mem)
       → ((reply : Reply) → a ≡ Served reply → (status : ℕ) × (status_for w call ≡ some status) × Delivered g status reply bytes) → Keeps w call g a bytes
   unfolding response
-  keeps (Refused n) bytes quiet says = unwritten (Refused n) bytes stays (quiet refl)
-  keeps (Wants question) bytes quiet says = unwritten (Wants question) bytes (λ len e. let z : ◌≡◌ {A = ℕ} 0 1 = cc in absurd (omega arith)) (quiet refl)
+  keeps (Refused refusal) bytes quiet says = unwritten (Refused refusal) bytes stays (quiet refl)
+  keeps (Wants question) bytes quiet says = unwritten (Wants question) bytes (λ len e. impossible cc) (quiet refl)
   keeps Sized bytes quiet says = unwritten Sized bytes stays (quiet refl)
   keeps (Unserved reason) bytes quiet says = unwritten (Unserved reason) bytes (λ len e. let z : 0 ≡ len = cc in omega arith) (quiet refl)
   keeps (Served reply) bytes quiet says = let s = says reply refl in said reply s.0 bytes s.1 s.2

@@ -1,31 +1,28 @@
 -- SPDX-License-Identifier: Apache-2.0 AND BSD-3-Clause
 -- A run on the queue is a run of the device: each call makes none or one of the device, and has its world and its answer.
-use Rattle.std.specs.Prelude.{Option, Some, None}
+use Rattle.std.specs.Prelude.{Option, Some, None, Ok, Err, Result}
 use Prim.Native.Nat.{ℕ}
 use mathlib.Core.Path.{◌≡◌, refl, ◌∙◌, sym}
 use mathlib.Core.List.{List, [], ◌∷◌, ◌++◌}
-use lib.Dec.{eqb}
-use lib.ListN.{length}
-use Rattle.units.proofs.Tests.{by_test}
+use Rattle.refusal.specs.declared.Refusal.{Refusal}
 use Rattle.rings.specs.declared.Queue.{Queue}
-use Rattle.rings.specs.declared.Next.{Next}
-use Rattle.rings.specs.declared.Next.TheVariants.{Head as HasHead, Empty as HasNone, Refused as HasRefused}
 use Rattle.step.specs.World.{World, Guest, Call, HostAnswer}
 use Rattle.step.specs.Step.{step}
-use Rattle.queue.specs.Queue.{QueueOutcome, takes, next_of, answer_refusal, answers, unless_refused}
+use Rattle.queue.specs.Queue.{QueueOutcome, takes, next_of, answers}
 use Rattle.history.specs.History.{Story, next, after}
 use Rattle.history.specs.Reached.{by_restore}
 use Rattle.history.proofs.Good.{reached_good}
 use Rattle.history.proofs.Demand3.{reached_after}
 use Rattle.queue_runs.specs.Runs.{QueueCall, TakeNext, Host, PastIt, queue_step, requests_of, device_calls, QueueStory, next_story, after_all, QueueReached, on_new_queue, on_call, on_restore, FromEveryQueue}
 use Rattle.queue_runs.specs.Rules.{AsCalls, NoneOrOne, all_calls, RunsTheDevice, LiftsRules}
+use Rattle.queue_runs.proofs.Cases.{answer_cases}
 
 module _ (w : World) where
-  taken : (x : Next) (q : Queue) (g : Guest) → AsCalls w (requests_of x q g) (takes x w q g)
+  taken : (x : Result (Option ℕ) Refusal) (q : Queue) (g : Guest) → AsCalls w (requests_of x q g) (takes x w q g)
   unfolding takes requests_of AsCalls
-  taken (HasHead h) q g = record { same_world = refl; same_answer = refl }
-  taken HasNone q g = refl
-  taken (HasRefused n) q g = refl
+  taken (Ok (Some h)) q g = record { same_world = refl; same_answer = refl }
+  taken (Ok None) q g = refl
+  taken (Err refusal) q g = refl
 
   heard : (c : Call) (t : Option ℕ) (q : Queue) (base : ℕ) → AsCalls w (c ∷ []) (answers t q base (step w c))
   unfolding answers AsCalls
@@ -33,12 +30,10 @@ module _ (w : World) where
   heard c (Some h) q base = record { same_world = refl; same_answer = refl }
 
 pub none_or_one : FromEveryQueue NoneOrOne
-unfolding queue_step device_calls unless_refused AsCalls
+unfolding queue_step device_calls AsCalls
 none_or_one w q (TakeNext g) = taken w (next_of w q g) q g
 none_or_one w q (Host g ok host) =
-    by_test (eqb (answer_refusal w.device q (length w.blocks) (length w.rows) g) 0)
-    (λ t. rw t (heard w (HostAnswer g ok host) q.taken q g.base))
-    (λ t. rw t)
+    answer_cases w q g ok host (AsCalls w) (λ _. heard w (HostAnswer g ok host) q.taken q g.base) (λ r _. refl)
 none_or_one w q (PastIt b) = record { same_world = refl; same_answer = refl }
 
 -- ---- over any calls

@@ -1,18 +1,15 @@
 -- SPDX-License-Identifier: Apache-2.0 AND BSD-3-Clause
 -- A head is out exactly while its request has not ended: each call keeps it so.
-use Rattle.std.specs.Prelude.{Option, Some, None}
+use Rattle.std.specs.Prelude.{Option, Some, None, Ok, Err, Result}
 use Prim.Native.Nat.{ℕ}
 use mathlib.Core.Path.{◌≡◌, refl, sym, ◌∙◌}
 use mathlib.Core.Bool.{Bool, true, false, cond}
 use mathlib.Core.List.{List, []}
-use lib.Dec.{eqb}
-use lib.ListN.{length}
+use Rattle.refusal.specs.declared.Refusal.{Refusal}
 use Rattle.record.specs.declared.Pending.{Pending}
 use Rattle.record.specs.declared.Pending.TheVariants.{Nothing as Idle, Create, Discard, DiscardOne}
 use Rattle.record.specs.Shape.{is_idle}
 use Rattle.rings.specs.declared.Queue.{Queue}
-use Rattle.rings.specs.declared.Next.{Next}
-use Rattle.rings.specs.declared.Next.TheVariants.{Head as HasHead, Empty as HasNone, Refused as HasRefused}
 use Rattle.rings.specs.Rings.{next_head}
 use Rattle.step.specs.declared.Answer.{Answer}
 use Rattle.step.specs.declared.Answer.TheVariants.{Refused}
@@ -20,11 +17,10 @@ use Rattle.step.specs.World.{World, Guest, Call, Place, SetRequestedSize, Reques
 use Rattle.step.specs.Step.{step}
 use Rattle.queue.specs.declared.Ending.{Ending}
 use Rattle.queue.specs.declared.Ending.TheVariants.{Stays, Out, Used}
-use Rattle.queue.specs.Queue.{QueueOutcome, took_head, discarding, ending_of, queue_by, takes, answer_refusal, answers, unless_refused}
+use Rattle.queue.specs.Queue.{QueueOutcome, took_head, discarding, ending_of, queue_by, takes, answers}
 use Rattle.history.proofs.Shaped.{clash}
-use Rattle.history.proofs.Cases.{by_cond}
 use Rattle.queue_runs.specs.Runs.{Beside, Placing, Sizing, Reading, Writing, beside_call, QueueCall, TakeNext, Host, PastIt, queue_step, next_story, on_new_queue, on_call, on_restore, InEveryQueueRun}
-use Rattle.queue_runs.proofs.Cases.{next_cases}
+use Rattle.queue_runs.proofs.Cases.{next_cases, answer_cases}
 use Rattle.history.specs.History.{Event}
 use Rattle.history.proofs.Calls.{Endings, each_call}
 use Rattle.queue_runs.specs.Heads.{is_out, OutWhileOpen}
@@ -47,15 +43,15 @@ opens_by (HostAnswer g ok host) before a = cond before (out_by (ending_of a) bef
 opens_by (ReadConfig offset buffer) before a = before
 opens_by (WriteConfig offset buffer) before a = before
 
-refused_keeps : (c : Call) (before : Bool) (n : ℕ) → before ≡ opens_by c before (Refused n)
+refused_keeps : (c : Call) (before : Bool) (r : Refusal) → before ≡ opens_by c before (Refused r)
 unfolding opens_by out_by
-refused_keeps (Place at size slots blocks rows) before n = refl
-refused_keeps (SetRequestedSize mib) before n = refl
-refused_keeps (Request g table head) before n = refl
-refused_keeps (HostAnswer g ok host) true n = refl
-refused_keeps (HostAnswer g ok host) false n = refl
-refused_keeps (ReadConfig offset buffer) before n = refl
-refused_keeps (WriteConfig offset buffer) before n = refl
+refused_keeps (Place at size slots blocks rows) before r = refl
+refused_keeps (SetRequestedSize mib) before r = refl
+refused_keeps (Request g table head) before r = refl
+refused_keeps (HostAnswer g ok host) true r = refl
+refused_keeps (HostAnswer g ok host) false r = refl
+refused_keeps (ReadConfig offset buffer) before r = refl
+refused_keeps (WriteConfig offset buffer) before r = refl
 
 quiet : (p : Pending) → is_idle p ≡ true → discarding p ≡ false
 quiet Idle e = refl
@@ -72,7 +68,7 @@ module _ (w : World) where
   opens =
       let p = w.device.pending in
       record {
-        refuses = λ c n _ _. refused_keeps c (discarding p) n;
+        refuses = λ c r _ _. refused_keeps c (discarding p) r;
         reads = λ offset buffer bytes. refl;
         writes = λ offset buffer. refl;
         unserves = λ a reason. quiet p a.entry.pending_is_idle;
@@ -117,11 +113,11 @@ module _ (w : World) where
     still_out head out (Used len) = refl
 
     module _ (h : OutThen w q) where
-      head_kept : (g : Guest) (x : Next) → OutThen (takes x w q g).world (takes x w q g).queue
+      head_kept : (g : Guest) (x : Result (Option ℕ) Refusal) → OutThen (takes x w q g).world (takes x w q g).queue
       unfolding takes opens_by
-      head_kept g HasNone = h
-      head_kept g (HasRefused n) = h
-      head_kept g (HasHead head) =
+      head_kept g (Ok None) = h
+      head_kept g (Err refusal) = h
+      head_kept g (Ok (Some head)) =
           let c = Request g q.descriptors.0 head in
           rw (taken_out head (ending_of (step w c).answer), h) (sym (device_opens c))
 
@@ -143,12 +139,10 @@ module _ (w : World) where
       beside_kept (Writing offset buffer) = device_opens (WriteConfig offset buffer)
 
       kept : (c : QueueCall) → OutThen (queue_step w q c).world (queue_step w q c).queue
-      unfolding queue_step unless_refused
-      kept (TakeNext g) = next_cases w q g (λ x. OutThen (takes x w q g).world (takes x w q g).queue) (λ n. head_kept g (HasRefused n)) (λ _. head_kept g (next_head g.mem g.base q))
+      unfolding queue_step
+      kept (TakeNext g) = next_cases w q g (λ x. OutThen (takes x w q g).world (takes x w q g).queue) (λ r. head_kept g (Err r)) (λ _. head_kept g (next_head g.mem g.base q))
       kept (Host g ok host) =
-          by_cond (λ (o : QueueOutcome). OutThen o.world o.queue) (eqb (answer_refusal w.device q (length w.blocks) (length w.rows) g) 0) _ _
-          (λ t. heard_kept g ok host q.taken refl)
-          (λ t. h)
+          answer_cases w q g ok host (λ _ (o : QueueOutcome). OutThen o.world o.queue) (λ _. heard_kept g ok host q.taken refl) (λ r _. h)
       kept (PastIt b) = h ∙ sym (beside_kept b)
 
 -- ---- in every run

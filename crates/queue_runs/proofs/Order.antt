@@ -1,25 +1,22 @@
 -- SPDX-License-Identifier: Apache-2.0 AND BSD-3-Clause
 -- Every taken head is reported once, in the order taken: each call keeps `InOrder`.
-use Rattle.std.specs.Prelude.{Option, Some, None}
+use Rattle.std.specs.Prelude.{Option, Some, None, Ok, Err, Result}
 use Prim.Native.Nat.{ℕ, ◌+◌, ◌%◌}
 use mathlib.Core.Path.{◌≡◌, refl, ap, ◌∙◌, sym}
 use mathlib.Core.List.{List, [], ◌∷◌, ◌++◌, append_assoc, append-nil}
 use native.Mathlib.Omega.{arith}
-use lib.Dec.{eqb}
 use lib.ListN.{length, length-append}
+use Rattle.refusal.specs.declared.Refusal.{Refusal}
 use Rattle.rings.specs.declared.Queue.{Queue}
-use Rattle.rings.specs.declared.Next.{Next}
-use Rattle.rings.specs.declared.Next.TheVariants.{Head as HasHead, Empty as HasNone, Refused as HasRefused}
 use Rattle.rings.specs.Rings.{index_after, next_head}
 use Rattle.step.specs.World.{World, Guest, Request, HostAnswer, Outcome}
 use Rattle.step.specs.Step.{step}
 use Rattle.queue.specs.declared.Ending.{Ending}
 use Rattle.queue.specs.declared.Ending.TheVariants.{Stays, Out, Used}
-use Rattle.queue.specs.Queue.{QueueOutcome, took_head, queue_by, ending_of, takes, answer_refusal, answers, unless_refused}
-use Rattle.history.proofs.Cases.{by_cond}
+use Rattle.queue.specs.Queue.{QueueOutcome, took_head, queue_by, ending_of, takes, answers}
 use Rattle.queue_runs.specs.Runs.{QueueCall, TakeNext, Host, PastIt, queue_step, ending_told, taken_by, used_by, head_of, out_of, newly_taken, newly_reported, QueueStory, next_story, on_new_queue, on_call, on_restore, InEveryQueueRun}
 use Rattle.queue_runs.specs.Heads.{InOrder}
-use Rattle.queue_runs.proofs.Cases.{next_cases}
+use Rattle.queue_runs.proofs.Cases.{next_cases, answer_cases}
 
 -- a call took and reported these: which head is out before and after it, and the two indices
 pub record Moves (t : Option ℕ) (a u : ℕ) (took gave : List ℕ) (t' : Option ℕ) (a' u' : ℕ) : Type 0 where
@@ -73,19 +70,19 @@ used_none (Used len) = refl
 -- ---- each call
 module _ (w : World) (q : Queue) where
   -- a head that stands next, by what the call tells of it
-  abbrev Takes : Guest → (there x : Next) → Type 0
+  abbrev Takes : Guest → (there x : Result (Option ℕ) Refusal) → Type 0
   Takes g there x =
       let e = ending_told (takes x w q g).answer in MovesTo q (taken_by e (head_of there)) (used_by e (head_of there)) (takes x w q g).queue
 
-  head_moves : (g : Guest) → q.taken ≡ None → (x : Next) → Takes g x x
+  head_moves : (g : Guest) → q.taken ≡ None → (x : Result (Option ℕ) Refusal) → Takes g x x
   unfolding takes ending_told taken_by used_by head_of
-  head_moves g none HasNone = still _ _ _
-  head_moves g none (HasRefused n) = still _ _ _
-  head_moves g none (HasHead h) = taken_moves q h none (ending_of (step w (Request g q.descriptors.0 h)).answer)
+  head_moves g none (Ok None) = still _ _ _
+  head_moves g none (Err refusal) = still _ _ _
+  head_moves g none (Ok (Some h)) = taken_moves q h none (ending_of (step w (Request g q.descriptors.0 h)).answer)
 
-  refused_moves : (g : Guest) (there : Next) (n : ℕ) → Takes g there (HasRefused n)
+  refused_moves : (g : Guest) (there : Result (Option ℕ) Refusal) (r : Refusal) → Takes g there (Err r)
   unfolding takes ending_told taken_by used_by
-  refused_moves g there n = still _ _ _
+  refused_moves g there r = still _ _ _
 
   -- a host's answer that the device hears
   heard_moves : (t : Option ℕ) → q.taken ≡ t → (base : ℕ) (o : Outcome) → MovesTo q [] (used_by (ending_told (answers t q base o).answer) (out_of t)) (answers t q base o).queue
@@ -97,14 +94,14 @@ module _ (w : World) (q : Queue) where
   Moved c o = MovesTo q (newly_taken q c o.answer) (newly_reported q c o.answer) o.queue
 
   pub moves : (c : QueueCall) → Moved c (queue_step w q c)
-  unfolding queue_step newly_taken newly_reported unless_refused ending_told used_by
+  unfolding queue_step newly_taken newly_reported ending_told used_by
   moves (TakeNext g) =
       let there = next_head g.mem g.base q in
       next_cases w q g (Takes g there) (refused_moves g there) (λ r. head_moves g r.none_out there)
   moves (Host g ok host) =
-      by_cond (Moved (Host g ok host)) (eqb (answer_refusal w.device q (length w.blocks) (length w.rows) g) 0) _ _
-      (λ t. heard_moves q.taken refl g.base (step w (HostAnswer g ok host)))
-      (λ t. still _ _ _)
+      answer_cases w q g ok host (λ _. Moved (Host g ok host))
+      (λ _. heard_moves q.taken refl g.base (step w (HostAnswer g ok host)))
+      (λ r _. still _ _ _)
   moves (PastIt b) = still _ _ _
 
 -- ---- in every run

@@ -1,19 +1,16 @@
 -- SPDX-License-Identifier: Apache-2.0 AND BSD-3-Clause
 -- Demands 2 and 3 and the rule of the requested size, over every run on the queue: by the one call of the device that a call makes, or by none.
+use Rattle.std.specs.Prelude.{Option, Some, None, Ok, Err, Result}
 use Prim.Native.Nat.{ℕ, ◌+◌, ◌≤◌, ◌<◌}
 use mathlib.Core.Path.{◌≡◌, refl, ap, ◌∙◌, sym}
 use mathlib.Core.Bool.{false}
 use mathlib.Core.List.{List, [], ◌∷◌}
 use native.Mathlib.Omega.{arith}
-use lib.Dec.{eqb}
-use lib.ListN.{length}
-use Rattle.units.proofs.Tests.{by_test}
+use Rattle.refusal.specs.declared.Refusal.{Refusal}
 use Rattle.rings.specs.declared.Queue.{Queue}
-use Rattle.rings.specs.declared.Next.{Next}
-use Rattle.rings.specs.declared.Next.TheVariants.{Head as HasHead, Empty as HasNone, Refused as HasRefused}
 use Rattle.step.specs.World.{World, Guest, Call, Place, SetRequestedSize, Request, HostAnswer, ReadConfig, WriteConfig}
 use Rattle.step.specs.Step.{step, usable, plugged, requested, Untouched}
-use Rattle.queue.specs.Queue.{QueueOutcome, next_of, answer_refusal}
+use Rattle.queue.specs.Queue.{QueueOutcome, next_of}
 use Rattle.history.specs.History.{events_of, Story, next, after}
 use Rattle.history.specs.Reached.{marked, counted, all_could}
 use Rattle.history.specs.Rules.{is_size_change, is_place, waits, asked_in, taken_in, Whole, KeepsShape, DiscardIsCounted, AsksWhatIsDue, WholeOrNotAtAll as DeviceWhole}
@@ -27,6 +24,7 @@ use Rattle.history.proofs.HostCalls.{each_asked_answered, asks_what_is_due}
 use Rattle.history.proofs.Questions.{only_open_unplugs_discard}
 use Rattle.queue_runs.specs.Runs.{Placing, Sizing, Reading, Writing, beside_call, QueueCall, TakeNext, Host, PastIt, queue_step, requests_of, device_calls, next_story, InEveryQueueRun, FromEveryQueue}
 use Rattle.queue_runs.specs.Rules.{AsCalls, all_calls, Demand3OnQueue, is_sizing, is_placing, OnlySizingMovesRequested, PlugWithinRequested, SizingTouchesNothing, UsableNeverShrinks, new_events, WholeOrNotAtAll, EachAskedAnswered, RulesOnQueue}
+use Rattle.queue_runs.proofs.Cases.{impossible, answer_cases}
 use Rattle.queue_runs.proofs.Calls.{none_or_one, same_after, same_worlds, runs_the_device, lifts_rules}
 
 -- ---- what a call of the device moves, and nothing else does
@@ -40,19 +38,20 @@ module _ (R : World → World → Type 0) (same : (w : World) → R w w) (w : Wo
 
 -- the one call is a size change, or placing, exactly if the queue's call is
 module _ (w : World) (q : Queue) where
-  taken_is : (x : Next) (g : Guest) (call : Call) → requests_of x q g ≡ call ∷ [] → (is_size_change call ≡ false) × (is_place call ≡ false)
+  taken_is : (x : Result (Option ℕ) Refusal) (g : Guest) (call : Call) → requests_of x q g ≡ call ∷ [] → (is_size_change call ≡ false) × (is_place call ≡ false)
   unfolding requests_of is_size_change is_place
-  taken_is (HasHead h) g call e = let is : Request g q.descriptors.0 h ≡ call = cc in (rw (← is), rw (← is))
-  taken_is HasNone g call e = let z : ◌≡◌ {A = ℕ} 0 1 = cc in absurd (omega arith)
-  taken_is (HasRefused n) g call e = let z : ◌≡◌ {A = ℕ} 0 1 = cc in absurd (omega arith)
+  taken_is (Ok (Some h)) g call e = let is : Request g q.descriptors.0 h ≡ call = cc in (rw (← is), rw (← is))
+  taken_is (Ok None) g call e = impossible cc
+  taken_is (Err refusal) g call e = impossible cc
 
   pub kinds : (c : QueueCall) (call : Call) → device_calls w q c ≡ call ∷ [] → (is_size_change call ≡ is_sizing c) × (is_place call ≡ is_placing c)
   unfolding device_calls is_size_change is_place is_sizing is_placing beside_call
   kinds (TakeNext g) call e = taken_is (next_of w q g) g call e
   kinds (Host g ok host) call e =
-      by_test (eqb (answer_refusal w.device q (length w.blocks) (length w.rows) g) 0)
-      (λ t. let f = rw t at e in let is : HostAnswer g ok host ≡ call = cc in (rw (← is), rw (← is)))
-      (λ t. let f = rw t at e in let z : ◌≡◌ {A = ℕ} 0 1 = cc in absurd (omega arith))
+      answer_cases w q g ok host (λ calls _. calls ≡ call ∷ [] → (is_size_change call ≡ false) × (is_place call ≡ false))
+      (λ _ f. let is : HostAnswer g ok host ≡ call = cc in (rw (← is), rw (← is)))
+      (λ r _ f. impossible cc)
+      e
   kinds (PastIt (Placing at size slots blocks rows)) call e = let is : Place at size slots blocks rows ≡ call = cc in (rw (← is), rw (← is))
   kinds (PastIt (Sizing mib)) call e = let is : SetRequestedSize mib ≡ call = cc in (rw (← is), rw (← is))
   kinds (PastIt (Reading offset buffer)) call e = let is : ReadConfig offset buffer ≡ call = cc in (rw (← is), rw (← is))

@@ -1,21 +1,16 @@
 -- SPDX-License-Identifier: Apache-2.0 AND BSD-3-Clause
 -- The device and the clauses Q4, Q6 and Q7: only the used ring and the response are written, the index last, and a length counts the response's bytes.
-use Rattle.std.specs.Prelude.{Option, Some, None}
+use Rattle.std.specs.Prelude.{Option, Some, None, Ok, Err, Result}
 use Prim.Native.Nat.{ℕ, ◌+◌, ◌-◌, ◌*◌, ◌%◌}
 use mathlib.Core.Path.{◌≡◌, refl, ◌∙◌, sym}
 use mathlib.Core.Bool.{Bool, true, false}
 use mathlib.Core.List.{List, [], ◌∷◌}
 use mathlib.Core.Option.{some, none}
-use native.Mathlib.Omega.{arith}
-use lib.Dec.{eqb}
-use lib.ListN.{length}
-use Rattle.units.proofs.Tests.{by_test}
+use Rattle.refusal.specs.declared.Refusal.{Refusal}
 use Rattle.little_endian.specs.Bytes.{part}
 use Rattle.record.specs.declared.Pending.{Pending}
 use Rattle.record.specs.declared.Pending.TheVariants.{Nothing as Idle, Create, Discard, DiscardOne}
 use Rattle.rings.specs.declared.Queue.{Queue}
-use Rattle.rings.specs.declared.Next.{Next}
-use Rattle.rings.specs.declared.Next.TheVariants.{Head as HasHead, Empty as HasNone, Refused as HasRefused}
 use Rattle.rings.specs.Standard.{Apart}
 use Rattle.rings.specs.Rings.{next_head, reported}
 use Rattle.rings.proofs.Laws.{report_apart}
@@ -27,15 +22,14 @@ use Rattle.step.specs.World.{World, Guest, Call, Request, HostAnswer}
 use Rattle.step.specs.Step.{step}
 use Rattle.queue.specs.declared.Ending.{Ending}
 use Rattle.queue.specs.declared.Ending.TheVariants.{Stays, Out, Used}
-use Rattle.queue.specs.Queue.{QueueOutcome, took_head, discarding, ending_of, bytes_by, about, next_of, takes, answer_refusal, answers, unless_refused}
+use Rattle.queue.specs.Queue.{QueueOutcome, took_head, discarding, ending_of, bytes_by, about, next_of, takes, answers}
 use Rattle.standard.specs.Requests.{response_of, lent_by, status_of_pending, status_for}
 use Rattle.standard.proofs.Responses.{response_is_delivered}
 use Rattle.history.proofs.Shaped.{clash}
-use Rattle.history.proofs.Cases.{by_cond}
 use Rattle.queue_runs.specs.Runs.{QueueCall, TakeNext, Host, PastIt, queue_step, lent_to, requests_of, device_calls, ending_told, used_by, head_of, out_of, newly_reported, FromEveryQueue, InEveryQueueRun}
 use Rattle.queue_runs.specs.Heads.{is_out}
 use Rattle.queue_runs.specs.Standard.{on_guest, WritesOnly, UnreportedWritesNothing, Written, ReportIsWritten}
-use Rattle.queue_runs.proofs.Cases.{next_cases}
+use Rattle.queue_runs.proofs.Cases.{impossible, next_cases, answer_cases}
 use Rattle.queue_runs.proofs.Open.{out_while_open}
 use Rattle.queue_runs.proofs.Bytes.{Keeps, request_keeps, answer_keeps}
 
@@ -61,11 +55,11 @@ module _ (w : World) (q : Queue) (g : Guest) where
         let o = step w call in
         ending_only (ending_of o.answer) head out u n o.bytes ∙ k.others i (λ status e. far call status refl e)
 
-    taken_only : (x : Next) → Outside i (requests_of x q g) → Kept i (takes x w q g).bytes
+    taken_only : (x : Result (Option ℕ) Refusal) → Outside i (requests_of x q g) → Kept i (takes x w q g).bytes
     unfolding takes requests_of
-    taken_only (HasHead h) far = about_only h (took_head q h) refl refl (Request g q.descriptors.0 h) (request_keeps w g q.descriptors.0 h) far
-    taken_only HasNone far = refl
-    taken_only (HasRefused n) far = refl
+    taken_only (Ok (Some h)) far = about_only h (took_head q h) refl refl (Request g q.descriptors.0 h) (request_keeps w g q.descriptors.0 h) far
+    taken_only (Ok None) far = refl
+    taken_only (Err refusal) far = refl
 
     heard_only : (ok : Bool) (host : ℕ) (t : Option ℕ) → Outside i (HostAnswer g ok host ∷ []) → Kept i (answers t q g.base (step w (HostAnswer g ok host))).bytes
     unfolding answers
@@ -73,12 +67,13 @@ module _ (w : World) (q : Queue) (g : Guest) where
     heard_only ok host (Some h) far = about_only h q refl refl (HostAnswer g ok host) (answer_keeps w g ok host) far
 
 pub writes_only : FromEveryQueue WritesOnly
-unfolding queue_step unless_refused device_calls lent_to on_guest
+unfolding queue_step device_calls lent_to on_guest
 writes_only w q (TakeNext g) guest i far (a, b) = taken_only w q g i a b (next_of w q g) far
 writes_only w q (Host g ok host) guest i far (a, b) =
-    by_test (eqb (answer_refusal w.device q (length w.blocks) (length w.rows) g) 0)
-    (λ t. rw t (heard_only w q g i a b ok host q.taken (rw t at far)))
-    (λ t. rw t)
+    answer_cases w q g ok host (λ calls o. Outside w q g i calls → Kept w q g i o.bytes)
+    (λ _ outside. heard_only w q g i a b ok host q.taken outside)
+    (λ r _ outside. refl)
+    far
 writes_only w q (PastIt b) guest i far _ = clash guest refl
 
 -- ---- a head that is reported
@@ -91,12 +86,12 @@ module _ (w : World) (q : Queue) (g : Guest) where
 
   length_of_lem : (a : Answer) (len : ℕ) → ending_of a ≡ Used len → ((reply : Reply) → a ≡ Served reply → len ≡ reply.used) × (response_of a ≡ none → len ≡ 0)
   unfolding response
-  length_of_lem (Refused n) len e = let z : ◌≡◌ {A = ℕ} 0 1 = cc in absurd (omega arith)
-  length_of_lem (Wants call) len e = let z : ◌≡◌ {A = ℕ} 0 1 = cc in absurd (omega arith)
-  length_of_lem Sized len e = let z : ◌≡◌ {A = ℕ} 0 1 = cc in absurd (omega arith)
-  length_of_lem (Unserved reason) len e = (λ reply f. let z : ◌≡◌ {A = ℕ} 0 1 = cc in absurd (omega arith), λ _. cc)
-  length_of_lem (Served given) len e = (λ reply f. let same : given ≡ reply = cc in rw (← same) (let z : given.used ≡ len = cc in sym z), λ f. let z : ◌≡◌ {A = ℕ} 0 1 = cc in absurd (omega arith))
-  length_of_lem Done len e = let z : ◌≡◌ {A = ℕ} 0 1 = cc in absurd (omega arith)
+  length_of_lem (Refused n) len e = impossible cc
+  length_of_lem (Wants call) len e = impossible cc
+  length_of_lem Sized len e = impossible cc
+  length_of_lem (Unserved reason) len e = (λ reply f. impossible cc, λ _. cc)
+  length_of_lem (Served given) len e = (λ reply f. let same : given ≡ reply = cc in rw (← same) (let z : given.used ≡ len = cc in sym z), λ f. impossible cc)
+  length_of_lem Done len e = impossible cc
 
   about_ended : (head : ℕ) (out : Queue) → out.used ≡ q.used → out.next_used ≡ q.next_used → (call : Call) (len : ℕ) → ending_of (step w call).answer ≡ Used len
       → Ended call (about head g.base q out (step w call)).bytes head len
@@ -113,18 +108,18 @@ module _ (w : World) (q : Queue) (g : Guest) where
     pub ended : Ended call bytes head len
 
   -- taking: the head that stands next
-  abbrev TakenWritten : (there x : Next) → Type 0
+  abbrev TakenWritten : (there x : Result (Option ℕ) Refusal) → Type 0
   TakenWritten there x = (head len : ℕ) → used_by (ending_told (takes x w q g).answer) (head_of there) ≡ head ∷ [] → ending_told (takes x w q g).answer ≡ Used len
       → WrittenBy (requests_of x q g) (takes x w q g).bytes head len
 
   stays_not : {len : ℕ} {A : Type 0} → Stays ≡ Used len → A
-  stays_not e = let z : ◌≡◌ {A = ℕ} 0 1 = cc in absurd (omega arith)
+  stays_not e = impossible cc
 
-  taken_written : (x : Next) → TakenWritten x x
+  taken_written : (x : Result (Option ℕ) Refusal) → TakenWritten x x
   unfolding takes requests_of ending_told head_of used_by lent_by
-  taken_written HasNone head len r e = stays_not e
-  taken_written (HasRefused n) head len r e = stays_not e
-  taken_written (HasHead h) head len r e =
+  taken_written (Ok None) head len r e = stays_not e
+  taken_written (Err refusal) head len r e = stays_not e
+  taken_written (Ok (Some h)) head len r e =
       let same : h ≡ head = cc_head (rw e at r) in
       let call = Request g q.descriptors.0 h in
       record { call = call; made = refl; lends = refl; keeps = request_keeps w g q.descriptors.0 h; ended = rw (← same) (about_ended h (took_head q h) refl refl call len e) }
@@ -132,15 +127,15 @@ module _ (w : World) (q : Queue) (g : Guest) where
       cc_head : h ∷ [] ≡ head ∷ [] → h ≡ head
       cc_head f = cc
 
-  refused_written : (there : Next) (n : ℕ) → TakenWritten there (HasRefused n)
+  refused_written : (there : Result (Option ℕ) Refusal) (refusal : Refusal) → TakenWritten there (Err refusal)
   unfolding takes ending_told
-  refused_written there n head len r e = stays_not e
+  refused_written there refusal head len r e = stays_not e
 
   -- a host's answer: the head that is out
   heard_written : (ok : Bool) (host : ℕ) (t : Option ℕ) (head len : ℕ) → let call = HostAnswer g ok host in let o = answers t q g.base (step w call) in
       used_by (ending_told o.answer) (out_of t) ≡ head ∷ [] → ending_told o.answer ≡ Used len → WrittenBy (call ∷ []) o.bytes head len
   unfolding answers ending_told out_of used_by lent_by
-  heard_written ok host None head len r e = let f : [] ≡ head ∷ [] = rw e at r in let z : ◌≡◌ {A = ℕ} 0 1 = cc in absurd (omega arith)
+  heard_written ok host None head len r e = let f : [] ≡ head ∷ [] = rw e at r in impossible cc
   heard_written ok host (Some h) head len r e =
       let call = HostAnswer g ok host in
       let f : h ∷ [] ≡ head ∷ [] = rw e at r in
@@ -158,17 +153,20 @@ module _ (w : World) (q : Queue) (g : Guest) where
       }
 
 pub report_is_written : FromEveryQueue ReportIsWritten
-unfolding queue_step unless_refused device_calls lent_to newly_reported ending_told
+unfolding queue_step device_calls lent_to newly_reported ending_told
 report_is_written w q (TakeNext g) head len r =
     whole w q g (TakeNext g) refl (queue_step w q (TakeNext g)) head len
     (let there = next_head g.mem g.base q in
     next_cases w q g (TakenWritten w q g there) (refused_written w q g there) (λ _. taken_written w q g there) head len r.reported r.ended)
 report_is_written w q (Host g ok host) head len r =
     whole w q g (Host g ok host) refl (queue_step w q (Host g ok host)) head len
-    (by_test (eqb (answer_refusal w.device q (length w.blocks) (length w.rows) g) 0)
-    (λ t. rw t (heard_written w q g ok host q.taken head len (rw t at r.reported) (rw t at r.ended)))
-    (λ t. stays_not w q g (rw t at r.ended)))
-report_is_written w q (PastIt b) head len r = let e = r.reported in let z : ◌≡◌ {A = ℕ} 0 1 = cc in absurd (omega arith)
+    (answer_cases w q g ok host
+    (λ calls (o : QueueOutcome). used_by (ending_told o.answer) (out_of q.taken) ≡ head ∷ [] → ending_told o.answer ≡ Used len → WrittenBy w q g calls o.bytes head len)
+    (λ _. heard_written w q g ok host q.taken head len)
+    (λ refusal _ _ e. stays_not w q g e)
+    r.reported
+    r.ended)
+report_is_written w q (PastIt b) head len r = let e = r.reported in impossible cc
 
 -- ---- a call that reports no head
 unused : (a : Answer) (h : ℕ) → used_by (ending_of a) (h ∷ []) ≡ [] → (out : Queue) (head base : ℕ) (bytes : List ℕ) → (response_of a ≡ none) × (bytes_by (ending_of a) out head base bytes ≡ bytes)
@@ -176,8 +174,8 @@ unfolding used_by response bytes_by
 unused (Refused n) h e out head base bytes = (refl, refl)
 unused (Wants call) h e out head base bytes = (refl, refl)
 unused Sized h e out head base bytes = (refl, refl)
-unused (Unserved reason) h e out head base bytes = let z : ◌≡◌ {A = ℕ} 0 1 = cc in absurd (omega arith)
-unused (Served reply) h e out head base bytes = let z : ◌≡◌ {A = ℕ} 0 1 = cc in absurd (omega arith)
+unused (Unserved reason) h e out head base bytes = impossible cc
+unused (Served reply) h e out head base bytes = impossible cc
 unused Done h e out head base bytes = (refl, refl)
 
 -- with no discard pending there is nowhere to put a response
@@ -195,11 +193,11 @@ module _ (w : World) (q : Queue) (g : Guest) where
       let u = unused (step w call).answer head e out head g.base (step w call).bytes in
       u.1 ∙ k.silent u.0
 
-  taken_unused : (x : Next) → used_by (ending_told (takes x w q g).answer) (head_of x) ≡ [] → (takes x w q g).bytes ≡ g.mem
+  taken_unused : (x : Result (Option ℕ) Refusal) → used_by (ending_told (takes x w q g).answer) (head_of x) ≡ [] → (takes x w q g).bytes ≡ g.mem
   unfolding takes ending_told head_of
-  taken_unused HasNone e = refl
-  taken_unused (HasRefused n) e = refl
-  taken_unused (HasHead h) e = about_unused h (took_head q h) (Request g q.descriptors.0 h) (request_keeps w g q.descriptors.0 h) e
+  taken_unused (Ok None) e = refl
+  taken_unused (Err refusal) e = refl
+  taken_unused (Ok (Some h)) e = about_unused h (took_head q h) (Request g q.descriptors.0 h) (request_keeps w g q.descriptors.0 h) e
 
   heard_unused : (ok : Bool) (host : ℕ) (t : Option ℕ) → is_out t ≡ discarding w.device.pending → let o = answers t q g.base (step w (HostAnswer g ok host)) in
       used_by (ending_told o.answer) (out_of t) ≡ [] → o.bytes ≡ g.mem
@@ -209,14 +207,13 @@ module _ (w : World) (q : Queue) (g : Guest) where
 
 unreported : (w : World) (q : Queue) → is_out q.taken ≡ discarding w.device.pending → (c : QueueCall) → on_guest c ≡ true
     → newly_reported q c (queue_step w q c).answer ≡ [] → (queue_step w q c).bytes ≡ (lent_to c).mem
-unfolding queue_step unless_refused newly_reported lent_to on_guest takes ending_told
+unfolding queue_step newly_reported lent_to on_guest takes ending_told
 unreported w q k (TakeNext g) guest =
     let there = next_head g.mem g.base q in
     next_cases w q g (λ x. used_by (ending_told (takes x w q g).answer) (head_of there) ≡ [] → (takes x w q g).bytes ≡ g.mem) (λ n e. refl) (λ _. taken_unused w q g there)
 unreported w q k (Host g ok host) guest =
-    by_cond (λ (o : QueueOutcome). used_by (ending_told o.answer) (out_of q.taken) ≡ [] → o.bytes ≡ g.mem)
-    (eqb (answer_refusal w.device q (length w.blocks) (length w.rows) g) 0) _ _
-    (λ _. heard_unused w q g ok host q.taken k) (λ _ e. refl)
+    answer_cases w q g ok host (λ _ (o : QueueOutcome). used_by (ending_told o.answer) (out_of q.taken) ≡ [] → o.bytes ≡ g.mem)
+    (λ _. heard_unused w q g ok host q.taken k) (λ r _ e. refl)
 unreported w q k (PastIt b) guest = clash guest refl
 
 pub unreported_writes_nothing : InEveryQueueRun UnreportedWritesNothing

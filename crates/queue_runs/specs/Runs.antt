@@ -2,11 +2,10 @@
 -- A run on the queue: every call, with all that it brings; the calls of the device that it makes; the heads taken and the heads reported, oldest first.
 use Rattle.step.specs.declared.Answer.{Answer}
 use Prim.{Unit}
-use Rattle.std.specs.Prelude.{ℕ, ◌<◌, ◌≡◌, Bool, true, cond, List, [], ◌∷◌, ◌++◌, eqb, length, get_or, Option, Some, None}
+use Rattle.std.specs.Prelude.{ℕ, ◌<◌, ◌≡◌, Bool, true, List, [], ◌∷◌, ◌++◌, length, get_or, Option, Some, None, Ok, Err, Result, ⊤}
+use Rattle.refusal.specs.declared.Refusal.{Refusal}
 use Rattle.rows.specs.declared.MapRow.{MapRow}
 use Rattle.rings.specs.declared.Queue.{Queue}
-use Rattle.rings.specs.declared.Next.{Next}
-use Rattle.rings.specs.declared.Next.TheVariants.{Head as HasHead, Empty as HasNone, Refused as HasRefused}
 use Rattle.rings.specs.Rings.{next_head}
 use Rattle.record.specs.Shape.{is_idle}
 use Rattle.step.specs.World.{World, Guest, no_guest, Call, Place, SetRequestedSize, Request, HostAnswer, ReadConfig, WriteConfig}
@@ -49,15 +48,20 @@ lent_to (Host g ok host) = g
 lent_to (PastIt b) = no_guest
 
 -- ---- the calls of the device that a call makes: none where the queue refuses or is empty, and else one
-unfoldable pub requests_of : Next → Queue → Guest → List Call
-requests_of (HasHead head) q g = Request g q.descriptors.0 head ∷ []
-requests_of HasNone q g = []
-requests_of (HasRefused n) q g = []
+unfoldable pub requests_of : Result (Option ℕ) Refusal → Queue → Guest → List Call
+requests_of (Ok (Some head)) q g = Request g q.descriptors.0 head ∷ []
+requests_of (Ok None) q g = []
+requests_of (Err refusal) q g = []
+
+-- the call, where nothing refuses it
+unfoldable pub calls_if : Result ⊤ Refusal → Call → List Call
+calls_if (Ok admitted) call = call ∷ []
+calls_if (Err refusal) call = []
 
 unfoldable pub device_calls : World → Queue → QueueCall → List Call
 device_calls w q (TakeNext g) = requests_of (next_of w q g) q g
 device_calls w q (Host g ok host) =
-    cond (eqb (answer_refusal w.device q (length w.blocks) (length w.rows) g) 0) (HostAnswer g ok host ∷ []) []
+    calls_if (answer_refusal w.device q (length w.blocks) (length w.rows) g) (HostAnswer g ok host)
 device_calls w q (PastIt b) = beside_call b ∷ []
 
 -- ---- the heads that a call takes and reports, by what it tells
@@ -77,10 +81,10 @@ used_by Out hs = []
 used_by (Used len) hs = hs
 
 -- the head that stands next in the available ring, and the head that is out
-unfoldable pub head_of : Next → List ℕ
-head_of (HasHead h) = h ∷ []
-head_of HasNone = []
-head_of (HasRefused n) = []
+unfoldable pub head_of : Result (Option ℕ) Refusal → List ℕ
+head_of (Ok (Some h)) = h ∷ []
+head_of (Ok None) = []
+head_of (Err refusal) = []
 
 unfoldable pub out_of : Option ℕ → List ℕ
 out_of None = []

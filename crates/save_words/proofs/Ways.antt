@@ -30,11 +30,9 @@ told_length w len len' n e p = rw e (record { numbered = refl; told = p })
 
 -- the numbers of the refusals that are decided here
 no_state : {n : ℕ} → n ≡ law.number refusal.NoState → n ≡ 18
-unfolding number
 no_state e = e
 
 no_shape : {n : ℕ} → n ≡ law.number refusal.NoShape → n ≡ 12
-unfolding number
 no_shape e = e
 
 -- ---- `tell_save_length` and `tell_save`
