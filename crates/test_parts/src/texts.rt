@@ -1,9 +1,9 @@
 // SPDX-License-Identifier: Apache-2.0 AND BSD-3-Clause
 // texts.txt: the lines of a trace as they are read, and the answers as they are put.
-use super::{Row, narrow, numbers_of};
+use super::{Row, numbers_of};
 use forms::{put_form, put_form_at};
-use test_support::front;
-use trace_text::{FirstLine, Line, Op};
+use test_support::{front, narrow};
+use trace_text::{FirstLine, Line, Op, RangeOp};
 use units::{GuestAddr, HostAddr, RegionOffset};
 
 // The byte that a byte of the table stands for: a tab, the end of a line in other systems, and 0 have a stand-in.
@@ -16,40 +16,13 @@ fn meant(b: u8) -> u8 {
     }
 }
 
-<<<<<<< HEAD
-fn line_of(command: &[u8]) -> [u8; 256] {
-    let mut line = [0u8; 256];
-    copy(&mut line, from(command, 5));
-    let mut i: usize = 0;
-    while i < 256 {
-        line[i] = meant(line[i]);
-        i += 1;
-    }
-    line
-}
-
-// A node's number, and one more than the largest for none.
-fn number_of(node: Option<u16>) -> u64 {
-    match node {
-        None => 65536,
-        Some(n) => n as u64,
-    }
-}
-
+// Where there is no node, one more than the largest stands for it.
 fn put_first(out: &mut [u8], f: FirstLine) -> usize {
-    let node = f.node;
-=======
-fn put_first(out: &mut [u8], f: FirstLine) -> usize {
-    let node = match f.node {
-        Node::None => 65536,
-        Node::Number(n) => n as u64,
-    };
->>>>>>> 3863932998deaa795b907c6bedc4d16e9be130a3
     let numbers = [
         f.capacity_mib,
         f.requested_mib,
         f.multi as u64,
-        node,
+        f.node.map_or(65536, |n| n as u64),
         f.boot,
         f.addr.0,
         f.slot,
@@ -61,9 +34,14 @@ fn put_first(out: &mut [u8], f: FirstLine) -> usize {
 fn put_later(out: &mut [u8], op: Op) -> usize {
     match op {
         Op::Host { ok, addr } => put_form(out, b"h # #", &[ok as u64, addr.0]),
-        Op::Plug { addr, blocks } => put_form(out, b"p # #", &[addr.0, blocks as u64]),
-        Op::Unplug { addr, blocks } => put_form(out, b"u # #", &[addr.0, blocks as u64]),
-        Op::State { addr, blocks } => put_form(out, b"s # #", &[addr.0, blocks as u64]),
+        Op::Range { op, addr, blocks } => {
+            let form = match op {
+                RangeOp::Plug => b"p # #",
+                RangeOp::Unplug => b"u # #",
+                RangeOp::State => b"s # #",
+            };
+            put_form(out, form, &[addr.0, blocks as u64])
+        }
         Op::UnplugAll => put_form(out, b"a 0 0", &[]),
         Op::Size { mib } => put_form(out, b"m # 0", &[mib]),
     }
@@ -76,12 +54,13 @@ fn read_line(out: &mut [u8], line: &str) -> usize {
         *to = meant(b);
     }
     match trace_text::read_line(front(&bytes, line.len())) {
-        Line::First(f) => put_first(out, f),
-        Line::Later(op) => put_later(out, op),
-        Line::Bad => put_form(out, b"13", &[]),
+        Some(Line::First(f)) => put_first(out, f),
+        Some(Line::Later(op)) => put_later(out, op),
+        None => put_form(out, b"13", &[]),
     }
 }
 
+// What an answer is put as, by the call's first letter: it is the table's own text, so it is matched as it stands.
 fn put(room: &mut [u8], kind: Option<&u8>, v: Row) -> usize {
     match kind {
         Some(b'c') => answer_text::put_create(room, GuestAddr(v[1]), v[2], v[3]),
