@@ -3,7 +3,7 @@
 use super::{Row, narrow, numbers_of};
 use forms::{put_form, put_form_at};
 use test_support::front;
-use trace_text::{FirstLine, Line, Op};
+use trace_text::{FirstLine, Line, Op, RangeOp};
 use units::{GuestAddr, HostAddr, RegionOffset};
 
 // The byte that a byte of the table stands for: a tab, the end of a line in other systems, and 0 have a stand-in.
@@ -16,7 +16,6 @@ fn meant(b: u8) -> u8 {
     }
 }
 
-<<<<<<< HEAD
 fn line_of(command: &[u8]) -> [u8; 256] {
     let mut line = [0u8; 256];
     copy(&mut line, from(command, 5));
@@ -38,13 +37,6 @@ fn number_of(node: Option<u16>) -> u64 {
 
 fn put_first(out: &mut [u8], f: FirstLine) -> usize {
     let node = f.node;
-=======
-fn put_first(out: &mut [u8], f: FirstLine) -> usize {
-    let node = match f.node {
-        Node::None => 65536,
-        Node::Number(n) => n as u64,
-    };
->>>>>>> 3863932998deaa795b907c6bedc4d16e9be130a3
     let numbers = [
         f.capacity_mib,
         f.requested_mib,
@@ -61,9 +53,21 @@ fn put_first(out: &mut [u8], f: FirstLine) -> usize {
 fn put_later(out: &mut [u8], op: Op) -> usize {
     match op {
         Op::Host { ok, addr } => put_form(out, b"h # #", &[ok as u64, addr.0]),
-        Op::Plug { addr, blocks } => put_form(out, b"p # #", &[addr.0, blocks as u64]),
-        Op::Unplug { addr, blocks } => put_form(out, b"u # #", &[addr.0, blocks as u64]),
-        Op::State { addr, blocks } => put_form(out, b"s # #", &[addr.0, blocks as u64]),
+        Op::Range {
+            op: RangeOp::Plug,
+            addr,
+            blocks,
+        } => put_form(out, b"p # #", &[addr.0, blocks as u64]),
+        Op::Range {
+            op: RangeOp::Unplug,
+            addr,
+            blocks,
+        } => put_form(out, b"u # #", &[addr.0, blocks as u64]),
+        Op::Range {
+            op: RangeOp::State,
+            addr,
+            blocks,
+        } => put_form(out, b"s # #", &[addr.0, blocks as u64]),
         Op::UnplugAll => put_form(out, b"a 0 0", &[]),
         Op::Size { mib } => put_form(out, b"m # 0", &[mib]),
     }
@@ -76,9 +80,9 @@ fn read_line(out: &mut [u8], line: &str) -> usize {
         *to = meant(b);
     }
     match trace_text::read_line(front(&bytes, line.len())) {
-        Line::First(f) => put_first(out, f),
-        Line::Later(op) => put_later(out, op),
-        Line::Bad => put_form(out, b"13", &[]),
+        Some(Line::First(f)) => put_first(out, f),
+        Some(Line::Later(op)) => put_later(out, op),
+        None => put_form(out, b"13", &[]),
     }
 }
 
