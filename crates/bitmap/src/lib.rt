@@ -19,7 +19,7 @@ fn bit(b: u8, k: usize) -> bool
     (b >> k) % 2 == 1
 }
 
-// The byte whose blocks are all v, and eight of them as one number.
+// The byte whose blocks are all v, and eight of them as one number: of two types, and a line each.
 fn whole_byte(v: bool) -> u8
     ensures { result ≡ whole v }
 {
