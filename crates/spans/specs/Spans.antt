@@ -7,7 +7,7 @@ use Rattle.record.specs.declared.Pending.{Pending}
 use Rattle.record.specs.declared.Pending.TheVariants.{Nothing, Create, Discard, DiscardOne}
 use Rattle.resize.specs.Resize.{creation_size}
 use Rattle.trace_text.specs.declared.Op.{Op}
-use Rattle.trace_text.specs.declared.Op.TheVariants.{Host, Plug, Unplug, State, UnplugAll, Size}
+use Rattle.trace_text.specs.declared.Op.TheVariants.{Host, Range, UnplugAll, Size}
 use Rattle.spans.specs.declared.Span.{Span}
 
 -- the sizes of a record with the shape are whole MiB
@@ -39,18 +39,14 @@ pending_span (DiscardOne block status) d = span_from block 1 d
 -- the range that a line is about; the host's answer is about what was asked of it
 unfoldable pub op_span : Op → Device → Span
 op_span (Host ok addr) d = pending_span d.pending d
-op_span (Plug addr blocks) d = span_at addr.0 blocks d
-op_span (Unplug addr blocks) d = span_at addr.0 blocks d
-op_span (State addr blocks) d = span_at addr.0 blocks d
+op_span (Range op addr blocks) d = span_at addr.0 blocks d
 op_span UnplugAll d = no_span d
 op_span (Size mib) d = no_span d
 
 -- the number that the owner or the host brings: a size in MiB, or a host address
 unfoldable pub brought : Op → ℕ
 brought (Host ok addr) = addr.0
-brought (Plug addr blocks) = 0
-brought (Unplug addr blocks) = 0
-brought (State addr blocks) = 0
+brought (Range op addr blocks) = 0
 brought UnplugAll = 0
 brought (Size mib) = mib
 

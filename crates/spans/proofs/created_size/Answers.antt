@@ -8,6 +8,6 @@ pub returns : goal.returns
 unfolding creation_size
 returns c =
     let sum = c.saturating_add.ensures in
-    let before = c.of_map_region.ensures in
+    let before = c.of_map_region-others.ensures in
     let gap = c.saturating_sub.ensures in
     rw (← c.last_size.ensures, ← gap) (omega arith)
