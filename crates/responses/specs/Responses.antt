@@ -1,6 +1,6 @@
 -- SPDX-License-Identifier: Apache-2.0 AND BSD-3-Clause
 -- Which sentence a response brings (R12.13): an ACK says what was done, a NACK and an ERROR why nothing was. Sizes and offsets are in MiB, addresses in bytes.
-use Rattle.std.specs.Prelude.{ℕ, ◌+◌, ◌-◌, ◌%◌, Bool, true, false, cond, List, [], ◌∷◌, eqb, Option, Some, None}
+use Rattle.std.specs.Prelude.{ℕ, ◌+◌, ◌-◌, ◌%◌, Bool, true, false, cond, List, [], ◌∷◌, eqb, Option, Some, None, unwrap_or}
 use Rattle.units.specs.Numbers.{saturated, map_region}
 use Rattle.bitmap.specs.Blocks.{next_set, next_clear}
 use Rattle.text.specs.Words.{bytes}
@@ -10,9 +10,24 @@ use Rattle.record.specs.declared.Pending.{Pending}
 use Rattle.record.specs.declared.Pending.TheVariants.{Nothing, Create, Discard, DiscardOne}
 use Rattle.step.specs.declared.Reply.{Reply}
 use Rattle.trace_text.specs.declared.Op.{Op}
-use Rattle.trace_text.specs.declared.Op.TheVariants.{Host, Plug, Unplug, State, UnplugAll, Size}
+use Rattle.trace_text.specs.declared.Op.TheVariants.{Host, Range, UnplugAll, Size}
+use Rattle.trace_text.specs.declared.RangeOp.TheVariants.{Plug, Unplug, State}
+use Rattle.change.specs.declared.Reason.{Reason}
+use Rattle.change.specs.declared.Reason.TheVariants.{Alignment, ZeroBlocks, Overflow, BelowStart, PastUsable, EndPastUsable, WrongState, CrossesBorder, Unmapped, SumPasses, FailedDiscard}
+use Rattle.responses.specs.declared.ResponseType.{ResponseType}
+use Rattle.responses.specs.declared.ResponseType.TheVariants.{Ack, Nack, Error}
+use Rattle.responses.specs.declared.BlockState.{BlockState}
+use Rattle.responses.specs.declared.BlockState.TheVariants.{Plugged, Unplugged, Mixed}
 use Rattle.spans.specs.declared.Span.{Span}
 use Rattle.spans.specs.Spans.{in_mib, op_span}
+
+-- R7.4: ACK is 0, NACK 1, and ERROR 3; no other is given
+abbrev pub type_of : ℕ → ResponseType
+type_of n = cond (eqb n 0) Ack (cond (eqb n 1) Nack Error)
+
+-- R7.4: plugged is 0, unplugged 1, and mixed 2; no other is given
+abbrev pub state_of : ℕ → BlockState
+state_of n = cond (eqb n 0) Plugged (cond (eqb n 1) Unplugged Mixed)
 
 abbrev pub plugged_in : Device → ℕ
 plugged_in d = in_mib d.config.plugged_size
@@ -54,15 +69,17 @@ are_unplugged s = filled (bytes "ACK: the # MiB at offset # MiB are unplugged") 
 abbrev pub are_mixed : Span → List ℕ
 are_mixed s = filled (bytes "ACK: the # MiB at offset # MiB are mixed: some blocks are plugged, some are not") (s.size ∷ s.offset ∷ [])
 
-unfoldable pub state_text : (state : ℕ) → Span → List ℕ
-state_text state s = cond (eqb state 0) (are_plugged s) (cond (eqb state 1) (are_unplugged s) (are_mixed s))
+unfoldable pub state_text : BlockState → Span → List ℕ
+state_text Plugged s = are_plugged s
+state_text Unplugged s = are_unplugged s
+state_text Mixed s = are_mixed s
 
 -- an unplug and a size change have no ACK of their own
-unfoldable pub ack_text : Op → (state : ℕ) → Pending → Span → Device → List ℕ
+unfoldable pub ack_text : Op → BlockState → Pending → Span → Device → List ℕ
 ack_text (Host ok addr) state p s d = discarded_text p s d
-ack_text (Plug addr blocks) state p s d = plugged s d
-ack_text (Unplug addr blocks) state p s d = done d
-ack_text (State addr blocks) state p s d = state_text state s
+ack_text (Range Plug addr blocks) state p s d = plugged s d
+ack_text (Range Unplug addr blocks) state p s d = done d
+ack_text (Range State addr blocks) state p s d = state_text state s
 ack_text UnplugAll state p s d = none_plugged d
 ack_text (Size mib) state p s d = done d
 
@@ -98,14 +115,13 @@ abbrev pub ends_past_usable : Span → Device → List ℕ
 ends_past_usable s d = filled (bytes "ERROR: the range ends at offset # MiB, and the usable size at # MiB") (saturated (s.offset + s.size) ∷ in_mib d.config.usable_region_size ∷ [])
 
 -- the range test
-unfoldable pub outside_text : (why : ℕ) → Span → Device → List ℕ
-outside_text why s d =
-    cond (eqb why 1) (not_aligned s d)
-    (cond (eqb why 2) no_blocks
-    (cond (eqb why 3) (past_top s)
-    (cond (eqb why 4) (below_start s d)
-    (cond (eqb why 5) (past_usable s d)
-    (ends_past_usable s d)))))
+unfoldable pub outside_text : Reason → Span → Device → List ℕ
+outside_text Alignment s d = not_aligned s d
+outside_text ZeroBlocks s d = no_blocks
+outside_text Overflow s d = past_top s
+outside_text BelowStart s d = below_start s d
+outside_text PastUsable s d = past_usable s d
+outside_text why s d = ends_past_usable s d
 
 -- how many MiB lie between two 2 GiB borders
 abbrev pub border : ℕ
@@ -146,9 +162,9 @@ end_of s = saturated (s.first + s.blocks)
 -- a plug wants its blocks unplugged, and any other line wants them plugged
 unfoldable pub is_plug : Op → Bool
 is_plug (Host ok addr) = false
-is_plug (Plug addr blocks) = true
-is_plug (Unplug addr blocks) = false
-is_plug (State addr blocks) = false
+is_plug (Range Plug addr blocks) = true
+is_plug (Range Unplug addr blocks) = false
+is_plug (Range State addr blocks) = false
 is_plug UnplugAll = false
 is_plug (Size mib) = false
 
@@ -158,19 +174,20 @@ wrong_text plug s bs =
     cond plug (plugged_already (number_in s (next_set bs s.first (end_of s))))
     (not_plugged (number_in s (next_clear bs s.first (end_of s))))
 
-unfoldable pub error_text : (why : ℕ) → Op → Span → Device → List Bool → List ℕ
-error_text why op s d bs =
-    cond (eqb why 7) (wrong_text (is_plug op) s bs)
-    (cond (eqb why 8) (crosses s)
-    (cond (eqb why 9) (unmapped s)
-    (cond (eqb why 10) (host_past_top s)
-    (cond (eqb why 11) (not_discarded s d)
-    (outside_text why s d)))))
+unfoldable pub error_text : Reason → Op → Span → Device → List Bool → List ℕ
+error_text WrongState op s d bs = wrong_text (is_plug op) s bs
+error_text CrossesBorder op s d bs = crosses s
+error_text Unmapped op s d bs = unmapped s
+error_text SumPasses op s d bs = host_past_top s
+error_text FailedDiscard op s d bs = not_discarded s d
+error_text why op s d bs = outside_text why s d
 
--- ---- every response: ACK 0, NACK 1, ERROR 3 (R7.4)
+-- ---- every response
+
+unfoldable pub told_as : ResponseType → Reply → Op → (before after : Device) → List Bool → List ℕ
+told_as Ack reply op before after bs = ack_text op (state_of reply.response.state) before.pending (op_span op before) after
+told_as Nack reply op before after bs = nack (op_span op before) before
+told_as Error reply op before after bs = error_text (unwrap_or reply.why EndPastUsable) op (op_span op before) before bs
 
 unfoldable pub reply_text : Reply → Op → (before after : Device) → List Bool → List ℕ
-reply_text reply op before after bs =
-    cond (eqb reply.response.resp_type 0) (ack_text op reply.response.state before.pending (op_span op before) after)
-    (cond (eqb reply.response.resp_type 1) (nack (op_span op before) before)
-    (error_text reply.why op (op_span op before) before bs))
+reply_text reply op before after bs = told_as (type_of reply.response.resp_type) reply op before after bs

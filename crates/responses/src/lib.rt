@@ -3,30 +3,70 @@
 // ERROR has done nothing.
 //
 // Each function puts a text into a buffer at a position. It answers the next position, and one past the buffer's length
-// where there is no room. One function has one sentence; the others choose.
+// where there is no room. Buffer and position stay two parameters: the buffer is lent, and there is no heap for a String.
 #![tactic(auto)]
 
 ghost use Rattle.std.specs.Prelude.{◌≡◌};
 ghost use Rattle.bitmap.specs.Blocks.{blocks};
 ghost use Rattle.text.specs.Putting.{Put};
-ghost use Rattle.responses.specs.Responses.{done, plugged, unplugged, all_unplugged, none_plugged, discarded_text};
-ghost use Rattle.responses.specs.Responses.{are_plugged, are_unplugged, are_mixed, state_text, ack_text, nack};
-ghost use Rattle.responses.specs.Responses.{not_aligned, no_blocks, past_top, below_start, past_usable};
-ghost use Rattle.responses.specs.Responses.{ends_past_usable, outside_text, plugged_already, not_plugged, crosses};
-ghost use Rattle.responses.specs.Responses.{unmapped, host_past_top, not_discarded, number_in, is_plug, wrong_text};
-ghost use Rattle.responses.specs.Responses.{error_text, reply_text};
+ghost use Rattle.responses.specs.Responses.{type_of, state_of, done, discarded_text, state_text, ack_text, nack};
+ghost use Rattle.responses.specs.Responses.{outside_text, number_in, is_plug, wrong_text, error_text, reply_text};
 
 use bitmap::{next_clear, next_set};
+use change::Reason;
 use forms::put_form_at;
 use record::{Device, Pending};
-use spans::{Span, op_span};
+use spans::{Records, Span, op_span};
 use step::Reply;
-use trace_text::Op;
-use units::{MemTool, saturating_add, saturating_sub};
+use trace_text::{Op, RangeOp};
+use units::MemTool;
+
+// The types of a response (R7.4). BUSY is never given.
+#[derive(Clone, Copy)]
+enum ResponseType {
+    Ack,
+    Nack,
+    Error,
+}
+
+impl ResponseType {
+    // The type with this number: what is no ACK and no NACK is told as an ERROR.
+    fn of(number: u16) -> ResponseType
+        ensures { result ≡ type_of number }
+    {
+        match number {
+            0 => ResponseType::Ack,
+            1 => ResponseType::Nack,
+            _ => ResponseType::Error,
+        }
+    }
+}
+
+// The states of a range of blocks (R7.4).
+#[derive(Clone, Copy)]
+enum BlockState {
+    Plugged,
+    Unplugged,
+    Mixed,
+}
+
+impl BlockState {
+    // The state with this number: what is not plugged and not unplugged is told as mixed.
+    fn of(number: u16) -> BlockState
+        ensures { result ≡ state_of number }
+    {
+        match number {
+            0 => BlockState::Plugged,
+            1 => BlockState::Unplugged,
+            _ => BlockState::Mixed,
+        }
+    }
+}
 
 // How many MiB lie between two 2 GiB borders.
 const BORDER: u64 = MemTool::MAP_REGION_SIZE / MemTool::MIB;
 
+// An ACK of what has no sentence of its own.
 fn put_done(out: &mut [u8], at: usize, d: Device) -> usize
     ensures { Put out.old at (done d) out.new result }
 {
@@ -38,119 +78,66 @@ fn put_done(out: &mut [u8], at: usize, d: Device) -> usize
     )
 }
 
-fn put_plugged(out: &mut [u8], at: usize, s: Span, d: Device) -> usize
-    ensures { Put out.old at (plugged s d) out.new result }
-{
-    put_form_at(
-        out,
-        at,
-        b"ACK: # MiB plugged at offset # MiB; plugged is # MiB now",
-        &[s.size, s.offset, d.config.plugged_size / MemTool::MIB],
-    )
-}
-
-fn put_unplugged(out: &mut [u8], at: usize, s: Span, d: Device) -> usize
-    ensures { Put out.old at (unplugged s d) out.new result }
-{
-    put_form_at(
-        out,
-        at,
-        b"ACK: # MiB unplugged at offset # MiB; plugged is # MiB now",
-        &[s.size, s.offset, d.config.plugged_size / MemTool::MIB],
-    )
-}
-
-fn put_all_unplugged(out: &mut [u8], at: usize, d: Device) -> usize
-    ensures { Put out.old at (all_unplugged d) out.new result }
-{
-    put_form_at(
-        out,
-        at,
-        b"ACK: all is unplugged; plugged is # MiB now",
-        &[d.config.plugged_size / MemTool::MIB],
-    )
-}
-
-fn put_none_plugged(out: &mut [u8], at: usize, d: Device) -> usize
-    ensures { Put out.old at (none_plugged d) out.new result }
-{
-    put_form_at(
-        out,
-        at,
-        b"ACK: no block was plugged; plugged is # MiB now",
-        &[d.config.plugged_size / MemTool::MIB],
-    )
-}
-
 // The host's answer has ended an unplug, or an unplug-all.
+#[tactic(auto, unfolding(crate::specs::Responses::discarded_text))]
 fn put_discarded(out: &mut [u8], at: usize, pending: Pending, s: Span, d: Device) -> usize
     ensures { Put out.old at (discarded_text pending s d) out.new result }
 {
     match pending {
-        Pending::Nothing => put_done(out, at, d),
-        Pending::Create { first: _, last: _ } => put_done(out, at, d),
-        Pending::Discard {
-            first: _,
-            count: _,
-            status: _,
-        } => put_unplugged(out, at, s, d),
-        Pending::DiscardOne {
-            block: _,
-            status: _,
-        } => put_all_unplugged(out, at, d),
+        Pending::Discard { .. } => put_form_at(
+            out,
+            at,
+            b"ACK: # MiB unplugged at offset # MiB; plugged is # MiB now",
+            &[s.size, s.offset, d.config.plugged_size / MemTool::MIB],
+        ),
+        Pending::DiscardOne { .. } => put_form_at(
+            out,
+            at,
+            b"ACK: all is unplugged; plugged is # MiB now",
+            &[d.config.plugged_size / MemTool::MIB],
+        ),
+        _ => put_done(out, at, d),
     }
 }
 
-fn put_are_plugged(out: &mut [u8], at: usize, s: Span) -> usize
-    ensures { Put out.old at (are_plugged s) out.new result }
-{
-    put_form_at(
-        out,
-        at,
-        b"ACK: the # MiB at offset # MiB are plugged",
-        &[s.size, s.offset],
-    )
-}
-
-fn put_are_unplugged(out: &mut [u8], at: usize, s: Span) -> usize
-    ensures { Put out.old at (are_unplugged s) out.new result }
-{
-    put_form_at(
-        out,
-        at,
-        b"ACK: the # MiB at offset # MiB are unplugged",
-        &[s.size, s.offset],
-    )
-}
-
-fn put_are_mixed(out: &mut [u8], at: usize, s: Span) -> usize
-    ensures { Put out.old at (are_mixed s) out.new result }
-{
-    put_form_at(
-        out,
-        at,
-        b"ACK: the # MiB at offset # MiB are mixed: some blocks are plugged, some are not",
-        &[s.size, s.offset],
-    )
-}
-
 // The state of a range.
-fn put_state(out: &mut [u8], at: usize, state: u16, s: Span) -> usize
+#[tactic(auto, unfolding(crate::specs::Responses::state_text))]
+fn put_state(out: &mut [u8], at: usize, state: BlockState, s: Span) -> usize
     ensures { Put out.old at (state_text state s) out.new result }
 {
     match state {
-        0 => put_are_plugged(out, at, s),
-        1 => put_are_unplugged(out, at, s),
-        _ => put_are_mixed(out, at, s),
+        BlockState::Plugged => {
+            put_form_at(
+                out,
+                at,
+                b"ACK: the # MiB at offset # MiB are plugged",
+                &[s.size, s.offset],
+            )
+        }
+        BlockState::Unplugged => {
+            put_form_at(
+                out,
+                at,
+                b"ACK: the # MiB at offset # MiB are unplugged",
+                &[s.size, s.offset],
+            )
+        }
+        BlockState::Mixed => put_form_at(
+            out,
+            at,
+            b"ACK: the # MiB at offset # MiB are mixed: some blocks are plugged, some are not",
+            &[s.size, s.offset],
+        ),
     }
 }
 
 // An ACK.
+#[tactic(auto, unfolding(crate::specs::Responses::ack_text))]
 fn put_ack(
     out: &mut [u8],
     at: usize,
     op: Op,
-    state: u16,
+    state: BlockState,
     pending: Pending,
     s: Span,
     d: Device,
@@ -158,15 +145,31 @@ fn put_ack(
     ensures { Put out.old at (ack_text op state pending s d) out.new result }
 {
     match op {
-        Op::Host { ok: _, addr: _ } => put_discarded(out, at, pending, s, d),
-        Op::Plug { addr: _, blocks: _ } => put_plugged(out, at, s, d),
-        Op::Unplug { addr: _, blocks: _ } => put_done(out, at, d),
-        Op::State { addr: _, blocks: _ } => put_state(out, at, state, s),
-        Op::UnplugAll => put_none_plugged(out, at, d),
-        Op::Size { mib: _ } => put_done(out, at, d),
+        Op::Host { .. } => put_discarded(out, at, pending, s, d),
+        Op::Range {
+            op: RangeOp::Plug,
+            ..
+        } => put_form_at(
+            out,
+            at,
+            b"ACK: # MiB plugged at offset # MiB; plugged is # MiB now",
+            &[s.size, s.offset, d.config.plugged_size / MemTool::MIB],
+        ),
+        Op::Range {
+            op: RangeOp::State,
+            ..
+        } => put_state(out, at, state, s),
+        Op::UnplugAll => put_form_at(
+            out,
+            at,
+            b"ACK: no block was plugged; plugged is # MiB now",
+            &[d.config.plugged_size / MemTool::MIB],
+        ),
+        _ => put_done(out, at, d),
     }
 }
 
+// A NACK.
 fn put_nack(out: &mut [u8], at: usize, s: Span, d: Device) -> usize
     ensures { Put out.old at (nack s d) out.new result }
 {
@@ -182,190 +185,102 @@ fn put_nack(out: &mut [u8], at: usize, s: Span, d: Device) -> usize
     )
 }
 
-fn put_not_aligned(out: &mut [u8], at: usize, s: Span, d: Device) -> usize
-    ensures { Put out.old at (not_aligned s d) out.new result }
-{
-    put_form_at(
-        out,
-        at,
-        b"ERROR: address # is no multiple of the block size, # MiB",
-        &[s.addr, d.config.block_size / MemTool::MIB],
-    )
-}
-
-fn put_no_blocks(out: &mut [u8], at: usize) -> usize
-    ensures { Put out.old at no_blocks out.new result }
-{
-    put_form_at(out, at, b"ERROR: the range has no blocks", &[])
-}
-
-fn put_past_top(out: &mut [u8], at: usize, s: Span) -> usize
-    ensures { Put out.old at (past_top s) out.new result }
-{
-    put_form_at(
-        out,
-        at,
-        b"ERROR: address # and # MiB more pass 2^64 - 1",
-        &[s.addr, s.size],
-    )
-}
-
-fn put_below_start(out: &mut [u8], at: usize, s: Span, d: Device) -> usize
-    ensures { Put out.old at (below_start s d) out.new result }
-{
-    put_form_at(
-        out,
-        at,
-        b"ERROR: the range begins at address #, below the region's start #",
-        &[s.addr, d.config.addr.0],
-    )
-}
-
-fn put_past_usable(out: &mut [u8], at: usize, s: Span, d: Device) -> usize
-    ensures { Put out.old at (past_usable s d) out.new result }
-{
-    put_form_at(
-        out,
-        at,
-        b"ERROR: the range begins at offset # MiB, and the usable size ends at # MiB",
-        &[s.offset, d.config.usable_region_size / MemTool::MIB],
-    )
-}
-
-fn put_ends_past_usable(out: &mut [u8], at: usize, s: Span, d: Device) -> usize
-    ensures { Put out.old at (ends_past_usable s d) out.new result }
-{
-    put_form_at(
-        out,
-        at,
-        b"ERROR: the range ends at offset # MiB, and the usable size at # MiB",
-        &[
-            saturating_add(s.offset, s.size),
-            d.config.usable_region_size / MemTool::MIB,
-        ],
-    )
-}
-
 // A range that is not inside.
-fn put_outside(out: &mut [u8], at: usize, why: u64, s: Span, d: Device) -> usize
+#[tactic(auto, unfolding(crate::specs::Responses::outside_text))]
+fn put_outside(out: &mut [u8], at: usize, why: Reason, s: Span, d: Device) -> usize
     ensures { Put out.old at (outside_text why s d) out.new result }
 {
     match why {
-        1 => put_not_aligned(out, at, s, d),
-        2 => put_no_blocks(out, at),
-        3 => put_past_top(out, at, s),
-        4 => put_below_start(out, at, s, d),
-        5 => put_past_usable(out, at, s, d),
-        _ => put_ends_past_usable(out, at, s, d),
+        Reason::Alignment => put_form_at(
+            out,
+            at,
+            b"ERROR: address # is no multiple of the block size, # MiB",
+            &[s.addr, d.config.block_size / MemTool::MIB],
+        ),
+        Reason::ZeroBlocks => put_form_at(out, at, b"ERROR: the range has no blocks", &[]),
+        Reason::Overflow => {
+            put_form_at(
+                out,
+                at,
+                b"ERROR: address # and # MiB more pass 2^64 - 1",
+                &[s.addr, s.size],
+            )
+        }
+        Reason::BelowStart => put_form_at(
+            out,
+            at,
+            b"ERROR: the range begins at address #, below the region's start #",
+            &[s.addr, d.config.addr.0],
+        ),
+        Reason::PastUsable => put_form_at(
+            out,
+            at,
+            b"ERROR: the range begins at offset # MiB, and the usable size ends at # MiB",
+            &[s.offset, d.config.usable_region_size / MemTool::MIB],
+        ),
+        _ => put_form_at(
+            out,
+            at,
+            b"ERROR: the range ends at offset # MiB, and the usable size at # MiB",
+            &[
+                s.offset.saturating_add(s.size),
+                d.config.usable_region_size / MemTool::MIB,
+            ],
+        ),
     }
 }
 
-fn put_plugged_already(out: &mut [u8], at: usize, n: u64) -> usize
-    ensures { Put out.old at (plugged_already n) out.new result }
-{
-    put_form_at(
-        out,
-        at,
-        b"ERROR: block # of the range is plugged already",
-        &[n],
-    )
-}
-
-fn put_not_plugged(out: &mut [u8], at: usize, n: u64) -> usize
-    ensures { Put out.old at (not_plugged n) out.new result }
-{
-    put_form_at(out, at, b"ERROR: block # of the range is not plugged", &[n])
-}
-
-fn put_crosses(out: &mut [u8], at: usize, s: Span) -> usize
-    ensures { Put out.old at (crosses s) out.new result }
-{
-    put_form_at(
-        out,
-        at,
-        b"ERROR: the range, # MiB at offset # MiB, crosses the border at offset # MiB",
-        &[
-            s.size,
-            s.offset,
-            saturating_add(s.offset, BORDER - s.offset % BORDER),
-        ],
-    )
-}
-
-fn put_unmapped(out: &mut [u8], at: usize, s: Span) -> usize
-    ensures { Put out.old at (unmapped s) out.new result }
-{
-    put_form_at(
-        out,
-        at,
-        b"ERROR: the host has nothing mapped at offset # MiB",
-        &[s.offset],
-    )
-}
-
-fn put_host_past_top(out: &mut [u8], at: usize, s: Span) -> usize
-    ensures { Put out.old at (host_past_top s) out.new result }
-{
-    put_form_at(
-        out,
-        at,
-        b"ERROR: the host address of offset # MiB and # MiB more pass 2^64 - 1",
-        &[s.offset, s.size],
-    )
-}
-
-fn put_not_discarded(out: &mut [u8], at: usize, s: Span, d: Device) -> usize
-    ensures { Put out.old at (not_discarded s d) out.new result }
-{
-    put_form_at(
-        out,
-        at,
-        b"ERROR: the host could not discard offset # MiB; plugged stays # MiB",
-        &[s.offset, d.config.plugged_size / MemTool::MIB],
-    )
-}
-
 // The number of a block in its range, from 1 on.
+#[tactic(auto, unfolding(crate::specs::Responses::number_in))]
 fn number_in(s: Span, found: Option<usize>) -> u64
     ensures { result ≡ number_in s found }
 {
     match found {
-        Some(i) => saturating_add(saturating_sub(i as u64, s.first), 1),
+        Some(i) => (i as u64).saturating_sub(s.first).saturating_add(1),
         None => 0,
     }
 }
 
+// Whether an op wants its blocks unplugged.
+#[tactic(auto, unfolding(crate::specs::Responses::is_plug))]
 fn is_plug(op: Op) -> bool
     ensures { result ≡ is_plug op }
 {
-    match op {
-        Op::Host { ok: _, addr: _ } => false,
-        Op::Plug { addr: _, blocks: _ } => true,
-        Op::Unplug { addr: _, blocks: _ } => false,
-        Op::State { addr: _, blocks: _ } => false,
-        Op::UnplugAll => false,
-        Op::Size { mib: _ } => false,
-    }
+    matches!(
+        op,
+        Op::Range {
+            op: RangeOp::Plug,
+            ..
+        }
+    )
 }
 
 // The first block of a range that is in the wrong state.
+#[tactic(auto, unfolding(crate::specs::Responses::wrong_text))]
 fn put_wrong(out: &mut [u8], at: usize, plug: bool, s: Span, bitmap: &[u8]) -> usize
     ensures { Put out.old at (wrong_text plug s (blocks bitmap.now)) out.new result }
 {
-    let end = saturating_add(s.first, s.blocks) as usize;
+    let first = s.first as usize;
+    let end = s.first.saturating_add(s.blocks) as usize;
     if plug {
-        let set = next_set(bitmap, s.first as usize, end);
-        return put_plugged_already(out, at, number_in(s, set));
+        let n = number_in(s, next_set(bitmap, first, end));
+        return put_form_at(
+            out,
+            at,
+            b"ERROR: block # of the range is plugged already",
+            &[n],
+        );
     }
-    let clear = next_clear(bitmap, s.first as usize, end);
-    put_not_plugged(out, at, number_in(s, clear))
+    let n = number_in(s, next_clear(bitmap, first, end));
+    put_form_at(out, at, b"ERROR: block # of the range is not plugged", &[n])
 }
 
 // An ERROR.
+#[tactic(auto, unfolding(crate::specs::Responses::error_text))]
 fn put_error(
     out: &mut [u8],
     at: usize,
-    why: u64,
+    why: Reason,
     op: Op,
     s: Span,
     d: Device,
@@ -373,37 +288,67 @@ fn put_error(
 ) -> usize
     ensures { Put out.old at (error_text why op s d (blocks bitmap.now)) out.new result }
 {
-    let plug = is_plug(op);
     match why {
-        7 => put_wrong(out, at, plug, s, bitmap),
-        8 => put_crosses(out, at, s),
-        9 => put_unmapped(out, at, s),
-        10 => put_host_past_top(out, at, s),
-        11 => put_not_discarded(out, at, s, d),
+        Reason::WrongState => put_wrong(out, at, is_plug(op), s, bitmap),
+        Reason::CrossesBorder => put_form_at(
+            out,
+            at,
+            b"ERROR: the range, # MiB at offset # MiB, crosses the border at offset # MiB",
+            &[
+                s.size,
+                s.offset,
+                s.offset.saturating_add(BORDER - s.offset % BORDER),
+            ],
+        ),
+        Reason::Unmapped => {
+            put_form_at(
+                out,
+                at,
+                b"ERROR: the host has nothing mapped at offset # MiB",
+                &[s.offset],
+            )
+        }
+        Reason::SumPasses => put_form_at(
+            out,
+            at,
+            b"ERROR: the host address of offset # MiB and # MiB more pass 2^64 - 1",
+            &[s.offset, s.size],
+        ),
+        Reason::FailedDiscard => put_form_at(
+            out,
+            at,
+            b"ERROR: the host could not discard offset # MiB; plugged stays # MiB",
+            &[s.offset, d.config.plugged_size / MemTool::MIB],
+        ),
         _ => put_outside(out, at, why, s, d),
     }
 }
 
-// The sentence of a response to a line. `before` is the record that the line found, `after` what it left, and `bitmap`
-// the lent one as it is after the line.
+// The sentence of a response to a line, with the lent bitmap as it is after the line. An ERROR has a reason: one without
+// would be told as that of a range that ends past the usable end.
+#[tactic(auto, unfolding(crate::specs::Responses::reply_text, crate::specs::Responses::told_as))]
 pub fn put_reply(
     out: &mut [u8],
     at: usize,
     reply: Reply,
     op: Op,
-    before: Device,
-    after: Device,
+    records: Records,
     bitmap: &[u8],
 ) -> usize
     ensures { Put out.old at
-        (reply_text reply op before after (blocks bitmap.now)) out.new result }
+        (reply_text reply op records.before records.after (blocks bitmap.now)) out.new result }
 {
+    let before = records.before;
     let s = op_span(op, before);
-    let pending = before.pending;
-    let resp_type = reply.response.resp_type;
-    match resp_type {
-        0 => put_ack(out, at, op, reply.response.state, pending, s, after),
-        1 => put_nack(out, at, s, before),
-        _ => put_error(out, at, reply.why, op, s, before, bitmap),
+    match ResponseType::of(reply.response.resp_type) {
+        ResponseType::Ack => {
+            let state = BlockState::of(reply.response.state);
+            put_ack(out, at, op, state, before.pending, s, records.after)
+        }
+        ResponseType::Nack => put_nack(out, at, s, before),
+        ResponseType::Error => {
+            let why = reply.why.unwrap_or(Reason::EndPastUsable);
+            put_error(out, at, why, op, s, before, bitmap)
+        }
     }
 }

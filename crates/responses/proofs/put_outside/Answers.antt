@@ -1,33 +1,30 @@
 -- SPDX-License-Identifier: Apache-2.0 AND BSD-3-Clause
--- `responses::put_outside` meets its contract: a sentence for each reason.
-use Rattle.responses.specs.Responses.{outside_text}
-use native.Mathlib.Omega.{arith}
-use borrow.Author.Tests.{ne_eqb}
+-- `responses::put_outside` meets its contract: what is none of the first five is told as a range that ends past the usable end.
+use mathlib.Core.Path.{◌≡◌, refl}
+use Rattle.record.specs.declared.Device.{Device}
+use Rattle.change.specs.declared.Reason.{Reason}
+use Rattle.change.specs.declared.Reason.TheVariants.{Alignment, ZeroBlocks, Overflow, BelowStart, PastUsable, EndPastUsable, WrongState, CrossesBorder, Unmapped, SumPasses, FailedDiscard}
+use Rattle.spans.specs.declared.Span.{Span}
+use Rattle.responses.specs.Responses.{ends_past_usable, outside_text}
 use Rattle.responses.proofs.put_outside.Goals as goal
 
-pub returns-in-1 : goal.returns-in-1
+ends_past : (r : Reason) (s : Span) (d : Device) → (r ≡ Alignment → ⊥) → (r ≡ ZeroBlocks → ⊥) → (r ≡ Overflow → ⊥) → (r ≡ BelowStart → ⊥)
+    → (r ≡ PastUsable → ⊥) → outside_text r s d ≡ ends_past_usable s d
 unfolding outside_text
-returns-in-1 c = rw c.in-1.is c.put_not_aligned.ensures
-
-pub returns-in-2 : goal.returns-in-2
-unfolding outside_text
-returns-in-2 c = rw c.in-2.is c.put_no_blocks.ensures
-
-pub returns-in-3 : goal.returns-in-3
-unfolding outside_text
-returns-in-3 c = rw c.in-3.is c.put_past_top.ensures
-
-pub returns-in-4 : goal.returns-in-4
-unfolding outside_text
-returns-in-4 c = rw c.in-4.is c.put_below_start.ensures
-
-pub returns-in-5 : goal.returns-in-5
-unfolding outside_text
-returns-in-5 c = rw c.in-5.is c.put_past_usable.ensures
+ends_past Alignment s d a b c e f = absurd (a refl)
+ends_past ZeroBlocks s d a b c e f = absurd (b refl)
+ends_past Overflow s d a b c e f = absurd (c refl)
+ends_past BelowStart s d a b c e f = absurd (e refl)
+ends_past PastUsable s d a b c e f = absurd (f refl)
+ends_past EndPastUsable s d a b c e f = refl
+ends_past WrongState s d a b c e f = refl
+ends_past CrossesBorder s d a b c e f = refl
+ends_past Unmapped s d a b c e f = refl
+ends_past SumPasses s d a b c e f = refl
+ends_past FailedDiscard s d a b c e f = refl
 
 pub returns-in_default : goal.returns-in_default
-unfolding outside_text
 returns-in_default c =
-    let w = c.args.why in
-    rw (ne_eqb w 1 (omega arith), ne_eqb w 2 (omega arith), ne_eqb w 3 (omega arith), ne_eqb w 4 (omega arith), ne_eqb w 5 (omega arith))
-    c.put_ends_past_usable.ensures
+    let w = c.in_default in
+    rw (ends_past c.args.why c.args.s c.args.d w.not-Alignment w.not-ZeroBlocks w.not-Overflow w.not-BelowStart w.not-PastUsable, ← c.saturating_add.ensures)
+    c.put_form_at-in_default.ensures
