@@ -1,13 +1,13 @@
 -- SPDX-License-Identifier: Apache-2.0 AND BSD-3-Clause
 -- The chain that a trace's op lays is good: in guest memory of 106 bytes or more every op is answered by a line.
-use Rattle.std.specs.Prelude.{Option, Some, None}
+use Rattle.std.specs.Prelude.{Option, Some, None, Result, Ok, Err, ⊤}
 use Prim.Native.Nat.{ℕ, ◌+◌, ◌*◌, ◌/◌, ◌^◌, ◌≤◌, ◌<◌}
 use mathlib.Core.Path.{◌≡◌, refl, ap, ◌∙◌}
 use mathlib.Core.Bool.{Bool, true, false, cond, not}
 use mathlib.Core.List.{List, ◌++◌}
 use native.Mathlib.Omega.{arith}
 use borrow.Author.Tests.{le-leb}
-use lib.Dec.{eqb, ltb}
+use lib.Dec.{ltb}
 use lib.ListN.{length}
 use Rattle.units.specs.Numbers.{top, bytes_of}
 use Rattle.wire.specs.declared.VirtioMemReq.{VirtioMemReq}
@@ -18,23 +18,24 @@ use Rattle.little_endian.proofs.Laws.{length-put, part-put, part-put_inside, par
 use Rattle.wire.proofs.Laws.{request_part}
 use Rattle.wire.proofs.Standard.{request as request-laid}
 use Rattle.descriptors.specs.declared.Descriptor.{Descriptor}
-use Rattle.chain.specs.declared.Parsed.TheVariants.{Request as Got}
 use Rattle.descriptors.specs.Standard.{virtq_desc, descriptor_addr}
 use Rattle.descriptors.specs.Descriptors.{inside, link_at, link_after}
-use Rattle.chain.specs.Chain.{with_second, with_first, parsed}
+use Rattle.chain.specs.Chain.{asked as got, with_second, with_first, parsed}
 use Rattle.descriptors.proofs.Standard.{descriptor_laid}
 use Rattle.record.specs.Shape.{size_ok}
 use Rattle.record.specs.declared.Pending.{Pending}
 use Rattle.record.specs.declared.Pending.TheVariants.{Nothing, Create, Discard, DiscardOne}
 use Rattle.resize.specs.declared.Creation.{Creation}
 use Rattle.change.specs.declared.Change.{Change}
-use Rattle.change.specs.declared.Change.TheVariants.{Legal, Outside, WrongState, NoHost}
+use Rattle.change.specs.declared.Reason.{Reason}
+use Rattle.refusal.specs.declared.Refusal.{Refusal}
 use Rattle.step.specs.declared.Answer.{Answer}
 use Rattle.step.specs.declared.Answer.TheVariants.{Refused, Wants, Sized, Unserved, Served, Done}
 use Rattle.step.specs.World.{World, Guest, Outcome, Request}
 use Rattle.step.specs.Step.{block_size, region, requested, plugged, covered_by, unless, plug, plug_as, unplug_as, one_as, next_as, serve, request, resizes, set_requested_size, host_answer, step}
 use Rattle.trace_text.specs.declared.Op.{Op}
-use Rattle.trace_text.specs.declared.Op.TheVariants.{Host, Plug, Unplug, State, UnplugAll, Size}
+use Rattle.trace_text.specs.declared.Op.TheVariants.{Host, Range, UnplugAll, Size}
+use Rattle.trace_text.specs.declared.RangeOp.TheVariants.{Plug, Unplug, State}
 use Rattle.trace_text.specs.Lines.{OpInRange}
 use Rattle.trace_run.specs.Ops.{chained, laid, asked, op_call}
 
@@ -108,7 +109,7 @@ module _ (mem : List ℕ) (type addr blocks : ℕ) (room : 106 ≤ length mem) w
       (ap Some (descriptor_laid in_memory 16 second (record { addr = omega arith; len = omega arith; flags = omega arith; next = omega arith }) second_part))
 
   -- the device reads the request that the op stands for, and answers it at guest address 96
-  pub chain_good : type < 256 ^ 2 → addr < 256 ^ 8 → blocks < 256 ^ 2 → parsed in_memory 0 0 0 ≡ Got (request_of type addr blocks) (record { 0 = 96 })
+  pub chain_good : type < 256 ^ 2 → addr < 256 ^ 8 → blocks < 256 ^ 2 → parsed in_memory 0 0 0 ≡ got (request_of type addr blocks) (record { 0 = 96 })
   unfolding parsed with_first link_after with_second
   chain_good t a b =
       let l = laid_length in
@@ -120,7 +121,7 @@ module _ (mem : List ℕ) (type addr blocks : ℕ) (room : 106 ≤ length mem) w
 
 -- whether an answer has a line
 abbrev pub has_line : Answer → Bool
-has_line (Refused n) = true
+has_line (Refused refusal) = true
 has_line (Wants call) = true
 has_line Sized = true
 has_line (Unserved reason) = false
@@ -135,31 +136,26 @@ either : (t : Bool) (o o₂ : Outcome) → Told o → Told o₂ → Told (cond t
 either true o o₂ p q = p
 either false o o₂ p q = q
 
-unless_told : (n : ℕ) (w : World) (bytes : List ℕ) (o : Outcome) → Told o → Told (unless n w bytes o)
+unless_told : (r : Result ⊤ Refusal) (w : World) (bytes : List ℕ) (o : Outcome) → Told o → Told (unless r w bytes o)
 unfolding unless
-unless_told n w bytes o p = either (eqb n 0) _ _ p (record { line = refl })
+unless_told (Ok admitted) w bytes o p = p
+unless_told (Err refusal) w bytes o p = record { line = refl }
 
 module _ (w : World) where
-  plug_told : (c : Change) (count status : ℕ) (g : Guest) → Told (plug_as c w count status g)
+  plug_told : (c : Result Change Reason) (count status : ℕ) (g : Guest) → Told (plug_as c w count status g)
   unfolding plug_as
-  plug_told (Legal at offset host) count status g = record { line = refl }
-  plug_told (Outside range) count status g = record { line = refl }
-  plug_told WrongState count status g = record { line = refl }
-  plug_told (NoHost reason) count status g = record { line = refl }
+  plug_told (Ok change) count status g = record { line = refl }
+  plug_told (Err why) count status g = record { line = refl }
 
-  unplug_told : (c : Change) (count status : ℕ) (g : Guest) → Told (unplug_as c w count status g)
+  unplug_told : (c : Result Change Reason) (count status : ℕ) (g : Guest) → Told (unplug_as c w count status g)
   unfolding unplug_as
-  unplug_told (Legal at offset host) count status g = either (ltb (plugged w) (bytes_of (block_size w) count)) _ _ (record { line = refl }) (record { line = refl })
-  unplug_told (Outside range) count status g = record { line = refl }
-  unplug_told WrongState count status g = record { line = refl }
-  unplug_told (NoHost reason) count status g = record { line = refl }
+  unplug_told (Ok change) count status g = either (ltb (plugged w) (bytes_of (block_size w) count)) _ _ (record { line = refl }) (record { line = refl })
+  unplug_told (Err why) count status g = record { line = refl }
 
-  one_told : (c : Change) (block status : ℕ) (g : Guest) → Told (one_as c w block status g)
+  one_told : (c : Result Change Reason) (block status : ℕ) (g : Guest) → Told (one_as c w block status g)
   unfolding one_as
-  one_told (Legal at offset host) block status g = record { line = refl }
-  one_told (Outside range) block status g = record { line = refl }
-  one_told WrongState block status g = record { line = refl }
-  one_told (NoHost reason) block status g = record { line = refl }
+  one_told (Ok change) block status g = record { line = refl }
+  one_told (Err why) block status g = record { line = refl }
 
   next_told : (f : Option ℕ) (status : ℕ) (g : Guest) → Told (next_as f w status g)
   unfolding next_as
@@ -189,8 +185,8 @@ module _ (w : World) (mem : List ℕ) (room : 106 ≤ length mem) where
   pub op_told : (op : Op) → OpInRange op → Told (step w (op_call op mem))
   unfolding op_call step serve plug set_requested_size
   op_told (Host ok addr) h = unless_told _ _ _ _ (host_told _ w _ ok addr.0)
-  op_told (Plug addr blocks) h = request_told 0 addr.0 blocks (omega arith) (omega arith) (omega arith) (λ g. either (ltb (requested w) (plugged w + bytes_of (block_size w) blocks)) _ _ (record { line = refl }) (plug_told w _ _ _ g))
-  op_told (Unplug addr blocks) h = request_told 1 addr.0 blocks (omega arith) (omega arith) (omega arith) (λ g. unplug_told w _ _ _ g)
-  op_told (State addr blocks) h = request_told 3 addr.0 blocks (omega arith) (omega arith) (omega arith) (λ g. record { line = refl })
+  op_told (Range Plug addr blocks) h = request_told 0 addr.0 blocks (omega arith) (omega arith) (omega arith) (λ g. either (ltb (requested w) (plugged w + bytes_of (block_size w) blocks)) _ _ (record { line = refl }) (plug_told w _ _ _ g))
+  op_told (Range Unplug addr blocks) h = request_told 1 addr.0 blocks (omega arith) (omega arith) (omega arith) (λ g. unplug_told w _ _ _ g)
+  op_told (Range State addr blocks) h = request_told 3 addr.0 blocks (omega arith) (omega arith) (omega arith) (λ g. record { line = refl })
   op_told UnplugAll h = request_told 2 0 0 (omega arith) (omega arith) (omega arith) (λ g. next_told w _ _ g)
   op_told (Size mib) h = unless_told _ _ _ _ (either (not (size_ok (block_size w) (mib * 1048576) (region w))) _ _ (record { line = refl }) (resize_told _ _))

@@ -1,9 +1,9 @@
 -- SPDX-License-Identifier: Apache-2.0 AND BSD-3-Clause
 -- The laws of `specs/Run.antt`: slots that count up, and what a line of output comes to.
+use Rattle.std.specs.Prelude.{Option, Some, None}
 use Prim.Native.Nat.{ℕ, zero, suc, ◌+◌, ◌≤◌, ◌<◌}
 use mathlib.Core.Path.{◌≡◌, refl, sym, ap, ◌∙◌}
 use mathlib.Core.List.{List, [], ◌∷◌, ◌++◌}
-use mathlib.Core.Logic.{⊎_elim}
 use native.Mathlib.Numerals.{add-one}
 use native.Mathlib.Omega.{arith}
 use lib.ListN.{length, take, set}
@@ -17,7 +17,7 @@ use Rattle.step.specs.declared.Answer.TheVariants.{Done}
 use Rattle.step.specs.World.{Outcome}
 use Rattle.step.specs.Promise.{Lent, meant, Leaves}
 use Rattle.trace_text.specs.declared.Line.{Line}
-use Rattle.trace_text.specs.declared.Line.TheVariants.{First, Later, Bad}
+use Rattle.trace_text.specs.declared.Line.TheVariants.{First, Later}
 use Rattle.trace_text.specs.Lines.{Reads}
 use Rattle.trace_run.specs.Ops.{answer_text}
 use Rattle.trace_run.specs.declared.Run.{Run}
@@ -47,10 +47,10 @@ pub counted_end : (slots : List ℕ) (first i n : ℕ) → i ≡ n → length sl
 counted_end slots first i n e l t = sym (take_all i slots (omega arith)) ∙ t ∙ ap (counted_from first) e
 
 -- the first line that was read has slots that fit
-pub slot_fits : (s : List ℕ) (line : Line) → Reads s line → SlotFits line
-slot_fits s (First f) h = ⊎_elim (λ e. let z : ◌≡◌ {A = ℕ} 0 1 = cc in absurd (omega arith)) (λ t. t.range.slot) h.only
-slot_fits s (Later op) h = tt
-slot_fits s Bad h = tt
+pub slot_fits : (s : List ℕ) (line : Option Line) → Reads s line → SlotFits line
+slot_fits s (Some (First f)) h = h.only.range.slot
+slot_fits s (Some (Later op)) h = tt
+slot_fits s None h = tt
 
 -- ---- a line of output
 

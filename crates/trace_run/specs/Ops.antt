@@ -11,7 +11,14 @@ use Rattle.step.specs.declared.Answered.{Answered}
 use Rattle.step.specs.Step.{step}
 use Rattle.step.specs.Promise.{Lent, on, Gives}
 use Rattle.trace_text.specs.declared.Op.{Op}
-use Rattle.trace_text.specs.declared.Op.TheVariants.{Host, Plug, Unplug, State, UnplugAll, Size}
+use Rattle.trace_text.specs.declared.Op.TheVariants.{Host, Range, UnplugAll, Size}
+use Rattle.trace_text.specs.declared.RangeOp.{RangeOp}
+use Rattle.trace_text.specs.declared.RangeOp.TheVariants.{Plug, Unplug, State}
+use Rattle.wire.specs.declared.RequestType.{RequestType}
+use Rattle.wire.specs.declared.RequestType.TheVariants as asks
+use Rattle.wire.specs.Types.{type_number}
+use Rattle.refusal.specs.Refusal.{number as refusal_number}
+use Rattle.change.specs.Why.{why_number}
 use Rattle.answer_text.specs.Texts.{create_text, discard_text, sized_text, response_text, refusal_text}
 
 -- a number of so many bytes at a place, and numbers laid one after the other
@@ -44,21 +51,23 @@ asked mem type addr blocks =
 abbrev pub request_of : List ℕ → (type addr blocks : ℕ) → Call
 request_of mem type addr blocks = Request (record { mem = asked mem type addr blocks; base = 0 }) 0 0
 
+-- the request that asks for an op on a range
+abbrev pub type_of : RangeOp → RequestType
+type_of Plug = asks.Plug
+type_of Unplug = asks.Unplug
+type_of State = asks.State
+
 -- the call that an op stands for
 unfoldable pub op_call : Op → List ℕ → Call
 op_call (Host ok addr) mem = HostAnswer (record { mem = mem; base = 0 }) ok addr.0
-op_call (Plug addr blocks) mem = request_of mem 0 addr.0 blocks
-op_call (Unplug addr blocks) mem = request_of mem 1 addr.0 blocks
-op_call (State addr blocks) mem = request_of mem 3 addr.0 blocks
-op_call UnplugAll mem = request_of mem 2 0 0
+op_call (Range op addr blocks) mem = request_of mem (type_number (type_of op)) addr.0 blocks
+op_call UnplugAll mem = request_of mem (type_number asks.UnplugAll) 0 0
 op_call (Size mib) mem = SetRequestedSize mib
 
 -- the bytes that a call leaves: a size change has none, so guest memory is as it was
 unfoldable pub bytes_after : Op → List ℕ → Outcome → List ℕ
 bytes_after (Host ok addr) mem o = o.bytes
-bytes_after (Plug addr blocks) mem o = o.bytes
-bytes_after (Unplug addr blocks) mem o = o.bytes
-bytes_after (State addr blocks) mem o = o.bytes
+bytes_after (Range op addr blocks) mem o = o.bytes
 bytes_after UnplugAll mem o = o.bytes
 bytes_after (Size mib) mem o = mem
 
@@ -74,11 +83,11 @@ Applies op d before after s = Gives (applied op (on d before) before.bytes) befo
 
 -- the line of an answer: resp and state are read out of the response bytes, why is the answer's
 unfoldable pub answer_text : Answer → Device → List ℕ → List ℕ
-answer_text (Refused n) d mem = refusal_text n
+answer_text (Refused refusal) d mem = refusal_text (refusal_number refusal)
 answer_text (Wants (Create guest size slot)) d mem = create_text guest size slot
 answer_text (Wants (Discard offset size host)) d mem = discard_text offset size host
 answer_text Sized d mem = sized_text d.config.requested_size d.config.usable_region_size
 answer_text (Unserved reason) d mem = []
 answer_text (Served reply) d mem =
-    response_text (value (part mem 96 2)) (value (part mem 104 2)) d.config.plugged_size d.config.usable_region_size reply.why
+    response_text (value (part mem 96 2)) (value (part mem 104 2)) d.config.plugged_size d.config.usable_region_size (why_number reply.why)
 answer_text Done d mem = []

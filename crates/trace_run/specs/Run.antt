@@ -1,6 +1,6 @@
 -- SPDX-License-Identifier: Apache-2.0 AND BSD-3-Clause
 -- A run of a trace, line by line (R12): the first line makes the device and places it, and each later one is an op on it.
-use Rattle.std.specs.Prelude.{ℕ, zero, suc, ◌≤◌, List, [], ◌∷◌, ◌++◌, ◌≡◌}
+use Rattle.std.specs.Prelude.{ℕ, zero, suc, ◌≤◌, List, [], ◌∷◌, ◌++◌, ◌≡◌, Option, Some, None, Result, Ok, Err}
 use Rattle.units.specs.Numbers.{map_regions}
 use Rattle.record.specs.declared.Device.{Device}
 use Rattle.step.specs.declared.Answer.{Answer}
@@ -8,14 +8,15 @@ use Rattle.step.specs.declared.Answer.TheVariants.{Refused, Wants, Sized, Unserv
 use Rattle.step.specs.World.{World, Call, Place, Outcome}
 use Rattle.step.specs.Step.{step}
 use Rattle.step.specs.Promise.{Lent, Meant, meant, Leaves}
-use Rattle.making.specs.declared.Made.{Made}
-use Rattle.making.specs.declared.Made.TheVariants.{Device as MadeDevice, Refused as NotMade}
+use Rattle.refusal.specs.declared.Refusal.{Refusal}
+use Rattle.refusal.specs.declared.Refusal.TheVariants.{BadLine}
+use Rattle.refusal.specs.Refusal.{number}
 use Rattle.making.specs.Made.{made}
 use Rattle.text.specs.Putting.{Put}
 use Rattle.trace_text.specs.declared.FirstLine.{FirstLine}
 use Rattle.trace_text.specs.declared.Op.{Op}
 use Rattle.trace_text.specs.declared.Line.{Line}
-use Rattle.trace_text.specs.declared.Line.TheVariants.{First, Later, Bad}
+use Rattle.trace_text.specs.declared.Line.TheVariants.{First, Later}
 use Rattle.answer_text.specs.Texts.{refusal_text}
 use Rattle.trace_text.specs.Lines.{Reads}
 use Rattle.trace_run.specs.Ops.{op_call, bytes_after, answer_text}
@@ -39,8 +40,8 @@ abbrev pub as_line : List ℕ → List ℕ
 as_line text = text ++ 10 ∷ []
 
 -- R12.6: a refusal; here of a line that comes to no call, so nothing that is lent changes
-abbrev pub refused_as : Run → ℕ → Meant → Turn
-refused_as run n m = record { run = run; answer = Refused n; left = m; printed = as_line (refusal_text n) }
+abbrev pub refused_as : Run → Refusal → Meant → Turn
+refused_as run refusal m = record { run = run; answer = Refused refusal; left = m; printed = as_line (refusal_text (number refusal)) }
 
 -- a call of the device prints its answer
 abbrev pub answered_as : Run → Outcome → List ℕ → Turn
@@ -67,7 +68,7 @@ place_call d f m =
 
 -- R12.8: a refusal in the first line ends the run
 unfoldable pub placed_as : Answer → Device → Run
-placed_as (Refused n) d = Ended
+placed_as (Refused refusal) d = Ended
 placed_as (Wants call) d = On d
 placed_as Sized d = On d
 placed_as (Unserved reason) d = On d
@@ -78,9 +79,9 @@ placed_as Done d = On d
 abbrev pub placed_on : Outcome → List ℕ → Turn
 placed_on o mem = answered_as (placed_as o.answer o.world.device) o mem
 
-unfoldable pub begun_on : Made → FirstLine → Meant → Turn
-begun_on (NotMade n) f m = refused_as Ended n m
-begun_on (MadeDevice d) f m = placed_on (step (world_on d m) (place_call d f m)) m.bytes
+unfoldable pub begun_on : Result Device Refusal → FirstLine → Meant → Turn
+begun_on (Err refusal) f m = refused_as Ended refusal m
+begun_on (Ok d) f m = placed_on (step (world_on d m) (place_call d f m)) m.bytes
 
 -- the first line makes the device, and places it
 abbrev pub begun_by : FirstLine → Meant → Turn
@@ -95,13 +96,13 @@ gone_on d op m =
     answered_as (On o.world.device) o (bytes_after op m.bytes o)
 
 -- R12.5: a line where another is due is a bad line. R12.8: a bad first line ends the run, and after a bad later one it goes on. Nothing comes of a line after the end, and its answer is no number, question or response
-unfoldable pub turn : Run → Line → Meant → Turn
-turn Before (First f) m = begun_by f m
-turn Before (Later op) m = refused_as Ended 13 m
-turn Before Bad m = refused_as Ended 13 m
-turn (On d) (First f) m = refused_as (On d) 13 m
-turn (On d) (Later op) m = gone_on d op m
-turn (On d) Bad m = refused_as (On d) 13 m
+unfoldable pub turn : Run → Option Line → Meant → Turn
+turn Before (Some (First f)) m = begun_by f m
+turn Before (Some (Later op)) m = refused_as Ended BadLine m
+turn Before None m = refused_as Ended BadLine m
+turn (On d) (Some (First f)) m = refused_as (On d) BadLine m
+turn (On d) (Some (Later op)) m = gone_on d op m
+turn (On d) None m = refused_as (On d) BadLine m
 turn Ended line m = record { run = Ended; answer = Done; left = m; printed = [] }
 
 -- ---- what the code promises
@@ -124,12 +125,12 @@ ComesTo turns before after out out' r = Comes (turns (meant before)) before afte
 
 -- the bytes s read as one line, and what that line comes to is given
 pub record Serves (run : Run) (s : List ℕ) (before after : Lent) (out out' : List ℕ) (r : Shown) : Type 0 where
-  pub line : Line
+  pub line : Option Line
   pub reads : Reads s line
   pub comes : ComesTo (turn run line) before after out out' r
 
 -- R12.4: the slots of a line that was read stay below 2^32
-abbrev pub SlotFits : Line → Type 0
-SlotFits (First f) = f.slot ≤ 4294966000
-SlotFits (Later op) = Prim.Unit {0}
-SlotFits Bad = Prim.Unit {0}
+abbrev pub SlotFits : Option Line → Type 0
+SlotFits (Some (First f)) = f.slot ≤ 4294966000
+SlotFits (Some (Later op)) = Prim.Unit {0}
+SlotFits None = Prim.Unit {0}

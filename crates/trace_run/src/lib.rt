@@ -1,29 +1,35 @@
 // SPDX-License-Identifier: Apache-2.0 AND BSD-3-Clause
 // A run of a trace, a line at a time: the first makes the device and places it, and each later one is an op on it.
 // Ops go through real chains in a guest memory, and each line prints the answer.
+//
+// Bitmap, table and guest memory are three parameters, as the calls of `serving` and `placing` take them: all are lent.
 #![tactic(auto)]
 
-ghost use Rattle.std.specs.Prelude.{◌≡◌, true, ◌+◌, ◌≤◌, length, take};
+ghost use Rattle.std.specs.Prelude.{◌≡◌, true, ◌+◌, ◌≤◌, length, take, Ok};
 ghost use Rattle.text.specs.Putting.{Put};
 ghost use Rattle.step.specs.Promise.{lent, Steps};
-ghost use Rattle.trace_run.specs.Ops.{chained, asked, request_of, answer_text, Applies};
+ghost use Rattle.wire.specs.Types.{type_number};
+ghost use Rattle.trace_run.specs.Ops.{chained, asked, request_of, type_of, answer_text, Applies};
 ghost use Rattle.record.specs.Shape.{shaped_of};
-ghost use Rattle.making.specs.declared.Made.TheVariants as made;
 ghost use Rattle.answer_text.specs.Texts.{refusal_text};
+ghost use Rattle.refusal.specs.Refusal.{number};
 ghost use Rattle.step.specs.declared.Answer.TheVariants.{Refused};
 ghost use Rattle.trace_run.specs.Run.{counted_from, placed_as, begun_on, begun_by, gone_on, turn};
 ghost use Rattle.trace_run.specs.Run.{Prints, ComesTo, Serves, SlotFits};
 
 use answer_text::{put_create, put_discard, put_refusal, put_response, put_sized};
+use change::why_number;
 use little_endian::{read_u16, write_u16, write_u32, write_u64};
-use making::{Made, Mem};
+use making::Mem;
 use placing::{place, set_requested_size};
 use record::{Device, HostCall};
+use refusal::Refusal;
 use serving::{host_answer, request};
 use step::{Answer, Answered};
 use text::put;
-use trace_text::{FirstLine, Line, Op, read_line};
+use trace_text::{FirstLine, Line, Op, RangeOp, read_line};
 use units::{GuestAddr, map_regions};
+use wire::RequestType;
 
 // Where a run stands: before its first line, on a device, or ended.
 #[derive(Clone, Copy)]
@@ -43,6 +49,7 @@ pub struct Shown {
 }
 
 // Lays the two descriptors of every chain.
+#[tactic(auto, unfolding(crate::specs::Ops::chained, crate::specs::Ops::laid))]
 fn lay_chain(mem: &mut [u8])
     ensures { mem.new ≡ chained mem.old }
 {
@@ -57,6 +64,7 @@ fn lay_chain(mem: &mut [u8])
 }
 
 // Lays a request, as a guest would.
+#[tactic(auto, unfolding(crate::specs::Ops::asked, crate::specs::Ops::laid))]
 fn ask(mem: &mut [u8], req_type: u16, addr: GuestAddr, nb_blocks: u16)
     ensures { mem.new ≡ asked mem.old req_type addr.0 nb_blocks }
 {
@@ -72,16 +80,27 @@ fn guest_asks(
     bitmap: &mut [u8],
     table: &[u64],
     mem: &mut [u8],
-    req_type: u16,
+    req_type: RequestType,
     addr: GuestAddr,
     nb_blocks: u16,
 ) -> Answered
-    ensures { Steps d (λ l. request_of l.bytes req_type addr.0 nb_blocks)
+    ensures { Steps d (λ l. request_of l.bytes (type_number req_type) addr.0 nb_blocks)
         (lent bitmap.old table.now mem.old)
         (lent bitmap.new table.now mem.new) result }
 {
-    ask(mem, req_type, addr, nb_blocks);
+    ask(mem, req_type as u16, addr, nb_blocks);
     request(d, bitmap, table, mem, GuestAddr(0), GuestAddr(0), 0)
+}
+
+// The request that asks for an op on a range.
+fn type_of(op: RangeOp) -> RequestType
+    ensures { result ≡ type_of op }
+{
+    match op {
+        RangeOp::Plug => RequestType::Plug,
+        RangeOp::Unplug => RequestType::Unplug,
+        RangeOp::State => RequestType::State,
+    }
 }
 
 // Applies an op to the device.
@@ -92,25 +111,39 @@ fn apply(d: Device, bitmap: &mut [u8], table: &mut [u64], mem: &mut [u8], op: Op
 {
     match op {
         Op::Host { ok, addr } => host_answer(d, bitmap, table, mem, GuestAddr(0), ok, addr),
-        Op::Plug { addr, blocks } => guest_asks(d, bitmap, &table[..], mem, 0, addr, blocks),
-        Op::Unplug { addr, blocks } => guest_asks(d, bitmap, &table[..], mem, 1, addr, blocks),
-        Op::State { addr, blocks } => guest_asks(d, bitmap, &table[..], mem, 3, addr, blocks),
-        Op::UnplugAll => guest_asks(d, bitmap, &table[..], mem, 2, GuestAddr(0), 0),
+        Op::Range { op, addr, blocks } => guest_asks(
+            d,
+            bitmap,
+            &table[..],
+            mem,
+            type_of(op),
+            addr,
+            blocks,
+        ),
+        Op::UnplugAll => guest_asks(
+            d,
+            bitmap,
+            &table[..],
+            mem,
+            RequestType::UnplugAll,
+            GuestAddr(0),
+            0,
+        ),
         Op::Size { mib } => set_requested_size(d, &bitmap[..], &table[..], mib),
     }
 }
 
 // Puts the line of an answer at the start of a buffer, and answers its length; no line has more than 200 bytes.
+#[tactic(auto, unfolding(crate::specs::Ops::answer_text))]
 fn put_answer(out: &mut [u8], s: Answered, mem: &[u8]) -> usize
     ensures { Put out.old 0 (answer_text s.answer s.device mem.now) out.new result }
 {
-    let answer = s.answer;
-    match answer {
-        Answer::Refused(number) => put_refusal(out, number),
-        Answer::Wants(call) => match call {
-            HostCall::Create { guest, size, slot } => put_create(out, guest, size, slot),
-            HostCall::Discard { offset, size, host } => put_discard(out, offset, size, host),
-        },
+    match s.answer {
+        Answer::Refused(refusal) => put_refusal(out, refusal.number()),
+        Answer::Wants(HostCall::Create { guest, size, slot }) => put_create(out, guest, size, slot),
+        Answer::Wants(HostCall::Discard { offset, size, host }) => put_discard(
+            out, offset, size, host,
+        ),
         Answer::Sized => put_sized(
             out,
             s.device.config.requested_size,
@@ -122,7 +155,7 @@ fn put_answer(out: &mut [u8], s: Answered, mem: &[u8]) -> usize
             read_u16(mem, 104),
             s.device.config.plugged_size,
             s.device.config.usable_region_size,
-            reply.why,
+            why_number(reply.why),
         ),
         Answer::Unserved(_) => 0,
         Answer::Done => 0,
@@ -130,13 +163,13 @@ fn put_answer(out: &mut [u8], s: Answered, mem: &[u8]) -> usize
 }
 
 // Prints a refusal.
-fn refuse(run: Run, out: &mut [u8], number: u64) -> Shown
-    ensures { Prints run (Refused number) (refusal_text number) out.old result out.new }
+fn refuse(run: Run, out: &mut [u8], refusal: Refusal) -> Shown
+    ensures { Prints run (Refused refusal) (refusal_text (number refusal)) out.old result out.new }
 {
-    let end = put_refusal(out, number);
+    let end = put_refusal(out, refusal.number());
     Shown {
-        run: run,
-        answer: Answer::Refused(number),
+        run,
+        answer: Answer::Refused(refusal),
         length: put(out, end, b'\n'),
     }
 }
@@ -147,10 +180,9 @@ fn answer(run: Run, s: Answered, mem: &[u8], out: &mut [u8]) -> Shown
         out.old result out.new }
 {
     let end = put_answer(out, s, mem);
-    let answer = s.answer;
     Shown {
-        run: run,
-        answer: answer,
+        run,
+        answer: s.answer,
         length: put(out, end, b'\n'),
     }
 }
@@ -160,26 +192,19 @@ fn count_slots(slots: &mut [u32], first: u64)
     requires { first + length slots.old ≤ 4294967296 }
     ensures { slots.new ≡ counted_from first (length slots.old) }
 {
-    let mut i = 0;
-    while i < slots.len() {
+    for i in 0..slots.len() {
         slots[i] = (first + i as u64) as u32;
-        i += 1;
     }
 }
 
 // A refused placing ends the run.
+#[tactic(auto, unfolding(crate::specs::Run::placed_as))]
 fn after_placing(s: Answered) -> Run
     ensures { result ≡ placed_as s.answer s.device }
 {
-    let device = s.device;
-    let answer = s.answer;
-    match answer {
+    match s.answer {
         Answer::Refused(_) => Run::Ended,
-        Answer::Wants(_) => Run::On(device),
-        Answer::Sized => Run::On(device),
-        Answer::Unserved(_) => Run::On(device),
-        Answer::Served(_) => Run::On(device),
-        Answer::Done => Run::On(device),
+        _ => Run::On(s.device),
     }
 }
 
@@ -193,7 +218,7 @@ fn put_in_place(
     out: &mut [u8],
 ) -> Shown
     requires { (shaped_of d ≡ true) × (first.slot ≤ 4294966000) }
-    ensures { ComesTo (begun_on (made.Device d) first)
+    ensures { ComesTo (begun_on (Ok d) first)
         (lent bitmap.old table.old mem.now)
         (lent bitmap.new table.new mem.now)
         out.old out.new result }
@@ -202,8 +227,7 @@ fn put_in_place(
     count_slots(&mut slots, first.slot);
     let region = d.config.region_size;
     let rows = map_regions(region, d.several) as usize;
-    let start = first.addr;
-    let placed = place(d, bitmap, table, start, region, &slots[..rows]);
+    let placed = place(d, bitmap, table, first.addr, region, &slots[..rows]);
     answer(after_placing(placed), placed, mem, out)
 }
 
@@ -221,22 +245,28 @@ fn begin(
         (lent bitmap.new table.new mem.now)
         out.old out.new result }
 {
-    let node = first.node;
     let made = Mem::new(
         first.capacity_mib,
         first.requested_mib,
         first.multi,
-        node,
+        first.node,
         first.boot,
     );
     match made {
-        Made::Refused(number) => refuse(Run::Ended, out, number),
-        Made::Device(device) => put_in_place(device, first, bitmap, table, mem, out),
+        Ok(device) => put_in_place(device, first, bitmap, table, mem, out),
+        Err(refusal) => refuse(Run::Ended, out, refusal),
     }
 }
 
 // A line of a run that has not begun.
-fn first_line(line: Line, bitmap: &mut [u8], table: &mut [u64], mem: &[u8], out: &mut [u8]) -> Shown
+#[tactic(auto, unfolding(crate::specs::Run::turn))]
+fn first_line(
+    line: Option<Line>,
+    bitmap: &mut [u8],
+    table: &mut [u64],
+    mem: &[u8],
+    out: &mut [u8],
+) -> Shown
     requires { SlotFits line }
     ensures { ComesTo (turn Run.Before line)
         (lent bitmap.old table.old mem.now)
@@ -244,9 +274,9 @@ fn first_line(line: Line, bitmap: &mut [u8], table: &mut [u64], mem: &[u8], out:
         out.old out.new result }
 {
     match line {
-        Line::First(first) => begin(first, bitmap, table, mem, out),
-        Line::Later(_) => refuse(Run::Ended, out, 13),
-        Line::Bad => refuse(Run::Ended, out, 13),
+        Some(Line::First(first)) => begin(first, bitmap, table, mem, out),
+        Some(Line::Later(_)) => refuse(Run::Ended, out, Refusal::BadLine),
+        None => refuse(Run::Ended, out, Refusal::BadLine),
     }
 }
 
@@ -265,15 +295,15 @@ fn go_on(
         out.old out.new result }
 {
     let s = apply(d, bitmap, table, mem, op);
-    let device = s.device;
-    answer(Run::On(device), s, mem, out)
+    answer(Run::On(s.device), s, mem, out)
 }
 
 // A line of a run that has a device. A creation that the host fails is refused as 10 like any other call, also the one
 // that places the device: the run goes on, with a device that is in no place.
+#[tactic(auto, unfolding(crate::specs::Run::turn))]
 fn later_line(
     d: Device,
-    line: Line,
+    line: Option<Line>,
     bitmap: &mut [u8],
     table: &mut [u64],
     mem: &mut [u8],
@@ -285,9 +315,9 @@ fn later_line(
         out.old out.new result }
 {
     match line {
-        Line::First(_) => refuse(Run::On(d), out, 13),
-        Line::Later(op) => go_on(d, op, bitmap, table, mem, out),
-        Line::Bad => refuse(Run::On(d), out, 13),
+        Some(Line::Later(op)) => go_on(d, op, bitmap, table, mem, out),
+        Some(Line::First(_)) => refuse(Run::On(d), out, Refusal::BadLine),
+        None => refuse(Run::On(d), out, Refusal::BadLine),
     }
 }
 

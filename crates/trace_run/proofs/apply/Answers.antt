@@ -11,25 +11,11 @@ returns-in-Host c =
     rw c.in-Host.is
     m
 
-pub returns-in-Plug : goal.returns-in-Plug
+pub returns-in-Range : goal.returns-in-Range
 unfolding op_call bytes_after
-returns-in-Plug c =
+returns-in-Range c =
     let m = c.guest_asks.ensures in
-    rw c.in-Plug.is
-    m
-
-pub returns-in-Unplug : goal.returns-in-Unplug
-unfolding op_call bytes_after
-returns-in-Unplug c =
-    let m = c.guest_asks-in-Unplug.ensures in
-    rw c.in-Unplug.is
-    m
-
-pub returns-in-State : goal.returns-in-State
-unfolding op_call bytes_after
-returns-in-State c =
-    let m = c.guest_asks-in-State.ensures in
-    rw c.in-State.is
+    rw (c.in-Range.is, ← c.type_of.ensures)
     m
 
 pub returns-in-UnplugAll : goal.returns-in-UnplugAll

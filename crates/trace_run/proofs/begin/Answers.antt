@@ -7,12 +7,12 @@ use Rattle.trace_run.proofs.Laws.{printed_comes}
 use Rattle.trace_run.proofs.begin.Goals as goal
 
 pub put_in_place-requires : goal.put_in_place-requires
-put_in_place-requires c = ((made_new _ _ _ _ _ _ (sym c.new-made.ensures.same ∙ c.in-Device.is)).shape, c.requires)
+put_in_place-requires c = ((made_new _ _ _ _ _ _ (sym c.new-made.ensures.same ∙ c.in-Ok.is)).shape, c.requires)
 
-pub returns-in-Refused : goal.returns-in-Refused
+pub returns-in-Err : goal.returns-in-Err
 unfolding begun_on
-returns-in-Refused c = rw (← c.new-made.ensures.same, c.in-Refused.is) (printed_comes _ c.refuse.ensures)
+returns-in-Err c = rw (← c.new-made.ensures.same, c.in-Err.is) (printed_comes _ c.refuse.ensures)
 
-pub returns-in-Device : goal.returns-in-Device
+pub returns-in-Ok : goal.returns-in-Ok
 unfolding begun_on
-returns-in-Device c = rw (← c.new-made.ensures.same, c.in-Device.is) c.put_in_place.ensures
+returns-in-Ok c = rw (← c.new-made.ensures.same, c.in-Ok.is) c.put_in_place.ensures

@@ -1,19 +1,24 @@
 -- SPDX-License-Identifier: Apache-2.0 AND BSD-3-Clause
--- `trace_run::count_slots` meets its contract. The invariant: the slots before `i` count up from the first. The measure is what is left of them.
+-- `trace_run::count_slots` meets its contract.
 use mathlib.Core.Path.{refl}
 use native.Mathlib.Omega.{arith}
 use lib.ListN.{length-set}
-use borrow.Author.Rules.{rules}
 use Rattle.trace_run.specs.Run.{counted_from}
 use Rattle.trace_run.proofs.Laws.{counted_turn, counted_end}
 use Rattle.trace_run.proofs.count_slots.Goals as goal
 
 pub loop-i-init : goal.loop-i-init
 unfolding counted_from
-loop-i-init c = (search rules, search rules, refl)
+loop-i-init c = (refl, refl)
 
 pub loop-i-preserved : goal.loop-i-preserved
-loop-i-preserved c = (search rules, simp length-set (omega arith), counted_turn _ _ _ c.loop-i-test.true c.loop-i.invariant.2)
+loop-i-preserved c =
+    let e = c.loop-i.invariant.0 in
+    let t = c.loop-i-test.true in
+    (simp length-set (omega arith), counted_turn _ _ _ (omega arith) c.loop-i.invariant.1)
 
 pub returns : goal.returns
-returns c = counted_end _ _ _ _ (omega arith) (omega arith) c.loop-i.invariant.2
+returns c =
+    let e = c.loop-i.invariant.0 in
+    let t = c.loop-i-test.false in
+    counted_end _ _ _ _ (omega arith) (omega arith) c.loop-i.invariant.1

@@ -5,4 +5,4 @@ use Rattle.text.proofs.Puts.{then}
 use Rattle.trace_run.proofs.refuse.Goals as goal
 
 pub returns : goal.returns
-returns c = record { stands = refl; said = refl; printed = then c.put_refusal-end.ensures c.put.ensures }
+returns c = record { stands = refl; said = refl; printed = then (rw c.number.ensures at c.put_refusal-end.ensures) c.put.ensures }
