@@ -1,6 +1,6 @@
 -- SPDX-License-Identifier: Apache-2.0 AND BSD-3-Clause
 -- Which sentence comes for which answer to a line (R12.13). Those of refusals and responses are in crates of their own.
-use Rattle.std.specs.Prelude.{ℕ, Bool, List, [], ◌∷◌}
+use Rattle.std.specs.Prelude.{ℕ, Bool, List, [], ◌∷◌, Option, Some, None}
 use Rattle.units.specs.declared.GuestAddr.{GuestAddr}
 use Rattle.units.specs.declared.RegionOffset.{RegionOffset}
 use Rattle.text.specs.Words.{bytes}
@@ -12,7 +12,9 @@ use Rattle.step.specs.declared.Reply.{Reply}
 use Rattle.step.specs.declared.Answer.{Answer}
 use Rattle.step.specs.declared.Answer.TheVariants.{Refused, Wants, Sized, Unserved, Served, Done}
 use Rattle.trace_text.specs.declared.Line.{Line}
-use Rattle.trace_text.specs.declared.Line.TheVariants.{First, Later, Bad}
+use Rattle.trace_text.specs.declared.Line.TheVariants.{First, Later}
+use Rattle.chain.specs.declared.NoRequest.{NoRequest}
+use Rattle.chain.specs.Chain.{reason}
 use Rattle.spans.specs.Spans.{in_mib}
 use Rattle.refusals.specs.Refusals.{refused_text}
 use Rattle.responses.specs.Responses.{reply_text}
@@ -33,24 +35,24 @@ abbrev pub sized : Device → List ℕ
 sized d = filled (bytes "done: requested is # MiB now, usable # MiB") (in_mib d.config.requested_size ∷ in_mib d.config.usable_region_size ∷ [])
 
 -- R9.7, R9.8
-abbrev pub unserved : (reason : ℕ) → List ℕ
-unserved reason = filled (bytes "no request (#): the chain is none, or its type is unknown") (reason ∷ [])
+abbrev pub unserved : NoRequest → List ℕ
+unserved why = filled (bytes "no request (#): the chain is none, or its type is unknown") (reason why ∷ [])
 
 -- R12.8: nothing comes of a line after the end
 abbrev pub ended : List ℕ
 ended = filled (bytes "nothing: the run has ended") []
 
 -- only a later line is a request, and has a response
-unfoldable pub served_text : Reply → Line → (before after : Device) → List Bool → List ℕ
-served_text reply (First f) before after bs = ended
-served_text reply (Later op) before after bs = reply_text reply op before after bs
-served_text reply Bad before after bs = ended
+unfoldable pub served_text : Reply → Option Line → (before after : Device) → List Bool → List ℕ
+served_text reply (Some (First f)) before after bs = ended
+served_text reply (Some (Later op)) before after bs = reply_text reply op before after bs
+served_text reply None before after bs = ended
 
 -- the sentence of an answer to a line, with the record before and after it, and the blocks as they are after it
-unfoldable pub sentence : Line → (before after : Device) → List Bool → Answer → List ℕ
-sentence line before after bs (Refused n) = refused_text n line before after
+unfoldable pub sentence : Option Line → (before after : Device) → List Bool → Answer → List ℕ
+sentence line before after bs (Refused refusal) = refused_text refusal line before after
 sentence line before after bs (Wants call) = wants_text call
 sentence line before after bs Sized = sized after
-sentence line before after bs (Unserved reason) = unserved reason
+sentence line before after bs (Unserved why) = unserved why
 sentence line before after bs (Served reply) = served_text reply line before after bs
 sentence line before after bs Done = ended
