@@ -1,16 +1,13 @@
 -- SPDX-License-Identifier: Apache-2.0 AND BSD-3-Clause
 -- What is shown of a line grows by one byte at its end; and what a line is told to be is told of its turn.
-use Prim.Native.Nat.{ℕ, ◌+◌, ◌<◌, min}
-use mathlib.Core.Path.{◌≡◌, refl, sym, ap, ◌∙◌}
+use Rattle.std.specs.Prelude.{Option}
+use Prim.Native.Nat.{ℕ, ◌+◌, ◌<◌}
+use mathlib.Core.Path.{◌≡◌, refl, ap}
 use mathlib.Core.Bool.{Bool}
 use mathlib.Core.List.{List, [], ◌∷◌, ◌++◌}
 use native.Mathlib.Numerals.{add-one}
-use native.Mathlib.Omega.{arith}
-use borrow.Author.Tests.{leb-true, leb-false}
-use lib.Dec.{leb}
 use lib.ListN.{length, take, get_or}
-use lib.Seq.{take-suc, take_all}
-use Rattle.units.proofs.Tests.{by_test}
+use lib.Seq.{take-suc}
 use Rattle.record.specs.declared.Device.{Device}
 use Rattle.step.specs.declared.Answer.{Answer}
 use Rattle.trace_text.specs.declared.Line.{Line}
@@ -28,14 +25,7 @@ pub visible_more : (s : List ℕ) (i : ℕ) → i < length s → visibles (take 
 unfolding visibles
 visible_more s i h = rw (add-one, take-suc s i 0 h) (visibles_append (take i s) (get_or s i 0 ∷ []))
 
--- the first bytes, as many as there are
-pub take_end : (s : List ℕ) (i n : ℕ) → i ≡ min (length s) n → take i s ≡ take n s
-take_end s i n e =
-    by_test (leb (length s) n)
-    (λ t. let h = leb-true (length s) n t in take_all i s (omega arith) ∙ sym (take_all n s (omega arith)))
-    (λ t. let h = leb-false (length s) n t in let f : i ≡ n = omega arith in rw f)
-
-module _ (run : Run) (line : Line) (t : Turn) where
+module _ (run : Run) (line : Option Line) (t : Turn) where
   pub told : (next : Run) (answer : Answer) (bs : List Bool) (before after : Device)
       → next ≡ t.run → answer ≡ t.answer → bs ≡ t.left.blocks → after ≡ device_in next no_device → before ≡ device_in run after
       → sentence line before after bs answer ≡ said_of run line t

@@ -1,6 +1,6 @@
 -- SPDX-License-Identifier: Apache-2.0 AND BSD-3-Clause
 -- A line of a trace, explained (R12.13): the line as it is shown, its answer, and its sentence.
-use Rattle.std.specs.Prelude.{ℕ, false, cond, ◌&&◌, List, [], ◌∷◌, ◌++◌, leb, length, take}
+use Rattle.std.specs.Prelude.{ℕ, false, cond, ◌&&◌, List, [], ◌∷◌, ◌++◌, leb, length, take, Option}
 use Rattle.wire.specs.Layout.{new_config}
 use Rattle.record.specs.declared.Device.{Device}
 use Rattle.record.specs.declared.Pending.TheVariants.{Nothing}
@@ -54,14 +54,14 @@ device_in (On e) d = e
 device_in Ended d = d
 
 -- the sentence of a line in a run: of its answer, with the record before and after it; the first line has the same for both
-abbrev pub said_of : Run → Line → Turn → List ℕ
+abbrev pub said_of : Run → Option Line → Turn → List ℕ
 said_of run line t =
     let after = device_in t.run no_device in
     sentence line (device_in run after) after t.left.blocks t.answer
 
 -- the bytes s read as one line: what that line comes to is given, its answer is put into one buffer, and its sentence into another
 pub record Explains (run : Run) (s : List ℕ) (before after : Lent) (out out' said said' : List ℕ) (r : Explained) : Type 0 where
-  pub line : Line
+  pub line : Option Line
   pub reads : Reads s line
   pub comes : ComesTo (turn run line) before after out out' r.shown
   pub told : Put said 0 (said_of run line (turn run line (meant before))) said' r.said

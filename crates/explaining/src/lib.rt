@@ -1,5 +1,6 @@
 // SPDX-License-Identifier: Apache-2.0 AND BSD-3-Clause
-// A line of a trace, explained: what is shown of it, its answer, and one sentence.
+// A line of a trace, explained: what is shown of it, its answer, and one sentence. A buffer and a position in it, and
+// bitmap, table and guest memory, stay parameters of their own, as `forms` and `trace_run` take them: all are lent.
 #![tactic(auto)]
 
 ghost use Rattle.std.specs.Prelude.{◌≡◌, take};
@@ -11,14 +12,14 @@ ghost use Rattle.explaining.specs.Explaining.{no_device, device_in, Explains};
 use forms::put_form_at;
 use record::{Device, Pending};
 use sentences::put_sentence;
+use spans::Records;
 use text::put;
-use trace_run::{Run, Shown, serve};
+use trace_run::{Run, Shown, first_bytes, serve};
 use trace_text::read_line;
-use units::smaller;
 use wire::VirtioMemConfig;
 
 // R12.1.
-const LONGEST: u64 = 200;
+const LONGEST: usize = 200;
 
 // What a line has come to, with the length of its answer, and the length of its sentence.
 #[derive(Clone, Copy)]
@@ -28,6 +29,7 @@ pub struct Explained {
 }
 
 // The byte that is shown for a byte.
+#[tactic(auto, unfolding(crate::specs::Explaining::visible))]
 fn shown_as(x: u8) -> u8
     ensures { result ≡ visible x }
 {
@@ -38,18 +40,16 @@ fn shown_as(x: u8) -> u8
 fn put_visible(out: &mut [u8], at: usize, line: &[u8]) -> usize
     ensures { Put out.old at (visibles (take 200 line.now)) out.new result }
 {
-    let end = smaller(line.len() as u64, LONGEST) as usize;
     let mut to = forms::within(at, out.len());
-    let mut i = 0;
-    while i < end {
-        to = put(out, to, shown_as(line[i]));
-        i += 1;
+    let first = first_bytes(line, LONGEST);
+    for x in first {
+        to = put(out, to, shown_as(*x));
     }
     to
 }
 
 // Says that a line is cut, where it is.
-fn put_cut(out: &mut [u8], at: usize, length: u64) -> usize
+fn put_cut(out: &mut [u8], at: usize, length: usize) -> usize
     ensures { Put out.old at (cut_text length) out.new result }
 {
     if length <= LONGEST {
@@ -64,33 +64,31 @@ pub fn put_shown(out: &mut [u8], at: usize, line: &[u8]) -> usize
     ensures { Put out.old at (shown_text line.now) out.new result }
 {
     let to = put_visible(out, at, line);
-    put_cut(out, to, line.len() as u64)
+    put_cut(out, to, line.len())
 }
 
 // The record of a run that has no device.
 fn no_device() -> Device
     ensures { result ≡ no_device }
 {
-    let config = VirtioMemConfig::new(0, 0, 0, 0);
-    let pending = Pending::Nothing;
     Device {
-        config: config,
+        config: VirtioMemConfig::new(0, 0, 0, 0),
         alignment: 0,
         several: false,
         avail_features: 0,
         placed: false,
-        pending: pending,
+        pending: Pending::Nothing,
     }
 }
 
 // The device on which a run stands, or another.
+#[tactic(auto, unfolding(crate::specs::Explaining::device_in))]
 fn device_in(run: Run, other: Device) -> Device
     ensures { result ≡ device_in run other }
 {
     match run {
-        Run::Before => other,
         Run::On(device) => device,
-        Run::Ended => other,
+        _ => other,
     }
 }
 
@@ -113,13 +111,9 @@ pub fn explain(
 {
     let read = read_line(line);
     let shown = serve(run, bitmap, table, mem, line, out);
-    let next = shown.run;
-    let answer = shown.answer;
-    let after = device_in(next, no_device());
+    let after = device_in(shown.run, no_device());
     let before = device_in(run, after);
-    let told = put_sentence(said, 0, read, before, after, &bitmap[..], answer);
-    Explained {
-        shown: shown,
-        said: told,
-    }
+    let records = Records { before, after };
+    let said = put_sentence(said, 0, read, records, &bitmap[..], shown.answer);
+    Explained { shown, said }
 }

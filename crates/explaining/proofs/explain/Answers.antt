@@ -20,5 +20,5 @@ returns c =
       comes = came;
       told =
           rw (← told a.run read.result turns _ _ _ _ _ came.stands came.said came.leaves.marked after c.device_in-before.ensures)
-          c.put_sentence-told.ensures;
+          c.put_sentence-said.ensures;
     }

@@ -1,13 +1,9 @@
 -- SPDX-License-Identifier: Apache-2.0 AND BSD-3-Clause
--- `explaining::put_visible` meets its contract. The invariant: the first i bytes are put. The measure is what is left.
-use Prim.Native.Nat.{◌-◌, ◌≤◌}
+-- The invariant of the loop of `explaining::put_visible`: the first bytes, as many as there were turns, are put.
 use lib.ListN.{take}
 use Rattle.text.specs.Putting.{Put}
 use Rattle.explaining.specs.Explaining.{visibles}
 use Rattle.explaining.proofs.put_visible.Given as goal
 
-abbrev pub invariant-loop-i : goal.invariant-loop-i
-invariant-loop-i l = (l.i ≤ l.end) × Put l.initial.out l.at (visibles (take l.i l.line)) l.out l.to
-
-abbrev pub decreases-loop-i : goal.decreases-loop-i
-decreases-loop-i l = l.end - l.i
+abbrev pub invariant-loop-x : goal.invariant-loop-x
+invariant-loop-x l = Put l.initial.out l.at (visibles (take l.x-index l.first)) l.out l.to
