@@ -4,7 +4,7 @@ use super::parts::{Row, front, narrow};
 use forms::{put_form, put_form_at};
 use little_endian::{copy, from};
 use std::num::wrapping_sub_usize;
-use trace_text::{FirstLine, Line, Op};
+use trace_text::{FirstLine, Line, Op, RangeOp};
 use units::{GuestAddr, HostAddr, RegionOffset};
 
 // The byte that a byte of the table stands for: a tab, the end of a line in other systems, and 0 have a stand-in.
@@ -57,9 +57,9 @@ struct Later(u8, u64, u64);
 fn later_of(op: Op) -> Later {
     match op {
         Op::Host { ok, addr } => Later(b'h', ok as u64, addr.0),
-        Op::Plug { addr, blocks } => Later(b'p', addr.0, blocks as u64),
-        Op::Unplug { addr, blocks } => Later(b'u', addr.0, blocks as u64),
-        Op::State { addr, blocks } => Later(b's', addr.0, blocks as u64),
+        Op::Range { op: RangeOp::Plug, addr, blocks } => Later(b'p', addr.0, blocks as u64),
+        Op::Range { op: RangeOp::Unplug, addr, blocks } => Later(b'u', addr.0, blocks as u64),
+        Op::Range { op: RangeOp::State, addr, blocks } => Later(b's', addr.0, blocks as u64),
         Op::UnplugAll => Later(b'a', 0, 0),
         Op::Size { mib } => Later(b'm', mib, 0),
     }
@@ -70,11 +70,11 @@ fn put_later(out: &mut [u8], later: Later) -> usize {
     put_form_at(out, to, b" # #", &[later.1, later.2])
 }
 
-fn put_line(out: &mut [u8], line: Line) -> usize {
+fn put_line(out: &mut [u8], line: Option<Line>) -> usize {
     match line {
-        Line::First(f) => put_first(out, f),
-        Line::Later(op) => put_later(out, later_of(op)),
-        Line::Bad => put_form(out, b"13", &[0]),
+        Some(Line::First(f)) => put_first(out, f),
+        Some(Line::Later(op)) => put_later(out, later_of(op)),
+        None => put_form(out, b"13", &[0]),
     }
 }
 
