@@ -32,7 +32,7 @@ use units::{GuestAddr, HostAddr};
 use wire::VirtioMemReq;
 use words::{RECORD_WORDS, decode, encode, encode_answer, encode_request};
 
-// The node of a device, as the enum of its constructor has it.
+// The node of a device, if one is given.
 fn node_of(node_given: bool, node: u16) -> Option<u16>
     ensures { result ≡ node_of node_given node }
 {
