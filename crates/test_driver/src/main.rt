@@ -5,11 +5,12 @@
 #![tactic(auto)]
 
 use bitmap::{count_set, set_range};
-use driver::{GotConfig, GotResponse, Proposal};
+use driver::Plug;
 use forms::{put_form, scan};
+use refusal::Refusal;
 use std::num::wrapping_add_u64;
 use std::{fs, io};
-use test_support::{front, run_rows};
+use test_support::{front, narrow, run_rows};
 use units::{GuestAddr, MemTool};
 use wire::{VirtioMemConfig, VirtioMemReq};
 
@@ -25,22 +26,22 @@ fn bytes_of(v: Row) -> [u8; 58] {
     bytes
 }
 
-fn refused(out: &mut [u8], n: u64) -> usize {
-    put_form(out, b"refuse=#", &[n])
+fn refused(out: &mut [u8], refusal: Refusal) -> usize {
+    put_form(out, b"refuse=#", &[refusal.number()])
 }
 
 fn write_request(out: &mut [u8], v: Row) -> usize {
     let mut bytes = [238u8; 26];
     let lent = v[0] as usize;
     let req = VirtioMemReq {
-        req_type: (v[1] % 65536) as u16,
+        req_type: narrow(v[1]),
         addr: GuestAddr(v[2]),
-        nb_blocks: (v[3] % 65536) as u16,
+        nb_blocks: narrow(v[3]),
     };
     if 26 < lent {
         return 0;
     }
-    let mut shown = [driver::write_request(&mut bytes[..lent], req); 27];
+    let mut shown = [refusal::code(driver::write_request(&mut bytes[..lent], req)); 27];
     for (n, byte) in shown[1..].iter_mut().zip(bytes) {
         *n = byte as u64;
     }
@@ -54,21 +55,21 @@ fn write_request(out: &mut [u8], v: Row) -> usize {
 fn read_response(out: &mut [u8], v: Row) -> usize {
     let bytes = bytes_of(v);
     match driver::read_response(front(&bytes, v[0] as usize)) {
-        GotResponse::Response(r) => {
+        Ok(r) => {
             put_form(
                 out,
                 b"type=# state=#",
                 &[r.resp_type as u64, r.state as u64],
             )
         }
-        GotResponse::Refused(n) => refused(out, n),
+        Err(refusal) => refused(out, refusal),
     }
 }
 
 fn read_config(out: &mut [u8], v: Row) -> usize {
     let bytes = bytes_of(v);
     match driver::read_config(front(&bytes, v[0] as usize)) {
-        GotConfig::Config(c) => {
+        Ok(c) => {
             let fields = [
                 c.block_size,
                 c.node_id as u64,
@@ -84,7 +85,7 @@ fn read_config(out: &mut [u8], v: Row) -> usize {
                 &fields,
             )
         }
-        GotConfig::Refused(n) => refused(out, n),
+        Err(refusal) => refused(out, refusal),
     }
 }
 
@@ -111,27 +112,23 @@ fn plan(out: &mut [u8], v: Row) -> usize {
     let mut bitmap = [0u8; 32776];
     lay(&mut bitmap, v);
     match driver::plan(config_of(v), front(&bitmap, v[6] as usize)) {
-        Proposal::Plug(addr, count) => {
-            put_form(out, b"plug addr=# blocks=#", &[addr.0, count as u64])
+        Ok(Plug { addr, nb_blocks }) => {
+            put_form(out, b"plug addr=# blocks=#", &[addr.0, nb_blocks as u64])
         }
-        Proposal::Refused(n) => refused(out, n),
+        Err(refusal) => refused(out, refusal),
     }
 }
 
 // Plans, and plugs what is proposed; or the refusal.
-fn plug(c: VirtioMemConfig, bitmap: &mut [u8], lent: usize) -> Result<VirtioMemConfig, u64> {
-    match driver::plan(c, front(bitmap, lent)) {
-        Proposal::Plug(addr, count) => {
-            let first = MemTool::blocks_in(addr.offset_from(c.addr).0, c.block_size);
-            let plugged = MemTool::bytes_of(count, (c.block_size % 4294967296) as u32);
-            set_range(bitmap, first as usize, count as usize, true);
-            Ok(VirtioMemConfig {
-                plugged_size: wrapping_add_u64(c.plugged_size, plugged),
-                ..c
-            })
-        }
-        Proposal::Refused(n) => Err(n),
-    }
+fn plug(c: VirtioMemConfig, bitmap: &mut [u8], lent: usize) -> Result<VirtioMemConfig, Refusal> {
+    let Plug { addr, nb_blocks } = driver::plan(c, front(bitmap, lent))?;
+    let first = MemTool::blocks_in(addr.offset_from(c.addr).0, c.block_size);
+    let plugged = MemTool::bytes_of(nb_blocks, (c.block_size % 4294967296) as u32);
+    set_range(bitmap, first as usize, nb_blocks as usize, true);
+    Ok(VirtioMemConfig {
+        plugged_size: wrapping_add_u64(c.plugged_size, plugged),
+        ..c
+    })
 }
 
 // Plans and plugs until a refusal; no answer where there is none after 1000 plugs.
@@ -147,7 +144,7 @@ fn drive(out: &mut [u8], v: Row) -> usize {
                 return put_form(
                     out,
                     b"plugs=# plugged=# set=# refuse=#",
-                    &[plugs, config.plugged_size, set, refusal],
+                    &[plugs, config.plugged_size, set, refusal.number()],
                 );
             }
         }

@@ -17,6 +17,7 @@ mod wires; // wire.txt
 type Row = [u64; 34];
 
 // What stands between the numbers of a call is for the reader.
+// It stands in test_device too: shared it would be public, and have a contract that is the grammar of a row.
 fn numbers_of(call: &str) -> Row {
     let mut v = [0; 34];
     let numbers = call
@@ -26,10 +27,6 @@ fn numbers_of(call: &str) -> Row {
         *slot = n;
     }
     v
-}
-
-fn narrow(n: u64) -> u16 {
-    (n % 65536) as u16
 }
 
 fn run_file<F: FnMut(&mut [u8], &str) -> usize>(

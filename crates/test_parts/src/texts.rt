@@ -1,8 +1,8 @@
 // SPDX-License-Identifier: Apache-2.0 AND BSD-3-Clause
 // texts.txt: the lines of a trace as they are read, and the answers as they are put.
-use super::{Row, narrow, numbers_of};
+use super::{Row, numbers_of};
 use forms::{put_form, put_form_at};
-use test_support::front;
+use test_support::{front, narrow};
 use trace_text::{FirstLine, Line, Op, RangeOp};
 use units::{GuestAddr, HostAddr, RegionOffset};
 
@@ -16,32 +16,13 @@ fn meant(b: u8) -> u8 {
     }
 }
 
-fn line_of(command: &[u8]) -> [u8; 256] {
-    let mut line = [0u8; 256];
-    copy(&mut line, from(command, 5));
-    let mut i: usize = 0;
-    while i < 256 {
-        line[i] = meant(line[i]);
-        i += 1;
-    }
-    line
-}
-
-// A node's number, and one more than the largest for none.
-fn number_of(node: Option<u16>) -> u64 {
-    match node {
-        None => 65536,
-        Some(n) => n as u64,
-    }
-}
-
+// Where there is no node, one more than the largest stands for it.
 fn put_first(out: &mut [u8], f: FirstLine) -> usize {
-    let node = f.node;
     let numbers = [
         f.capacity_mib,
         f.requested_mib,
         f.multi as u64,
-        node,
+        f.node.map_or(65536, |n| n as u64),
         f.boot,
         f.addr.0,
         f.slot,
@@ -53,21 +34,14 @@ fn put_first(out: &mut [u8], f: FirstLine) -> usize {
 fn put_later(out: &mut [u8], op: Op) -> usize {
     match op {
         Op::Host { ok, addr } => put_form(out, b"h # #", &[ok as u64, addr.0]),
-        Op::Range {
-            op: RangeOp::Plug,
-            addr,
-            blocks,
-        } => put_form(out, b"p # #", &[addr.0, blocks as u64]),
-        Op::Range {
-            op: RangeOp::Unplug,
-            addr,
-            blocks,
-        } => put_form(out, b"u # #", &[addr.0, blocks as u64]),
-        Op::Range {
-            op: RangeOp::State,
-            addr,
-            blocks,
-        } => put_form(out, b"s # #", &[addr.0, blocks as u64]),
+        Op::Range { op, addr, blocks } => {
+            let form = match op {
+                RangeOp::Plug => b"p # #",
+                RangeOp::Unplug => b"u # #",
+                RangeOp::State => b"s # #",
+            };
+            put_form(out, form, &[addr.0, blocks as u64])
+        }
         Op::UnplugAll => put_form(out, b"a 0 0", &[]),
         Op::Size { mib } => put_form(out, b"m # 0", &[mib]),
     }
@@ -86,6 +60,7 @@ fn read_line(out: &mut [u8], line: &str) -> usize {
     }
 }
 
+// What an answer is put as, by the call's first letter: it is the table's own text, so it is matched as it stands.
 fn put(room: &mut [u8], kind: Option<&u8>, v: Row) -> usize {
     match kind {
         Some(b'c') => answer_text::put_create(room, GuestAddr(v[1]), v[2], v[3]),

@@ -1,8 +1,8 @@
 // SPDX-License-Identifier: Apache-2.0 AND BSD-3-Clause
 // wire.txt: numbers, requests, responses and the config as bytes.
-use super::{Row, narrow, numbers_of};
+use super::{Row, numbers_of};
 use forms::put_form;
-use test_support::front;
+use test_support::{front, narrow};
 use units::GuestAddr;
 use wire::{VirtioMemConfig, VirtioMemResp};
 
@@ -86,6 +86,7 @@ fn written<F: FnOnce(&mut [u8])>(out: &mut [u8], lent: u64, write: F) -> usize
 pub fn answer(out: &mut [u8], call: &str) -> usize {
     let v = numbers_of(call);
     let at = v[1] as usize;
+    // A call's first letter is the table's own text, so it is matched as it stands.
     match call.as_bytes().first() {
         Some(b'f') => field(out, v[0] as usize),
         Some(b'n') => read(out, v, numbers),

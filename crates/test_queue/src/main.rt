@@ -26,7 +26,7 @@ mod run; // many requests, one after the other
 mod show; // what is told
 mod world; // what the calls stand on
 
-// A command by its first letter.
+// A command by its first letter, which is the table's own text, so it is matched as it stands.
 fn command(world: &mut World, letter: u8, v: Numbers) {
     match letter {
         b'B' => little_endian::write_u64(&mut world.bitmap, 0, v[0]),
@@ -78,6 +78,7 @@ fn unseen(rt: &impl Print, line: u64, letter: u8, world: &World) -> io::Result<b
 }
 
 // A row that has not what came of it.
+// It stands in test_support too: shared it would be public, and no contract says what is printed.
 fn show_row(rt: &impl Print, line: u64, row: &str, given: &[u8]) -> io::Result<()> {
     print!(rt; "line {line}: {row}\n  but got ")?;
     rt.write_all(given)?;

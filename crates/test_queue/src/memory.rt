@@ -3,6 +3,7 @@
 // A guest address stands `shift` on, modulo 2^64.
 use little_endian::{read_u16, read_u64, write_u16, write_u64};
 use std::num::wrapping_add_u64;
+use test_support::narrow;
 
 // The last places of two and of eight bytes in the memory.
 const LAST_U16: usize = 4094;
@@ -35,8 +36,8 @@ impl Memory {
     // The guest writes.
     pub fn put_u16(&mut self, addr: u64, v: u64) {
         let at = self.place(addr, LAST_U16);
-        write_u16(&mut self.bytes, at, (v % 65536) as u16);
-        write_u16(&mut self.seen, at, (v % 65536) as u16);
+        write_u16(&mut self.bytes, at, narrow(v));
+        write_u16(&mut self.seen, at, narrow(v));
     }
 
     pub fn put_u64(&mut self, addr: u64, v: u64) {

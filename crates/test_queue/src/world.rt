@@ -5,6 +5,7 @@ use record::{Device, Pending};
 use rings::Queue;
 use std::num::wrapping_sub_u64;
 use step::Answer;
+use test_support::narrow;
 use units::GuestAddr;
 use wire::VirtioMemConfig;
 
@@ -49,23 +50,14 @@ pub struct World {
 
 // The head that is out by the queue's word: the head plus 1, or 0 where none is.
 pub fn taken_of(word: u64) -> Option<u16> {
-    if word == 0 {
-        return None;
-    }
-    Some(((word - 1) % 65536) as u16)
+    word.checked_sub(1).map(narrow)
 }
 
 pub fn word_of(taken: Option<u16>) -> u64 {
-    match taken {
-        None => 0,
-        Some(head) => head as u64 + 1,
-    }
+    taken.map_or(0, |head| head as u64 + 1)
 }
 
-fn index_of(n: u64) -> u16 {
-    (n % 65536) as u16
-}
-
+// What is pending, by the number that the table has for it.
 fn pending_of(v: Numbers) -> Pending {
     match v[0] {
         0 => Pending::Nothing,
@@ -163,8 +155,8 @@ impl World {
     }
 
     pub fn set_next(&mut self, available: u64, used: u64) {
-        self.queue.next_available = index_of(available);
-        self.queue.next_used = index_of(used);
+        self.queue.next_available = narrow(available);
+        self.queue.next_used = narrow(used);
     }
 
     pub fn set_rings(&mut self, v: Numbers) {

@@ -6,7 +6,6 @@ use bitmap::{count_set, set_range};
 use forms::put_form;
 use little_endian::read_u64;
 use record::{Device, Pending};
-use saving::Restored;
 use std::num::wrapping_sub_usize;
 use test_support::front;
 use trace_run::{Run, serve};
@@ -76,8 +75,8 @@ impl World {
             return 0;
         };
         match saving::restore(self.device, bitmap, s) {
-            Restored::Refused(n) => refused(out, n, self.count() == before),
-            Restored::Device(d) => {
+            Err(refusal) => refused(out, refusal, self.count() == before),
+            Ok(d) => {
                 self.device = d;
                 let c = d.config;
                 put_form(

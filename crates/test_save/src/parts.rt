@@ -2,6 +2,7 @@
 // Parts of a row, its fields, and what is lent to a call.
 use bitmap::set_range;
 use forms::put_form;
+use refusal::Refusal;
 use save::Fields;
 
 // The numbers of a row, in their order, and 0 where there are no more. Where there are fields they come first, then
@@ -52,10 +53,14 @@ pub fn lay(bitmap: &mut [u8], v: Row) {
     }
 }
 
-// A refusal, as an answer; `touched` where the call changed something.
-pub fn refused(out: &mut [u8], n: u64, is_untouched: bool) -> usize {
-    if is_untouched {
-        return put_form(out, b"refuse=#", &[n]);
-    }
+pub fn touched(out: &mut [u8]) -> usize {
     put_form(out, b"touched", &[])
+}
+
+// A refusal, as an answer; `touched` where the call changed something.
+pub fn refused(out: &mut [u8], refusal: Refusal, is_untouched: bool) -> usize {
+    if is_untouched {
+        return put_form(out, b"refuse=#", &[refusal.number()]);
+    }
+    touched(out)
 }

@@ -1,10 +1,11 @@
 // SPDX-License-Identifier: Apache-2.0 AND BSD-3-Clause
 // Texts and old bytes: measured, written, read, and moved into the other form.
-use super::parts::{Row, UNTOUCHED, fields_of, lay, refused, swap, untouched};
+use super::parts::{Row, UNTOUCHED, fields_of, lay, refused, swap, touched, untouched};
 use bitmap::count_set;
 use forms::{put_form, put_form_at};
 use little_endian::{copy, read_u64};
-use save::{Checked, Fields, Got, Wrote};
+use refusal::Refusal;
+use save::Fields;
 use test_support::front;
 use text::put;
 use units::MemTool;
@@ -13,12 +14,12 @@ use units::MemTool;
 pub const ONES: u8 = 255;
 
 // A text that was written into a buffer, as an answer.
-pub fn told_text(out: &mut [u8], wrote: Wrote, buffer: &[u8]) -> usize {
+pub fn told_text(out: &mut [u8], wrote: Result<u64, Refusal>, buffer: &[u8]) -> usize {
     match wrote {
-        Wrote::Refused(n) => refused(out, n, untouched(buffer, 0, UNTOUCHED)),
-        Wrote::Text(n) => {
+        Err(refusal) => refused(out, refusal, untouched(buffer, 0, UNTOUCHED)),
+        Ok(n) => {
             if !untouched(buffer, n as usize, UNTOUCHED) {
-                return refused(out, 0, false);
+                return touched(out);
             }
             copy(out, front(buffer, n as usize));
             swap(out);
@@ -39,10 +40,10 @@ pub fn write(out: &mut [u8], v: Row) -> usize {
     told_text(out, wrote, &buffer)
 }
 
-pub fn told_length(out: &mut [u8], long: Wrote) -> usize {
+pub fn told_length(out: &mut [u8], long: Result<u64, Refusal>) -> usize {
     match long {
-        Wrote::Text(n) => put_form(out, b"length=#", &[n]),
-        Wrote::Refused(n) => refused(out, n, true),
+        Ok(n) => put_form(out, b"length=#", &[n]),
+        Err(refusal) => refused(out, refusal, true),
     }
 }
 
@@ -68,7 +69,7 @@ fn put_fields(out: &mut [u8], f: Fields) -> usize {
 fn told_state(out: &mut [u8], f: Fields, bitmap: &[u8]) -> usize {
     let all = MemTool::blocks_in(f.region, f.block) as usize;
     if !untouched(bitmap, all / 8, ONES) {
-        return refused(out, 0, false);
+        return touched(out);
     }
     let to = put_fields(out, f);
     put_form_at(
@@ -80,10 +81,10 @@ fn told_state(out: &mut [u8], f: Fields, bitmap: &[u8]) -> usize {
 }
 
 // What was read, as an answer.
-fn told_read(out: &mut [u8], got: Got, bitmap: &[u8]) -> usize {
+fn told_read(out: &mut [u8], got: Result<Fields, Refusal>, bitmap: &[u8]) -> usize {
     match got {
-        Got::Refused(n) => refused(out, n, untouched(bitmap, 0, ONES)),
-        Got::Fields(f) => told_state(out, f, bitmap),
+        Err(refusal) => refused(out, refusal, untouched(bitmap, 0, ONES)),
+        Ok(f) => told_state(out, f, bitmap),
     }
 }
 
@@ -97,26 +98,11 @@ pub fn read(out: &mut [u8], v: Row, s: &[u8]) -> usize {
     told_read(out, got, &bitmap)
 }
 
-// The number that a text is refused as where it is read, and where it is only checked.
-fn refusal_of(got: Got) -> Option<u64> {
-    match got {
-        Got::Refused(n) => Some(n),
-        Got::Fields(_) => None,
-    }
-}
-
-fn refusal_of_check(s: &[u8]) -> Option<u64> {
-    match save::check(s) {
-        Checked::Refused(n) => Some(n),
-        Checked::State { .. } => None,
-    }
-}
-
-// text: a text, checked and read, with the same number; there is no answer where there are two.
+// text: a text, checked and read, with the same refusal or none; there is no answer where there are two.
 pub fn check(out: &mut [u8], s: &[u8]) -> usize {
     let mut bitmap = [ONES; 32776];
     let got = save::read(s, 262144, &mut bitmap);
-    if refusal_of(got) != refusal_of_check(s) {
+    if got.err() != save::check(s).err() {
         return 0;
     }
     told_read(out, got, &bitmap)
@@ -177,13 +163,13 @@ pub fn to_old(out: &mut [u8], v: Row, s: &[u8]) -> usize {
     told_old(out, got, &old, untouched(&scratch, 0, ONES))
 }
 
-fn told_old(out: &mut [u8], got: Got, old: &[u8], same: bool) -> usize {
+fn told_old(out: &mut [u8], got: Result<Fields, Refusal>, old: &[u8], same: bool) -> usize {
     match got {
-        Got::Refused(n) => refused(out, n, same & untouched(old, 0, UNTOUCHED)),
-        Got::Fields(f) => {
+        Err(refusal) => refused(out, refusal, same & untouched(old, 0, UNTOUCHED)),
+        Ok(f) => {
             let all = MemTool::blocks_in(f.region, f.block) as usize;
             if !untouched(old, all, UNTOUCHED) {
-                return refused(out, 0, false);
+                return touched(out);
             }
             let at = put_fields(out, f);
             let to = put_form_at(out, at, b" old=", &[]);

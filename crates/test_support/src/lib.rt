@@ -2,7 +2,7 @@
 // What the tests share: tables, whose rows are a call and, behind an arrow, its known answer.
 #![tactic(auto)]
 
-ghost use Rattle.std.specs.Prelude.{◌≡◌, ◌+◌, ◌-◌, ◌^◌, ◌≤◌, min, take, length, IfOk};
+ghost use Rattle.std.specs.Prelude.{◌≡◌, ◌+◌, ◌-◌, ◌^◌, ◌%◌, ◌≤◌, min, take, length, IfOk};
 
 use std::{fmt, io};
 
@@ -27,6 +27,13 @@ impl fmt::Display for Count {
     fn fmt<W: fmt::Write>(&self, f: &mut fmt::Formatter<W>) -> fmt::Result {
         write!(f, "{} rows, {} differ", self.rows, self.differing)
     }
+}
+
+// A number of a table in two bytes.
+pub fn narrow(n: u64) -> u16
+    ensures { result ≡ n % 65536 }
+{
+    (n % 65536) as u16
 }
 
 // The first bytes, where there are so many.
@@ -58,6 +65,7 @@ fn show(rt: &impl Print, line: Option<u64>, row: &str, given: &[u8]) -> io::Resu
 
 // Runs each row of a table, shows those that have another answer, or none, which is an empty one, and counts. A line
 // that is empty, begins with # or is a form, behind a key, is no row.
+// `is_numbered` stays a bool: it says one thing, whether a row is shown with its line's number, and chooses no step.
 pub fn run_rows<F: FnMut(&mut [u8], &str) -> usize>(
     rt: &impl Print,
     text: &str,
