@@ -1,13 +1,8 @@
 // SPDX-License-Identifier: Apache-2.0 AND BSD-3-Clause
 // The bitmap: calls on three bytes and on those that are lent, and sweeps over the counts 0 to 24 of the ranges from
 // one block on.
-<<<<<<< HEAD
-use super::lines::{Numbers, small};
-use super::show::{end, number, word};
-=======
 use super::world::World;
 use super::{Line, small};
->>>>>>> 3863932998deaa795b907c6bedc4d16e9be130a3
 use std::io;
 
 const LAST: usize = 18446744073709551615;
@@ -16,79 +11,10 @@ fn byte(n: u64) -> u8 {
     (n % 256) as u8
 }
 
-<<<<<<< HEAD
-fn hex_digit(n: u8) -> u8 {
-    let digit = n % 16;
-    if digit < 10 {
-        return b'0' + digit;
-    }
-    b'a' + (digit - 10)
-}
-
-fn hex(rt: &impl Print, b: u8) -> io::Result<()> {
-    let digits = [hex_digit(b / 16), hex_digit(b)];
-    word(rt, &digits)
-}
-
-fn show_three(rt: &impl Print, bytes: [u8; 3]) -> io::Result<()> {
-    word(rt, b" ")?;
-    hex(rt, bytes[0])?;
-    hex(rt, bytes[1])?;
-    hex(rt, bytes[2])
-}
-
-fn show_five(rt: &impl Print, bytes: [u8; 5]) -> io::Result<()> {
-    word(rt, b" ")?;
-    hex(rt, bytes[0])?;
-    hex(rt, bytes[1])?;
-    hex(rt, bytes[2])?;
-    hex(rt, bytes[3])?;
-    hex(rt, bytes[4])
-}
-
-fn show_found(rt: &impl Print, found: Option<usize>) -> io::Result<()> {
-    match found {
-        Some(block) => number(rt, b" ", block as u64),
-        None => word(rt, b" nothing"),
-    }
-}
-
-// The state of a range: 1 all plugged, 0 all unplugged, - neither, = both, which is no block.
-fn show_state(rt: &impl Print, bitmap: &[u8], first: usize, count: usize) -> io::Result<()> {
-    let plugged = bitmap::all_in_state(bitmap, first, count, true);
-    let unplugged = bitmap::all_in_state(bitmap, first, count, false);
-    if plugged & unplugged {
-        word(rt, b"=")
-    } else if plugged {
-        word(rt, b"1")
-    } else if unplugged {
-        word(rt, b"0")
-    } else {
-        word(rt, b"-")
-    }
-}
-
-// Five bytes of one value, of which a sweep lends some: the others are to stay.
-fn five(value: u8) -> [u8; 5] {
-    [value, value, value, value, value]
-}
-
-fn test_five(
-    rt: &impl Print,
-    value: u8,
-    bytes: usize,
-    first: usize,
-    count: usize,
-) -> io::Result<()> {
-    let map = five(value);
-    if bytes < 6 {
-        return show_state(rt, &map[..bytes], first, count);
-=======
 fn show_bytes(rt: &impl Print, bytes: &[u8]) -> io::Result<()> {
     print!(rt; " ")?;
     for byte in bytes {
         print!(rt; "{byte:02x}")?;
->>>>>>> 3863932998deaa795b907c6bedc4d16e9be130a3
     }
     Ok(())
 }

@@ -1,11 +1,11 @@
 // SPDX-License-Identifier: Apache-2.0 AND BSD-3-Clause
 // Raw descriptors, and what the chain makes of them, by itself and through a reader that holds the memory.
-use super::{Line, narrow, small};
-use chain::Parsed;
+use super::{Line, small};
+use chain::Asked;
 use chain_reader::{parse_chain, second_link};
 use little_endian::{write_u16, write_u32, write_u64};
 use std::io;
-use test_support::front;
+use test_support::{front, narrow};
 use units::GuestAddr;
 use wire::VirtioMemResp;
 
@@ -33,44 +33,22 @@ fn lay_request(mem: &mut [u8], at: u16) {
 
 // Parses, and writes the request or the reason.
 fn parse(rt: &impl Print, mem: &[u8], base: u64, table: u64, head: u64) -> io::Result<()> {
-    let parsed = chain::parse(mem, GuestAddr(base), GuestAddr(table), narrow(head));
-    match parsed {
-        Parsed::Request(req, status) => {
+    match chain::parse(mem, GuestAddr(base), GuestAddr(table), narrow(head)) {
+        Ok(Asked { request, status }) => {
             println!(rt;
                 ": type={} addr={} blocks={} status={}",
-                req.req_type, req.addr.0, req.nb_blocks, status.0
+                request.req_type, request.addr.0, request.nb_blocks, status.0
             )
         }
-        Parsed::Bad(_) => println!(rt; ": reason={}", parsed.reason()),
+        Err(reason) => println!(rt; ": reason={}", reason.number()),
     }
 }
 
 // Where `size` bytes lie in the memory.
-<<<<<<< HEAD
-fn place(
-    rt: &impl Print,
-    name: &[u8],
-    mem: &[u8],
-    base: u64,
-    addr: u64,
-    size: u64,
-) -> io::Result<()> {
-    word(rt, name)?;
-    let Some(at) = descriptors::place_of(mem, GuestAddr(base), GuestAddr(addr), size) else {
-        return word(rt, b": outside\n");
-    };
-    print(rt, b": at=#\n", &[at as u64])
-}
-
-fn show(rt: &impl Print, bytes: &[u8]) -> io::Result<()> {
-    for b in bytes {
-        number(rt, b" ", wide(*b))?;
-=======
 fn place(rt: &impl Print, mem: &[u8], base: u64, addr: u64, size: u64) -> io::Result<()> {
     match descriptors::place_of(mem, GuestAddr(base), GuestAddr(addr), size) {
-        Place::At(at) => println!(rt; ": at={at}"),
-        Place::Outside => println!(rt; ": outside"),
->>>>>>> 3863932998deaa795b907c6bedc4d16e9be130a3
+        Some(at) => println!(rt; ": at={at}"),
+        None => println!(rt; ": outside"),
     }
 }
 
@@ -94,28 +72,19 @@ fn deliver(rt: &impl Print, base: u64, status: u64) -> io::Result<()> {
 
 // The request or the reason, and the second descriptor, by a reader that holds the memory.
 fn read(rt: &impl Print, mem: &[u8], head: u16) -> io::Result<()> {
-<<<<<<< HEAD
-    show_read(rt, mem, head)?;
-    let Some(second) = second_link(mem, GuestAddr(4096), GuestAddr(4096), head) else {
-        return word(rt, b", no second\n");
-    };
-    print(rt, b", second at #\n", &[second.addr.0])
-=======
-    let parsed = parse_chain(mem, START, START, head);
-    match parsed {
-        Parsed::Request(req, status) => {
+    match parse_chain(mem, START, START, head) {
+        Ok(Asked { request, status }) => {
             print!(rt;
                 "head {head} type {} addr {} blocks {} status {}",
-                req.req_type, req.addr.0, req.nb_blocks, status.0
+                request.req_type, request.addr.0, request.nb_blocks, status.0
             )?;
         }
-        Parsed::Bad(_) => print!(rt; "head {head} reason {}", parsed.reason())?,
+        Err(reason) => print!(rt; "head {head} reason {}", reason.number())?,
     }
     match second_link(mem, START, START, head) {
-        Link::Is(second) => println!(rt; ", second at {}", second.addr.0),
-        Link::Missing => println!(rt; ", no second"),
+        Some(second) => println!(rt; ", second at {}", second.addr.0),
+        None => println!(rt; ", no second"),
     }
->>>>>>> 3863932998deaa795b907c6bedc4d16e9be130a3
 }
 
 // Whether a line is a command.

@@ -1,93 +1,91 @@
 // SPDX-License-Identifier: Apache-2.0 AND BSD-3-Clause
 // The tests (b), (c) and (d), and the state of a range.
+use super::Line;
 use super::world::{Lent, World};
-use super::{Line, narrow};
-use change::{Change, HostRange, Part, Range, change_of, host_of, range_of, state_of};
+use change::{Area, Blocks, Change, Reason, host_of, why_number};
 use std::io;
+use test_support::narrow;
 use units::{GuestAddr, MemTool, RegionOffset};
 
-const BLOCK_SIZE: u32 = MemTool::BLOCK_SIZE as u32;
-
-fn name_of(part: Part) -> &'static str {
-    match part {
-        Part::Alignment => "misaligned",
-        Part::ZeroBlocks => "no blocks",
-        Part::Overflow => "overflows",
-        Part::BelowStart => "below start",
-        Part::PastUsable => "past usable",
-        Part::EndPastUsable => "end past usable",
+// So many bytes from a start on.
+fn area(start: u64, size: u64) -> Area {
+    Area {
+        start: GuestAddr(start),
+        size,
+        block_size: MemTool::BLOCK_SIZE as u32,
     }
 }
 
-fn show_range(rt: &impl Print, range: Range) -> io::Result<()> {
-    match range {
-        Range::Inside(offset) => print!(rt; ": inside {}", offset.0)?,
-        Range::Outside(part) => print!(rt; ": {}", name_of(part))?,
-    }
-    println!(rt; ", why {}", range.why())
-}
-
-fn show_host(rt: &impl Print, host: HostRange) -> io::Result<()> {
-    match host {
-        HostRange::At(at) => print!(rt; ": host {}", at.0),
-        HostRange::CrossesBorder => print!(rt; ": crosses border"),
-        HostRange::Unmapped => print!(rt; ": unmapped"),
-        HostRange::SumPasses => print!(rt; ": sum passes"),
+// So many blocks from an address on.
+fn asked(addr: u64, blocks: u64) -> Blocks {
+    Blocks {
+        addr: GuestAddr(addr),
+        nb_blocks: narrow(blocks),
     }
 }
 
-fn show_host_range(rt: &impl Print, host: HostRange) -> io::Result<()> {
-    show_host(rt, host)?;
-    println!(rt; ", why {}", host.why())
+fn name_of(reason: Reason) -> &'static str {
+    match reason {
+        Reason::Alignment => "misaligned",
+        Reason::ZeroBlocks => "no blocks",
+        Reason::Overflow => "overflows",
+        Reason::BelowStart => "below start",
+        Reason::PastUsable => "past usable",
+        Reason::EndPastUsable => "end past usable",
+        Reason::WrongState => "wrong state",
+        Reason::CrossesBorder => "crosses border",
+        Reason::Unmapped => "unmapped",
+        Reason::SumPasses => "sum passes",
+        Reason::FailedDiscard => "failed discard",
+    }
 }
 
-fn show_change(rt: &impl Print, change: Change) -> io::Result<()> {
-    match change {
-        Change::Legal(first, offset, host) => {
-            print!(rt; ": legal block {first} offset {} host {}", offset.0, host.0)?;
-        }
-        Change::Outside(part) => print!(rt; ": {}", name_of(part))?,
-        Change::WrongState => print!(rt; ": wrong state")?,
-        Change::NoHost(host) => show_host(rt, host)?,
+// Why a test failed, if it did, and the number of that.
+fn show_why(rt: &impl Print, why: Option<Reason>) -> io::Result<()> {
+    if let Some(reason) = why {
+        print!(rt; ": {}", name_of(reason))?;
     }
-    println!(rt; ", why {}", change.why())
+    println!(rt; ", why {}", why_number(why))
 }
 
 // Changes and states are of a device at 4 GiB; of a change 8 GiB are usable.
 pub fn call(rt: &impl Print, world: &mut World, line: Line) -> io::Result<bool> {
     let v = line.v;
-    let start = GuestAddr(4294967296);
+    let start = 4294967296;
     let Lent { bitmap, table, .. } = world.lend();
     print!(rt; "{}", line.name)?;
     match line.kind {
         b'r' => {
-            let range = range_of(
-                GuestAddr(v[0]),
-                v[1],
-                BLOCK_SIZE,
-                GuestAddr(v[2]),
-                narrow(v[3]),
-            );
-            show_range(rt, range)?;
+            let range = area(v[0], v[1]).range_of(asked(v[2], v[3]));
+            if let Ok(offset) = range {
+                print!(rt; ": inside {}", offset.0)?;
+            }
+            show_why(rt, range.err())?;
         }
-        b'h' => show_host_range(rt, host_of(v[0] == 1, table, RegionOffset(v[1]), v[2]))?,
+        b'h' => {
+            let host = host_of(v[0] == 1, table, RegionOffset(v[1]), v[2]);
+            if let Ok(at) = host {
+                print!(rt; ": host {}", at.0)?;
+            }
+            show_why(rt, host.err())?;
+        }
         b'c' => {
-            let change = change_of(
-                start,
-                8589934592,
-                BLOCK_SIZE,
-                v[1] == 1,
-                GuestAddr(v[2]),
-                narrow(v[3]),
-                v[0] == 1,
-                bitmap,
-                table,
-            );
-            show_change(rt, change)?;
+            let usable = area(start, 8589934592);
+            let change = usable.change_of(v[1] == 1, asked(v[2], v[3]), v[0] == 1, bitmap, table);
+            if let Ok(
+                Change {
+                    first,
+                    offset,
+                    host,
+                },
+            ) = change
+            {
+                print!(rt; ": legal block {first} offset {} host {}", offset.0, host.0)?;
+            }
+            show_why(rt, change.err())?;
         }
         b's' => {
-            let addr = GuestAddr(v[1]);
-            let state = state_of(start, v[0], BLOCK_SIZE, addr, narrow(v[2]), bitmap);
+            let state = area(start, v[0]).state_of(asked(v[1], v[2]), bitmap);
             println!(rt; ": state {state}")?;
         }
         _ => println!(rt; ": no command")?,

@@ -23,7 +23,8 @@ mod servings; // servings.txt
 mod values; // values.txt
 mod world; // what the calls of a file stand on
 
-// A line: its name, and the first letter of its command, 0 where it has none, with its numbers.
+// A line: its name, and the first letter of its command, 0 where it has none, with its numbers. The letter is the
+// table's own text, so the calls of each file match it as it stands.
 #[derive(Clone, Copy)]
 pub struct Line<'a> {
     name: &'a str,
@@ -36,11 +37,8 @@ fn small(n: u64) -> usize {
     (n % 65536) as usize
 }
 
-fn narrow(n: u64) -> u16 {
-    (n % 65536) as u16
-}
-
 // The numbers of a command, in their order, and 0 where there are no more. What stands between them is for the reader.
+// It stands in test_parts too: shared it would be public, and have a contract that is the grammar of a row.
 fn numbers_of(command: &str) -> [u64; 8] {
     let mut v = [0; 8];
     let numbers = command
@@ -62,18 +60,19 @@ fn line_of(line: &str) -> Line<'_> {
     }
 }
 
-// A file of data/. Each line is a command, or is printed by its name.
-fn run_file<F: FnMut(Line) -> io::Result<bool>>(
+// A file of data/, whose calls stand on a state. Each line is a command, or is printed by its name.
+fn run_file<S, F: FnMut(&mut S, Line) -> io::Result<bool>>(
     rt: &(impl Files + Print + Alloc),
     name: &str,
+    state: &mut S,
     mut command: F,
 ) -> io::Result<()>
-    requires { F.IsAlwaysCallable command }
+    requires { (f : _) (state : _) (line : _) → F.pre f state line }
 {
     let text = fs::read_to_string(rt, name)?;
     for line in text.lines() {
         let line = line_of(line);
-        if !command(line)? {
+        if !command(state, line)? {
             println!(rt; "{}", line.name)?;
         }
     }
@@ -88,18 +87,16 @@ fn run_calls<F: FnMut(&mut World, Line) -> io::Result<bool>>(
 ) -> io::Result<()>
     requires { (f : _) (world : _) (line : _) → F.pre f world line }
 {
-    let mut world = World::new();
-    run_file(rt, name, |line| {
+    run_file(rt, name, &mut World::new(), |world, line| {
         if line.kind < b'a' {
             Ok(world.set(line))
         } else {
-            call(&mut world, line)
+            call(world, line)
         }
     })
 }
 
 fn main(rt: HostRuntime) -> io::Result<()> {
-    let mut mem = [0; 2082];
     run_calls(
         &rt,
         "bitmaps.txt",
@@ -108,7 +105,8 @@ fn main(rt: HostRuntime) -> io::Result<()> {
     run_file(
         &rt,
         "chains.txt",
-        |line| chains::command(&rt, &mut mem, line),
+        &mut [0; 2082],
+        |mem, line| chains::command(&rt, mem, line),
     )?;
     run_calls(
         &rt,

@@ -1,13 +1,15 @@
 // SPDX-License-Identifier: Apache-2.0 AND BSD-3-Clause
 // Making, placing, size changes and the answers to creations: each with its answer and the record then.
 use super::world::{Lent, World};
-use super::{Line, narrow, small};
-use making::{Made, Mem};
+use super::{Line, small};
+use making::Mem;
 use placing::{place, set_requested_size};
-use record::HostCall;
+use record::{Device, HostCall};
+use refusal::Refusal;
 use serving::host_answer;
 use std::io;
 use step::{Answer, Answered};
+use test_support::narrow;
 use units::{GuestAddr, HostAddr};
 
 fn yes_no(holds: bool) -> &'static str {
@@ -16,7 +18,7 @@ fn yes_no(holds: bool) -> &'static str {
 
 fn show_answer(rt: &impl Print, answer: Answer) -> io::Result<()> {
     match answer {
-        Answer::Refused(n) => print!(rt; "refused {n}"),
+        Answer::Refused(refusal) => print!(rt; "refused {}", refusal.number()),
         Answer::Wants(HostCall::Create { guest, size, slot }) => {
             print!(rt; "create {} {size} {slot}", guest.0)
         }
@@ -41,9 +43,9 @@ fn go_on(rt: &impl Print, world: &mut World, s: Answered) -> io::Result<()> {
     )
 }
 
-fn show_made(rt: &impl Print, made: Made) -> io::Result<()> {
+fn show_made(rt: &impl Print, made: Result<Device, Refusal>) -> io::Result<()> {
     match made {
-        Made::Device(d) => {
+        Ok(d) => {
             let c = d.config;
             let several = yes_no(d.several);
             print!(rt;
@@ -52,7 +54,7 @@ fn show_made(rt: &impl Print, made: Made) -> io::Result<()> {
             )?;
             println!(rt; "{several} {} {}", d.avail_features, c.node_id)
         }
-        Made::Refused(n) => println!(rt; "new refused {n}"),
+        Err(refusal) => println!(rt; "new refused {}", refusal.number()),
     }
 }
 
@@ -64,31 +66,6 @@ fn show_row(rt: &impl Print, table: &[u64], row: u64) -> io::Result<()> {
     Ok(())
 }
 
-<<<<<<< HEAD
-fn show_byte(rt: &impl Print, bitmap: &[u8], at: usize) -> io::Result<()> {
-    if at < bitmap.len() {
-        number(rt, b"byte ", wide(bitmap[at]))?;
-        end(rt)?;
-    }
-    Ok(())
-}
-
-fn new(rt: &impl Print, v: Numbers) -> io::Result<()> {
-    if v.3 == 1 {
-        let node = Some((v.4 % 65536) as u16);
-        show_made(rt, Mem::new(v.0, v.1, v.2 == 1, node, v.5))
-    } else {
-        show_made(rt, Mem::new(v.0, v.1, v.2 == 1, None, v.5))
-    }
-}
-
-// The commands that show what is there, and what is made.
-fn shown(rt: &impl Print, kind: u8, v: Numbers, bitmap: &[u8], table: &[u64]) -> io::Result<bool> {
-    match kind {
-        b'n' => new(rt, v)?,
-        b'r' => show_row(rt, table, v.0)?,
-        b'b' => show_byte(rt, bitmap, small(v.0))?,
-=======
 // Whether a line is a command.
 pub fn call(rt: &impl Print, world: &mut World, line: Line) -> io::Result<bool> {
     let v = line.v;
@@ -127,11 +104,7 @@ pub fn call(rt: &impl Print, world: &mut World, line: Line) -> io::Result<bool> 
             go_on(rt, world, s)?;
         }
         b'n' => {
-            let node = if v[3] == 1 {
-                Node::Number(narrow(v[4]))
-            } else {
-                Node::None
-            };
+            let node = (v[3] == 1).then_some(narrow(v[4]));
             show_made(rt, Mem::new(v[0], v[1], v[2] == 1, node, v[5]))?;
         }
         b'r' => show_row(rt, world.table(), v[0])?,
@@ -140,7 +113,6 @@ pub fn call(rt: &impl Print, world: &mut World, line: Line) -> io::Result<bool> 
                 println!(rt; "byte {byte}")?;
             }
         }
->>>>>>> 3863932998deaa795b907c6bedc4d16e9be130a3
         _ => return Ok(false),
     }
     Ok(true)

@@ -1,11 +1,13 @@
 // SPDX-License-Identifier: Apache-2.0 AND BSD-3-Clause
 // Requests and discard answers: each with its answer and all that it leaves. Reads of the config.
+use super::Line;
 use super::world::{Lent, World};
-use super::{Line, narrow};
+use change::why_number;
 use little_endian::{read_u16, read_u64, write_u16, write_u64};
 use record::HostCall;
 use std::io;
 use step::{Answer, Answered};
+use test_support::narrow;
 use units::{GuestAddr, HostAddr};
 
 // The length, flags and next index of the two descriptors: 24 bytes with the next flag, then 10 to be written.
@@ -18,7 +20,7 @@ const START: GuestAddr = GuestAddr(4096);
 
 fn show_answer(rt: &impl Print, answer: Answer) -> io::Result<()> {
     match answer {
-        Answer::Refused(n) => print!(rt; "refuse={n}"),
+        Answer::Refused(refusal) => print!(rt; "refuse={}", refusal.number()),
         Answer::Wants(HostCall::Create { .. }) => print!(rt; "want=create"),
         Answer::Wants(HostCall::Discard { offset, size, host }) => {
             print!(rt;
@@ -27,12 +29,15 @@ fn show_answer(rt: &impl Print, answer: Answer) -> io::Result<()> {
             )
         }
         Answer::Sized => print!(rt; "sized"),
-        Answer::Unserved(reason) => print!(rt; "length=0 reason={reason}"),
+        Answer::Unserved(reason) => print!(rt; "length=0 reason={}", reason.number()),
         Answer::Served(reply) => {
             let r = reply.response;
             print!(rt;
                 "resp={} state={} length={} why={}",
-                r.resp_type, r.state, reply.used, reply.why
+                r.resp_type,
+                r.state,
+                reply.used,
+                why_number(reply.why)
             )
         }
         Answer::Done => print!(rt; "done"),

@@ -1,10 +1,11 @@
 // SPDX-License-Identifier: Apache-2.0 AND BSD-3-Clause
 // The numbers of the device at their limits, the shape of a record, and the usable size with its creation: a name and
 // what comes of it.
+use super::Line;
 use super::world::World;
-use super::{Line, narrow};
-use resize::{Growth, grown_size, growth_of, new_size};
+use resize::{grown_size, growth_of, new_size};
 use std::io;
+use test_support::narrow;
 use units::{GuestAddr, HostAddr, MemTool, RegionOffset};
 
 // A call that stands on numbers alone.
@@ -15,7 +16,7 @@ fn number_of(kind: u8, v: [u64; 8]) -> u64 {
         b'm' => units::map_regions(v[0], v[1] == 1),
         b's' => units::sum_within(v[0], v[1], v[2]) as u64,
         b'p' => units::product_within(v[0], v[1], v[2]) as u64,
-        b'l' => units::smaller(v[0], v[1]),
+        b'l' => v[0].min(v[1]),
         b'z' => new_size(v[0], v[1], v[2], MemTool::BLOCK_SIZE),
         b'n' => grown_size(v[0], v[1]),
         b'o' => GuestAddr(v[0]).offset_from(GuestAddr(v[1])).0,
@@ -35,8 +36,8 @@ pub fn call(rt: &impl Print, world: &mut World, line: Line) -> io::Result<bool> 
     print!(rt; "{}", line.name)?;
     match line.kind {
         b'w' => match growth_of(v[0], v[1] == 1, v[2], v[3], world.table()) {
-            Growth::Asks(i, last, bytes) => print!(rt; " {i} {last} {bytes}")?,
-            Growth::Settled => print!(rt; " settled")?,
+            Some(c) => print!(rt; " {} {} {}", c.first, c.last, c.size)?,
+            None => print!(rt; " settled")?,
         },
         b'd' => print!(rt; " {}", record::shaped(d) as u64)?,
         b'e' => print!(rt; " {}", record::is_idle(d.pending) as u64)?,

@@ -1,7 +1,7 @@
 // SPDX-License-Identifier: Apache-2.0 AND BSD-3-Clause
 // What the calls of a file stand on: a device, a bitmap, a map table, slots and guest memory.
 use super::{Line, small};
-use making::{Made, Mem};
+use making::Mem;
 use record::{Device, Pending};
 use std::cmp::min;
 use units::GuestAddr;
@@ -140,8 +140,8 @@ impl World {
             }
             b'A' => self.device.alignment = v[0],
             b'M' => match Mem::new(v[0], v[1], v[2] == 1, None, v[3]) {
-                Made::Device(d) => self.device = d,
-                Made::Refused(_) => return false,
+                Ok(d) => self.device = d,
+                Err(_) => return false,
             },
             _ => return false,
         }
