@@ -21,6 +21,17 @@ impl Count {
         self.rows = self.rows.saturating_add(more.rows);
         self.differing = self.differing.saturating_add(more.differing);
     }
+
+    // Counts a row.
+    fn add_row(&mut self, differs: bool)
+        ensures rows { self.new.rows ≡ min (self.old.rows + 1) (2 ^ 64 - 1) }
+        ensures differing { self.old.differing ≤ self.old.rows → self.new.differing ≤ self.new.rows }
+    {
+        self.add(Count {
+            rows: 1,
+            differing: differs as u64,
+        });
+    }
 }
 
 impl fmt::Display for Count {
@@ -85,10 +96,7 @@ pub fn run_rows<F: FnMut(&mut [u8], &str) -> usize>(
         let length = answer(out, call);
         let given = front(out, length);
         let differs = given.is_empty() || given != known.as_bytes();
-        count.add(Count {
-            rows: 1,
-            differing: differs as u64,
-        });
+        count.add_row(differs);
         if differs {
             show(rt, is_numbered.then_some(line), row, given)?;
         }
