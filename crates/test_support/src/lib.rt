@@ -58,10 +58,13 @@ pub fn front(s: &[u8], count: usize) -> &[u8]
 pub fn form_of(text: &str, key: u8) -> &str
     ensures { length result.now ≤ length text.now }
 {
-    text.lines()
-        .find(|line| line.as_bytes().first() == Some(&key))
-        .and_then(|line| line.get(2..))
-        .unwrap_or("")
+    let line = text
+        .lines()
+        .find(|line| line.as_bytes().first() == Some(&key));
+    match line.and_then(|line| line.get(2..)) {
+        Some(form) => form,
+        None => "",
+    }
 }
 
 // A row that has not what came of it, behind the number of its line, if one is given.
