@@ -54,7 +54,7 @@ def strip(s):
             continue
         out.append(s[i:m.start()])
         j, depth = m.end(), 1
-        while depth:
+        while depth and j < len(s):
             depth += {'{': 1, '}': -1}.get(s[j], 0)
             j += 1
         out.append('\n' * s.count('\n', m.start(), j))
@@ -67,7 +67,7 @@ def functions(s):
     """Name, parameters, result, body and start of each function."""
     for m in re.finditer(r'\bfn (\w+)(<[^>]*>)?\(', s):
         j, depth = m.end(), 1
-        while depth:
+        while depth and j < len(s):
             depth += {'(': 1, ')': -1}.get(s[j], 0)
             j += 1
         params = s[m.end():j - 1]
@@ -76,7 +76,7 @@ def functions(s):
             continue
         result = s[j:k].strip()
         e, depth = k + 1, 1
-        while depth:
+        while depth and e < len(s):
             depth += {'{': 1, '}': -1}.get(s[e], 0)
             e += 1
         yield m.group(1), [p for p in re.split(r',(?![^<(\[]*[>)\]])', params) if p.strip()], result, s[k + 1:e - 1], m.start()

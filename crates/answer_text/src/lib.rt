@@ -8,7 +8,8 @@ ghost use Rattle.answer_text.specs.Texts.{create_text, discard_text, sized_text,
 use units::{GuestAddr, HostAddr, RegionOffset};
 
 // Each function below puts the text of an answer at the start of a buffer. It answers the length of the text, and one
-// more than the buffer's where there is no room for it; 200 bytes are room enough.
+// more than the buffer's where there is no room for it; 200 bytes are room enough. One function over a table of forms
+// would be no plainer: each has the form and the values of one answer, and a name, in a line.
 
 pub fn put_create(out: &mut [u8], guest: GuestAddr, size: u64, slot: u64) -> usize
     ensures { Put out.old 0 (create_text guest size slot) out.new result }

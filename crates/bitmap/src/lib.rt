@@ -19,7 +19,7 @@ fn bit(b: u8, k: usize) -> bool
     (b >> k) % 2 == 1
 }
 
-// The byte whose blocks are all v, and eight of them as one number.
+// The byte whose blocks are all v, and eight of them as one number: of two types, and a line each.
 fn whole_byte(v: bool) -> u8
     ensures { result ≡ whole v }
 {
@@ -229,7 +229,8 @@ pub fn next_clear(bitmap: &[u8], from: usize, end: usize) -> Option<usize>
     next_of(bitmap, from, end, false)
 }
 
-// How many blocks of a range are plugged.
+// How many blocks of a range are plugged. Counted down by hand: a range may end past the largest number, so that no
+// block number is made.
 pub fn count_set(bitmap: &[u8], first: usize, count: usize) -> usize
     ensures { result ≡ ones (range (blocks bitmap.now) first count) }
 {

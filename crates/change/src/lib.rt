@@ -235,7 +235,8 @@ impl Area {
 
     // The state of a range, over such blocks as the region has (R10.16).
     pub fn state_of(self, asked: Blocks, bitmap: &[u8]) -> u16
-        ensures { result ≡ state_of self.block_size self.start.0 self.size asked.addr.0 asked.nb_blocks (blocks bitmap.now) }
+        ensures { result ≡ state_of self.block_size self.start.0 self.size asked.addr.0 asked.nb_blocks
+            (blocks bitmap.now) }
     {
         let start = self.start;
         let region = self.size;

@@ -113,7 +113,12 @@ pub fn link_at(mem: &[u8], base: GuestAddr, table: GuestAddr, index: u16) -> Opt
 }
 
 // The descriptor after a descriptor.
-pub fn link_after(mem: &[u8], base: GuestAddr, table: GuestAddr, current: Descriptor) -> Option<Descriptor>
+pub fn link_after(
+    mem: &[u8],
+    base: GuestAddr,
+    table: GuestAddr,
+    current: Descriptor,
+) -> Option<Descriptor>
     ensures { result ≡ link_after mem.now base.0 table.0 current }
 {
     if current.has_next() {

@@ -1,7 +1,7 @@
 -- SPDX-License-Identifier: Apache-2.0 AND BSD-3-Clause
 -- The promise of every export leaves one outcome, bytes included: the number, and what stands in each lent slice.
 use Rattle.record.specs.declared.Device.{Device}
-use Rattle.std.specs.Prelude.{Option, Some, None}
+use Rattle.std.specs.Prelude.{Option, Some, None, Result}
 use Prim.Native.Nat.{ℕ, ◌<◌}
 use mathlib.Core.Path.{◌≡◌, sym, ap, ◌∙◌}
 use mathlib.Core.List.{List}
@@ -12,13 +12,13 @@ use Rattle.step.specs.Promise.{Lent, on, left_by}
 use Rattle.step.proofs.Once.{leaves_once}
 use Rattle.rings.specs.declared.Queue.{Queue}
 use Rattle.queue.specs.Queue.{QueueOutcome, left_by_queue}
-use Rattle.making.specs.declared.Made.{Made}
+use Rattle.refusal.specs.declared.Refusal.{Refusal}
 use Rattle.words.specs.Record.{decoded_of}
 use Rattle.queue_words.specs.Words.{decoded_queue_of}
 use Rattle.jambcopper.specs.Exports.{MadeIn, Handed, handed, Told, Foreign, Called, Exported}
 use Rattle.jambcopper.specs.Queue.{QueueMadeIn, QueueHanded, queue_handed, QueueStep, QueueTold, QueueForeign, QueueCalled, QueueExported}
 
-pub made_in_once : (words : List ℕ) (m : Made) (n n' : ℕ) (words' words'' : List ℕ) → MadeIn words m n words' → MadeIn words m n' words'' → (n ≡ n') × (words' ≡ words'')
+pub made_in_once : (words : List ℕ) (m : Result Device Refusal) (n n' : ℕ) (words' words'' : List ℕ) → MadeIn words m n words' → MadeIn words m n' words'' → (n ≡ n') × (words' ≡ words'')
 made_in_once words m n n' words' words'' p q = (p.numbered ∙ sym q.numbered, p.recorded ∙ sym q.recorded)
 
 -- slices that are alike one by one

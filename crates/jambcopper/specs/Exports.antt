@@ -1,9 +1,10 @@
 -- SPDX-License-Identifier: Apache-2.0 AND BSD-3-Clause
 -- What an exported call leaves in the slices that it was lent: what the device's call ends in, as words.
-use Rattle.std.specs.Prelude.{ℕ, ◌≡◌, Bool, cond, List, leb, length, Option, Some, None}
+use Rattle.std.specs.Prelude.{ℕ, ◌≡◌, Bool, cond, List, leb, length, Option, Some, None, Result, Ok, Err}
 use Rattle.little_endian.specs.Bytes.{put}
-use Rattle.making.specs.declared.Made.{Made}
-use Rattle.making.specs.declared.Made.TheVariants.{Device as MadeDevice, Refused}
+use Rattle.record.specs.declared.Device.{Device}
+use Rattle.refusal.specs.declared.Refusal.{Refusal}
+use Rattle.refusal.specs.declared.Refusal.TheVariants.{NoShape}
 use Rattle.making.specs.Made.{made_number}
 use Rattle.step.specs.declared.Answer.TheVariants.{Refused as RefusedWith}
 use Rattle.step.specs.World.{Outcome, Call}
@@ -17,12 +18,12 @@ abbrev pub node_of : (given : Bool) (node : ℕ) → Option ℕ
 node_of given node = cond given (Some node) None
 
 -- a record is written where one was made
-unfoldable pub made_words : List ℕ → Made → List ℕ
-made_words ws (MadeDevice d) = put ws 0 (words_of d)
-made_words ws (Refused number) = ws
+unfoldable pub made_words : List ℕ → Result Device Refusal → List ℕ
+made_words ws (Ok d) = put ws 0 (words_of d)
+made_words ws (Err refusal) = ws
 
 -- R19.5: 12 where there is no room for a record, and nothing is written
-pub record MadeIn (words : List ℕ) (m : Made) (number : ℕ) (words' : List ℕ) : Type 0 where
+pub record MadeIn (words : List ℕ) (m : Result Device Refusal) (number : ℕ) (words' : List ℕ) : Type 0 where
   pub numbered : number ≡ cond (leb record_length (length words)) (made_number m) 12
   pub recorded : words' ≡ cond (leb record_length (length words)) (made_words words m) words
 
@@ -47,7 +48,7 @@ pub record Told (o : Outcome) (entry exit : Handed) (number : ℕ) : Type 0 wher
 -- R19.2, R19.8: the words are no record, and only the answer is written
 pub record Foreign (entry exit : Handed) (number : ℕ) : Type 0 where
   pub numbered : number ≡ 12
-  pub told : exit.answer ≡ put entry.answer 0 (answer_words (RefusedWith 12))
+  pub told : exit.answer ≡ put entry.answer 0 (answer_words (RefusedWith NoShape))
   pub recorded : exit.words ≡ entry.words
   pub untouched : exit.slices ≡ entry.slices
 

@@ -1,6 +1,7 @@
 // SPDX-License-Identifier: Apache-2.0 AND BSD-3-Clause
 // What the static library exports: each call of the device and of its queue, with the record and the queue as words,
-// the guest's side, and save records. Words that are no record, or no queue, are refused with 12.
+// the guest's side, and save records. Words that are no record, or no queue, are refused with 12. Numbers, flags and
+// slices stay the parameters here, and a number the result, because this is the C interface.
 #![tactic(auto)]
 
 ghost use Rattle.std.specs.Prelude.{◌≡◌, []};
@@ -18,11 +19,11 @@ use answer_words::{ANSWER_WORDS, number_of, pass_on, tell};
 use device::{read_config, write_config};
 use driver::write_request;
 use driver_words::{tell_config, tell_plan, tell_response};
-use making::{Made, Mem};
+use making::Mem;
 use placing::{place, set_requested_size};
 use queue::{Taking, next_taking, queue_refusal, settle, took_head};
 use queue_words::{QUEUE_WORDS, decode_queue, encode_queue, ending_told, tell_queue};
-use refusal::code;
+use refusal::{Refusal, code};
 use rings::Queue;
 use save_words::{tell_new, tell_old, tell_restore, tell_save, tell_save_length};
 use serving::{host_answer, request};
@@ -31,15 +32,11 @@ use units::{GuestAddr, HostAddr};
 use wire::VirtioMemReq;
 use words::{RECORD_WORDS, decode, encode, encode_answer, encode_request};
 
-// The node of a device, as the enum of its constructor has it.
+// The node of a device, if one is given.
 fn node_of(node_given: bool, node: u16) -> Option<u16>
     ensures { result ≡ node_of node_given node }
 {
-    if node_given {
-        Some(node)
-    } else {
-        None
-    }
+    node_given.then_some(node)
 }
 
 // Makes a device from sizes in MiB. Words that have no room for a record are refused with 12.
@@ -57,12 +54,12 @@ pub fn jambcopper_make(
 {
     let too_short = words.len() < RECORD_WORDS;
     if too_short {
-        return 12;
+        return Refusal::NoShape.number();
     }
     let which = node_of(node_given, node);
     match Mem::new(capacity_mib, requested_mib, several, which, boot) {
-        Made::Refused(number) => number,
-        Made::Device(d) => {
+        Err(refusal) => refusal.number(),
+        Ok(d) => {
             encode(d, words);
             0
         }
@@ -84,13 +81,11 @@ pub fn jambcopper_place(
         (handed words.new answer.new (lent bitmap.new table.new [])) result }
 {
     let Some(d) = decode(&words[..]) else {
-        return tell(Answer::Refused(12), answer);
+        return tell(Answer::Refused(Refusal::NoShape), answer);
     };
     let s = place(d, bitmap, table, GuestAddr(start), size, slots);
-    let d = s.device;
-    let a = s.answer;
-    encode(d, words);
-    tell(a, answer)
+    encode(s.device, words);
+    tell(s.answer, answer)
 }
 
 // Changes the requested size.
@@ -106,13 +101,11 @@ pub fn jambcopper_set_requested_size(
         (handed words.new answer.new (lent bitmap.now table.now [])) result }
 {
     let Some(d) = decode(&words[..]) else {
-        return tell(Answer::Refused(12), answer);
+        return tell(Answer::Refused(Refusal::NoShape), answer);
     };
     let s = set_requested_size(d, bitmap, table, requested_mib);
-    let d = s.device;
-    let a = s.answer;
-    encode(d, words);
-    tell(a, answer)
+    encode(s.device, words);
+    tell(s.answer, answer)
 }
 
 // One chain of the guest.
@@ -133,7 +126,7 @@ pub fn jambcopper_request(
         (lent bitmap.new table.now mem.new)) result }
 {
     let Some(d) = decode(&words[..]) else {
-        return tell(Answer::Refused(12), answer);
+        return tell(Answer::Refused(Refusal::NoShape), answer);
     };
     let s = request(
         d,
@@ -144,10 +137,8 @@ pub fn jambcopper_request(
         GuestAddr(descriptors),
         head,
     );
-    let d = s.device;
-    let a = s.answer;
-    encode_request(d, words);
-    tell(a, answer)
+    encode_request(s.device, words);
+    tell(s.answer, answer)
 }
 
 // The host's answer to what it was asked.
@@ -168,13 +159,11 @@ pub fn jambcopper_host_answer(
         (lent bitmap.new table.new mem.new)) result }
 {
     let Some(d) = decode(&words[..]) else {
-        return tell(Answer::Refused(12), answer);
+        return tell(Answer::Refused(Refusal::NoShape), answer);
     };
     let s = host_answer(d, bitmap, table, mem, GuestAddr(base), ok, HostAddr(host));
-    let d = s.device;
-    let a = s.answer;
-    encode_answer(d, words);
-    tell(a, answer)
+    encode_answer(s.device, words);
+    tell(s.answer, answer)
 }
 
 // Makes a queue from the addresses of its three parts. Words that have no room for a queue are refused with 12.
@@ -182,16 +171,15 @@ pub fn jambcopper_queue_make(queue: &mut [u64], descriptors: u64, available: u64
     ensures { QueueMadeIn queue.old (new_queue descriptors available used) result queue.new }
 {
     if queue.len() < QUEUE_WORDS {
-        return 12;
+        return Refusal::NoShape.number();
     }
-    let none = None;
     let q = Queue {
         descriptors: GuestAddr(descriptors),
         available: GuestAddr(available),
         used: GuestAddr(used),
         next_available: 0,
         next_used: 0,
-        taken: none,
+        taken: None,
     };
     encode_queue(q, queue);
     0
@@ -214,16 +202,16 @@ pub fn jambcopper_serve(
         (lent bitmap.new table.now mem.new))) result }
 {
     let Some(d) = decode(&words[..]) else {
-        return tell(Answer::Refused(12), answer);
+        return tell(Answer::Refused(Refusal::NoShape), answer);
     };
     let Some(q) = decode_queue(&queue[..]) else {
-        return tell(Answer::Refused(12), answer);
+        return tell(Answer::Refused(Refusal::NoShape), answer);
     };
     match next_taking(d, q, bitmap.len(), table.len(), &mem[..], GuestAddr(base)) {
         Taking::NoHead(told) => tell_queue(told, answer),
         Taking::Walk(head) => {
             // Words of its own: those that are lent may be too few to read the head's ending from.
-            let mut told: [u64; ANSWER_WORDS] = [0; ANSWER_WORDS];
+            let mut told = [0; ANSWER_WORDS];
             let number = jambcopper_request(
                 words,
                 bitmap,
@@ -262,20 +250,26 @@ pub fn jambcopper_serve_answer(
         (lent bitmap.new table.new mem.new))) result }
 {
     let Some(d) = decode(&words[..]) else {
-        return tell(Answer::Refused(12), answer);
+        return tell(Answer::Refused(Refusal::NoShape), answer);
     };
     let Some(q) = decode_queue(&queue[..]) else {
-        return tell(Answer::Refused(12), answer);
+        return tell(Answer::Refused(Refusal::NoShape), answer);
     };
-    let refused = queue_refusal(d, q, bitmap.len(), table.len(), &mem[..], GuestAddr(base));
-    if refused != 0 {
-        return tell(Answer::Refused(refused), answer);
+    if let Err(refusal) = queue_refusal(
+        d,
+        q,
+        bitmap.len(),
+        table.len(),
+        &mem[..],
+        GuestAddr(base),
+    ) {
+        return tell(Answer::Refused(refusal), answer);
     }
     let taken = q.taken;
     let Some(head) = taken else {
         return jambcopper_host_answer(words, bitmap, table, mem, base, ok, host, answer);
     };
-    let mut told: [u64; ANSWER_WORDS] = [0; ANSWER_WORDS];
+    let mut told = [0; ANSWER_WORDS];
     let number = jambcopper_host_answer(words, bitmap, table, mem, base, ok, host, &mut told);
     let ending = ending_told(told);
     let now = settle(ending, head, q, q, mem, GuestAddr(base));
@@ -291,11 +285,10 @@ pub fn jambcopper_read_config(words: &[u64], offset: u64, data: &mut [u8]) -> u6
         (handed words.now [] (lent [] [] «data».new)) result }
 {
     let Some(d) = decode(words) else {
-        return 12;
+        return Refusal::NoShape.number();
     };
     let s = read_config(d, offset, data);
-    let a = s.answer;
-    number_of(a)
+    number_of(s.answer)
 }
 
 // Writes the config, which does nothing.
@@ -305,11 +298,10 @@ pub fn jambcopper_write_config(words: &[u64], offset: u64, data: &[u8]) -> u64
         (handed words.now [] (lent [] [] «data».now)) result }
 {
     let Some(d) = decode(words) else {
-        return 12;
+        return Refusal::NoShape.number();
     };
     let s = write_config(d, offset, data);
-    let a = s.answer;
-    number_of(a)
+    number_of(s.answer)
 }
 
 // The guest's side: writes a request.

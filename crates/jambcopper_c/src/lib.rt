@@ -1,5 +1,6 @@
 // SPDX-License-Identifier: Apache-2.0 AND BSD-3-Clause
 // The static library, for C and Rust: each function of the crate `jambcopper` under its own name, with its own promise.
+// Numbers, flags and slices stay the parameters here, and a number the result, because this is the C interface.
 #![tactic(auto)]
 
 ghost use Rattle.std.specs.Prelude.{[]};

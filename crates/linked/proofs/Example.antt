@@ -20,7 +20,7 @@ use Rattle.resize.specs.Resize.{new_size, growth_of}
 use Rattle.change.specs.Change.{inside_of, range_of, host_sum, host_in, host_of, legal_at, change_in, state_in, state_of}
 use Rattle.step.specs.Step.{tables_fit, ready_refusal, unplaced_refusal, pending_refusal, unless, plug_as, plug, unplug_as, one_as, next_as, state_type, serve, request, resizes, placing, place, set_requested_size, host_answer, read_config, step, plugged, range_refusal}
 use Rattle.making.specs.Made.{made}
-use Rattle.words.specs.Record.{words_of, pending_of, pending_fits, is_record, record_of, decoded_of}
+use Rattle.words.specs.Record.{words_of, is_record, record_of, decoded_of}
 use Rattle.making.specs.Made.{made_number}
 use Rattle.step.specs.Promise.{lent}
 use Rattle.jambcopper.specs.Exports.{handed, made_words, Called}
@@ -29,7 +29,7 @@ use Rattle.history.specs.History.{PlugAck, NoRequest, ack_to_type, ack_to_reques
 use Rattle.history.proofs.Shaped.{clash}
 use Rattle.linked.specs.Runs.{jambcopper_place, jambcopper_set_requested_size, jambcopper_request, jambcopper_host_answer, jambcopper_read_config}
 use Rattle.linked.specs.Runs.{Use, call_by, in_use, on_tables, new_tables, holding, Run, held_after, Making, Makes, first, in_hand}
-use Rattle.linked.specs.Heard.{answer_of, heard_by, HasRoom, AllHeard, events_heard}
+use Rattle.linked.specs.Heard.{refusal_of, unasked_of, why_of, answer_of, heard_by, HasRoom, AllHeard, events_heard}
 use Rattle.linked.proofs.Heard.{demand_3_heard}
 
 -- the words of the record: start, usable size, plugged size, placed, and the pending call
@@ -113,7 +113,7 @@ uses =
     ∷ []
 
 pub runs : Run (first (record_words 0 0 0 0 0)) uses
-unfolding record_words zeros asked uses Run call_by in_use on_tables new_tables holding Called low_bits blocks every fill first_from value little_endian part put request_at response_bytes config_fields config_values laid_config config_bytes virtq_desc descriptor_at descriptor_addr inside link_at link_after with_second with_first parsed reaches delivered rows_of row_words mapping_of fill_rows rows_laid map_regions alignment_ok region_ok size_ok span_of start_ok several_ok pending_ok shaped_of new_size growth_of inside_of range_of host_sum host_in host_of legal_at change_in state_in state_of tables_fit ready_refusal unplaced_refusal pending_refusal range_refusal unless plug_as plug unplug_as one_as next_as state_type serve request resizes placing place set_requested_size host_answer read_config step words_of pending_of pending_fits is_record record_of decoded_of
+unfolding record_words zeros asked uses Run call_by in_use on_tables new_tables holding Called low_bits blocks every fill first_from value little_endian part put request_at response_bytes config_fields config_values laid_config config_bytes virtq_desc descriptor_at descriptor_addr inside link_at link_after with_second with_first parsed reaches delivered rows_of row_words mapping_of fill_rows rows_laid map_regions alignment_ok region_ok size_ok span_of start_ok several_ok pending_ok shaped_of new_size growth_of inside_of range_of host_sum host_in host_of legal_at change_in state_in state_of tables_fit ready_refusal unplaced_refusal pending_refusal range_refusal unless plug_as plug unplug_as one_as next_as state_type serve request resizes placing place set_requested_size host_answer read_config step words_of is_record record_of decoded_of
 runs = (record { lends = record { same_words = refl; same_bitmap = λ _ p. clash p refl; same_table = λ _ p. clash p refl }; promised = record { numbered = refl; recorded = refl; decodes = refl; told = refl; leaves = record { marked = refl; mapped = refl; left = refl } } }, (record { lends = record { same_words = refl; same_bitmap = λ p _. clash p refl; same_table = λ p _. clash p refl }; promised = record { numbered = refl; recorded = refl; decodes = refl; told = refl; leaves = record { marked = refl; mapped = refl; left = refl } } }, (record { lends = record { same_words = refl; same_bitmap = λ _ _. refl; same_table = λ _ _. refl }; promised = record { numbered = refl; recorded = refl; decodes = refl; told = refl; leaves = record { marked = refl; mapped = refl; left = refl } } }, (record { lends = record { same_words = refl; same_bitmap = λ _ p. clash p refl; same_table = λ _ p. clash p refl }; promised = record { numbered = refl; recorded = refl; decodes = refl; told = refl; leaves = record { marked = refl; mapped = refl; left = refl } } }, (record { lends = record { same_words = refl; same_bitmap = λ p _. clash p refl; same_table = λ p _. clash p refl }; promised = record { numbered = refl; recorded = refl; decodes = refl; told = refl; leaves = record { marked = refl; mapped = refl; left = refl } } }, (record { lends = record { same_words = refl; same_bitmap = λ _ _. refl; same_table = λ _ _. refl }; promised = record { numbered = refl; recorded = refl; decodes = refl; told = refl; leaves = record { marked = refl; mapped = refl; left = refl } } }, (record { lends = record { same_words = refl; same_bitmap = λ _ _. refl; same_table = λ _ _. refl }; promised = record { numbered = refl; recorded = refl; decodes = refl; told = refl; leaves = record { marked = refl; mapped = refl; left = refl } } }, (record { lends = record { same_words = refl; same_bitmap = λ p _. clash p refl; same_table = λ p _. clash p refl }; promised = record { numbered = refl; recorded = refl; decodes = refl; told = refl; leaves = record { marked = refl; mapped = refl; left = refl } } }, tt))))))))
 
 -- all that a program sees of it: the events that it hears, newest first, and the bitmap and the plugged size that it holds
@@ -124,7 +124,7 @@ pub record Seen : Type 0 where
   pub sized : plugged (in_hand (held_after (first (record_words 0 0 0 0 0)) uses)) ≡ 8388608
 
 pub seen : Seen
-unfolding record_words zeros asked uses call_by in_use new_tables holding held_after answer_of heard_by HasRoom AllHeard events_heard value little_endian part request_at virtq_desc descriptor_at descriptor_addr inside link_at link_after with_second with_first parsed record_of pending_of ack_to_type ack_to_request ack_to_host acknowledges discard_of reports response refusal events_of opened_by_type opened_by_request goes_on opened_by asked_by open_after
+unfolding record_words zeros asked uses call_by in_use new_tables holding held_after refusal_of unasked_of why_of answer_of heard_by HasRoom AllHeard events_heard value little_endian part request_at virtq_desc descriptor_at descriptor_addr inside link_at link_after with_second with_first parsed record_of ack_to_type ack_to_request ack_to_host acknowledges discard_of reports response refusal events_of opened_by_type opened_by_request goes_on opened_by asked_by open_after
 seen = record { all_heard = (omega arith, (omega arith, (omega arith, (omega arith, (omega arith, (omega arith, (omega arith, (tt, tt)))))))); hears = refl; marked = refl; sized = refl }
 
 -- demand 3 says that these fit each other

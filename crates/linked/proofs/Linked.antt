@@ -1,6 +1,6 @@
 -- SPDX-License-Identifier: Apache-2.0 AND BSD-3-Clause
 -- A run of the exported functions is a run of the definition: from making on, whatever is lent besides what is held. So what holds of every run of the definition holds of what a program that links the library has in hand; demand 3 first.
-use Rattle.std.specs.Prelude.{Option, Some}
+use Rattle.std.specs.Prelude.{Option, Some, Ok, Result}
 use Prim.Native.Nat.{ℕ, ◌*◌, ◌≤◌}
 use mathlib.Core.Path.{◌≡◌, refl, ap, sym, ◌∙◌}
 use mathlib.Core.Bool.{Bool, true, false, not, ◌||◌}
@@ -14,12 +14,11 @@ use Rattle.units.proofs.Tests.{by_test}
 use Rattle.bitmap.specs.Blocks.{blocks}
 use Rattle.rows.specs.Rows.{rows_of}
 use Rattle.little_endian.specs.Bytes.{put}
+use Rattle.refusal.specs.declared.Refusal.{Refusal}
 use Rattle.record.specs.declared.Device.{Device}
 use Rattle.record.specs.Shape.{size_ok}
 use Rattle.step.specs.World.{World}
 use Rattle.step.specs.Step.{step}
-use Rattle.making.specs.declared.Made.{Made}
-use Rattle.making.specs.declared.Made.TheVariants.{Device as MadeDevice}
 use Rattle.making.specs.Made.{node_number, made, made_number}
 use Rattle.words.specs.Record.{words_of, decoded_of}
 use Rattle.words.proofs.Laws.{encoded_decodes}
@@ -62,9 +61,9 @@ follows_from h s m reached =
 
 -- ---- making
 -- a made device, with its node
-pub record IsMade (m : Made) (node : ℕ) : Type 0 where
+pub record IsMade (m : Result Device Refusal) (node : ℕ) : Type 0 where
   pub device : Device
-  pub is_made : m ≡ MadeDevice device
+  pub is_made : m ≡ Ok device
   pub node_is : device.config.node_id ≡ node
 
 -- a device is refused with 1 or 2
@@ -72,8 +71,8 @@ pub made_at_0 : (capacity requested : ℕ) (several : Bool) (node : Option ℕ) 
 unfolding made made_number
 made_at_0 capacity requested several node boot =
     let region = capacity_of capacity (alignment_of boot) in
-    by_cond (λ (m : Made). made_number m ≡ 0 → IsMade m (node_number node)) (ltb 1048576 capacity) _ _ (λ _ e. absurd (omega arith))
-    (λ _. by_cond (λ (m : Made). made_number m ≡ 0 → IsMade m (node_number node)) (eqb capacity 0 || not (size_ok 4194304 (requested * 1048576) region)) _ _ (λ _ e. absurd (omega arith))
+    by_cond (λ (m : Result Device Refusal). made_number m ≡ 0 → IsMade m (node_number node)) (ltb 1048576 capacity) _ _ (λ _ e. absurd (omega arith))
+    (λ _. by_cond (λ (m : Result Device Refusal). made_number m ≡ 0 → IsMade m (node_number node)) (eqb capacity 0 || not (size_ok 4194304 (requested * 1048576) region)) _ _ (λ _ e. absurd (omega arith))
     (λ _ _. record { device = _; is_made = refl; node_is = refl }))
 
 node_within : (given : Bool) (node : ℕ) → node ≤ 65535 → node_number (node_of given node) ≤ 65535
@@ -96,7 +95,7 @@ module _ (m : Making) (words' : List ℕ) (makes : Makes m words') where
   is_made_at_0 : IsMade (made_by m) (node_number (node_of m.given m.node))
   is_made_at_0 = made_at_0 m.capacity m.requested m.several (node_of m.given m.node) m.boot (sym (rw room at makes.promised.numbered))
 
-  module _ (d : Device) (e : made_by m ≡ MadeDevice d) where
+  module _ (d : Device) (e : made_by m ≡ Ok d) where
     pub is_fresh : Fresh d
     is_fresh = made_fresh m.capacity m.requested m.several (node_of m.given m.node) m.boot d e
 
@@ -108,7 +107,7 @@ module _ (m : Making) (words' : List ℕ) (makes : Makes m words') where
     node_small : d.config.node_id ≤ 65535
     node_small =
         let i = is_made_at_0 in
-        let q : MadeDevice i.device ≡ MadeDevice d = sym i.is_made ∙ e in
+        let q : Ok i.device ≡ Ok d = sym i.is_made ∙ e in
         let same : i.device ≡ d = cc in
         rw (← same, i.node_is) (node_within m.given m.node makes.node_fits)
 

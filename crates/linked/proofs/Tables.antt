@@ -1,24 +1,31 @@
 -- SPDX-License-Identifier: Apache-2.0 AND BSD-3-Clause
 -- What a call does to the tables, and where they do not matter: every call but placing keeps how many rows and blocks there are; before placing each call but placing is refused whatever tables are lent; placing ends alike whatever tables were there before.
+use Rattle.std.specs.Prelude.{Ok, Err, Result, ⊤}
 use Prim.Native.Nat.{ℕ}
 use mathlib.Core.Path.{◌≡◌, refl}
 use mathlib.Core.Bool.{Bool, true, false, cond, not}
 use mathlib.Core.List.{List, []}
+use native.Mathlib.Omega.{arith}
 use lib.Dec.{eqb}
 use lib.ListN.{length}
+use borrow.Author.Tests.{ne_eqb}
 use Rattle.units.proofs.Tests.{by_test}
+use Rattle.refusal.specs.declared.Refusal.{Refusal}
+use Rattle.refusal.specs.declared.Refusal.TheVariants.{NotPlaced, NothingPending, NoShape}
+use Rattle.refusal.specs.Refusal.{number}
+use Rattle.refusal.proofs.Numbered.{numbered}
 use Rattle.bitmap.proofs.Laws.{fill_length as fill-blocks}
 use Rattle.rows.specs.declared.MapRow.{MapRow}
 use Rattle.rows.proofs.Laws.{fill_length, laid_length}
 use Rattle.record.specs.declared.Device.{Device}
 use Rattle.record.specs.Shape.{shaped_of, is_idle}
 use Rattle.step.specs.World.{World, Guest, Call, Place, SetRequestedSize, Request, HostAnswer, ReadConfig, WriteConfig, Outcome}
-use Rattle.step.specs.Step.{step, refused, placed, unless, ready_refusal, pending_refusal, unplaced_refusal, tables_fit, place, placing, read_config, write_config, range_refusal}
+use Rattle.step.specs.Step.{step, refused, placed, unless, ready_refusal, pending_refusal, unplaced_refusal, place, placing, read_config, write_config, range_refusal}
 use Rattle.step.specs.Answers.{number_of}
 use Rattle.history.specs.History.{Event}
 use Rattle.history.specs.Rules.{is_place}
 use Rattle.history.proofs.Shaped.{clash}
-use Rattle.history.proofs.Cases.{by_cond, placing_cases}
+use Rattle.history.proofs.Cases.{placing_cases}
 use Rattle.history.proofs.Calls.{Endings, each_call}
 
 -- ---- how many rows and blocks there are
@@ -34,7 +41,7 @@ unfolding is_place
 keeps w =
     let same : SameLengths w w = record { same_rows = refl; same_blocks = refl } in
     record {
-      refuses = λ c n _ _ _. same;
+      refuses = λ c r _ _ _. same;
       reads = λ offset buffer bytes _. same;
       writes = λ offset buffer _. same;
       unserves = λ a reason _. same;
@@ -75,50 +82,46 @@ pub record Stay (w w' : World) (o o' : Outcome) : Type 0 where
   pub stays' : o'.world ≡ w'
 
 module _ (d : Device) (bs bs' : List Bool) (rows rows' : List MapRow) where
-  refuse_both : (n : ℕ) (bytes : List ℕ) → Stay (with d bs rows) (with d bs' rows') (refused n (with d bs rows) bytes) (refused n (with d bs' rows') bytes)
-  refuse_both n bytes = record { same_answer = refl; same_bytes = refl; stays = refl; stays' = refl }
+  refuse_both : (r : Refusal) (bytes : List ℕ) → Stay (with d bs rows) (with d bs' rows') (refused r (with d bs rows) bytes) (refused r (with d bs' rows') bytes)
+  refuse_both r bytes = record { same_answer = refl; same_bytes = refl; stays = refl; stays' = refl }
 
   -- the config's calls look at the record alone
   pub read_stays : (offset : ℕ) (buffer : List ℕ) → Stay (with d bs rows) (with d bs' rows') (step (with d bs rows) (ReadConfig offset buffer)) (step (with d bs' rows') (ReadConfig offset buffer))
   unfolding step read_config
   read_stays offset buffer =
-      by_test (shaped_of d) (λ t. rw t (record { same_answer = refl; same_bytes = refl; stays = refl; stays' = refl })) (λ t. rw t (refuse_both 12 buffer))
+      by_test (shaped_of d) (λ t. rw t (record { same_answer = refl; same_bytes = refl; stays = refl; stays' = refl })) (λ t. rw t (refuse_both NoShape buffer))
 
   pub write_stays : (offset : ℕ) (buffer : List ℕ) → Stay (with d bs rows) (with d bs' rows') (step (with d bs rows) (WriteConfig offset buffer)) (step (with d bs' rows') (WriteConfig offset buffer))
   unfolding step write_config
   write_stays offset buffer =
-      by_test (shaped_of d) (λ t. rw t (record { same_answer = refl; same_bytes = refl; stays = refl; stays' = refl })) (λ t. rw t (refuse_both 12 buffer))
+      by_test (shaped_of d) (λ t. rw t (record { same_answer = refl; same_bytes = refl; stays = refl; stays' = refl })) (λ t. rw t (refuse_both NoShape buffer))
 
   -- a device that is not placed and waits for nothing: 12 or 5, and 12 or 8 for a host answer
-  refuse_early : (n n' m : ℕ) (bytes : List ℕ) (o o' : Outcome) → n ≡ m → n' ≡ m → eqb m 0 ≡ false
-      → Stay (with d bs rows) (with d bs' rows') (unless n (with d bs rows) bytes o) (unless n' (with d bs' rows') bytes o')
+  refuse_early : (x x' : Result ⊤ Refusal) (r : Refusal) (bytes : List ℕ) (o o' : Outcome) → x ≡ Err r → x' ≡ Err r
+      → Stay (with d bs rows) (with d bs' rows') (unless x (with d bs rows) bytes o) (unless x' (with d bs' rows') bytes o')
   unfolding unless
-  refuse_early n n' m bytes o o' p q e = rw (p, q, e) (refuse_both m bytes)
+  refuse_early x x' r bytes o o' p q = rw (p, q) (refuse_both r bytes)
 
   module _ (unplaced : d.placed ≡ false) (idle : is_idle d.pending ≡ true) where
-    pub not_ready : (b r : ℕ) → ready_refusal d b r ≡ cond (not (shaped_of d)) 12 5
+    pub not_ready : (b r : ℕ) → ready_refusal d b r ≡ Err (cond (not (shaped_of d)) NoShape NotPlaced)
     unfolding ready_refusal
-    not_ready b r = simp (idle, unplaced)
+    not_ready b r = by_test (shaped_of d) (λ t. rw (t, idle, unplaced)) (λ t. rw t)
 
-    not_pending : (b r : ℕ) → pending_refusal d b r ≡ cond (not (shaped_of d)) 12 8
+    not_pending : (b r : ℕ) → pending_refusal d b r ≡ Err (cond (not (shaped_of d)) NoShape NothingPending)
     unfolding pending_refusal
-    not_pending b r = simp idle
-
-    pub not-0 : (t : Bool) (n : ℕ) → eqb n 0 ≡ false → eqb (cond (not t) 12 n) 0 ≡ false
-    not-0 true n e = e
-    not-0 false n e = refl
+    not_pending b r = by_test (shaped_of d) (λ t. rw (t, idle)) (λ t. rw t)
 
     pub size_early : (mib : ℕ) → Stay (with d bs rows) (with d bs' rows') (step (with d bs rows) (SetRequestedSize mib)) (step (with d bs' rows') (SetRequestedSize mib))
     unfolding step
-    size_early mib = refuse_early _ _ _ [] _ _ (not_ready _ _) (not_ready _ _) (not-0 (shaped_of d) 5 refl)
+    size_early mib = refuse_early _ _ _ [] _ _ (not_ready _ _) (not_ready _ _)
 
     pub request_early : (g : Guest) (descriptors head : ℕ) → Stay (with d bs rows) (with d bs' rows') (step (with d bs rows) (Request g descriptors head)) (step (with d bs' rows') (Request g descriptors head))
     unfolding step
-    request_early g descriptors head = refuse_early _ _ _ g.mem _ _ (not_ready _ _) (not_ready _ _) (not-0 (shaped_of d) 5 refl)
+    request_early g descriptors head = refuse_early _ _ _ g.mem _ _ (not_ready _ _) (not_ready _ _)
 
     pub answer_early : (g : Guest) (ok : Bool) (host : ℕ) → Stay (with d bs rows) (with d bs' rows') (step (with d bs rows) (HostAnswer g ok host)) (step (with d bs' rows') (HostAnswer g ok host))
     unfolding step
-    answer_early g ok host = refuse_early _ _ _ g.mem _ _ (not_pending _ _) (not_pending _ _) (not-0 (shaped_of d) 8 refl)
+    answer_early g ok host = refuse_early _ _ _ g.mem _ _ (not_pending _ _) (not_pending _ _)
 
 -- ---- placing brings its own
 -- both placings tell the same. One that is refused leaves its world; one that is not leaves one world, with as many rows as it was lent
@@ -129,9 +132,9 @@ pub record Alike (w w' : World) (lent : List MapRow) (o o' : Outcome) : Type 0 w
   pub refuses : eqb (number_of o.answer) 0 ≡ false → (o.world ≡ w) × (o'.world ≡ w')
   pub takes : eqb (number_of o.answer) 0 ≡ true → (o'.world ≡ o.world) × (length o.world.rows ≡ length lent)
 
-both_ways : (Q : Outcome → Outcome → Type 0) (t : Bool) (a b a' b' : Outcome) → (t ≡ true → Q a a') → (t ≡ false → Q b b') → Q (cond t a b) (cond t a' b')
-both_ways Q true a b a' b' f g = f refl
-both_ways Q false a b a' b' f g = g refl
+-- no refusal is told as 0
+some_number : (r : Refusal) → eqb (number r) 0 ≡ false
+some_number r = ne_eqb (number r) 0 (λ e. let n = numbered r in omega arith)
 
 -- a placing that is taken
 pub record Taken (lent : List MapRow) (o : Outcome) : Type 0 where
@@ -142,8 +145,8 @@ module _ (d : Device) (bs bs' : List Bool) (rows rows' : List MapRow) (at size :
   abbrev Both : Outcome → Outcome → Type 0
   Both o o' = Alike (with d bs rows) (with d bs' rows') lent o o'
 
-  refused_alike : (n : ℕ) → eqb n 0 ≡ false → Both (refused n (with d bs rows) []) (refused n (with d bs' rows') [])
-  refused_alike n e = record { same_answer = refl; same_bytes = refl; same_device = refl; refuses = λ _. (refl, refl); takes = λ f. clash f e }
+  refused_alike : (r : Refusal) → Both (refused r (with d bs rows) []) (refused r (with d bs' rows') [])
+  refused_alike r = record { same_answer = refl; same_bytes = refl; same_device = refl; refuses = λ _. (refl, refl); takes = λ f. clash f (some_number r) }
 
   taken_alike : (o : Outcome) → Taken lent o → Both o o
   taken_alike o t =
@@ -159,22 +162,18 @@ module _ (d : Device) (bs bs' : List Bool) (rows rows' : List MapRow) (at size :
   placing_taken w l =
       placing_cases (Taken lent) w (record { number_0 = refl; same_rows = l }) (λ i last n _. record { number_0 = refl; same_rows = l }) (λ _. record { number_0 = refl; same_rows = l })
 
-  place_alike : Both (place (with d bs rows) at size slots bits lent) (place (with d bs' rows') at size slots bits lent)
-  unfolding place unless
-  place_alike =
-      let w = with d bs rows in
-      let n = range_refusal d at size (length slots) in
-      both_ways Both (eqb n 0) _ _ _ _
-      (λ _. taken_alike (placing (placed w at slots bits lent)) (placing_taken (placed w at slots bits lent) (laid_length lent slots)))
-      (λ e. refused_alike n e)
+  -- where both are tested alike
+  unless_alike : (x : Result ⊤ Refusal) (o o' : Outcome) → Both o o' → Both (unless x (with d bs rows) [] o) (unless x (with d bs' rows') [] o')
+  unfolding unless
+  unless_alike (Ok admitted) o o' both = both
+  unless_alike (Err refusal) o o' both = refused_alike refusal
 
-  abbrev Given : ℕ → Type 0
-  Given n = Both (unless n (with d bs rows) [] (place (with d bs rows) at size slots bits lent)) (unless n (with d bs' rows') [] (place (with d bs' rows') at size slots bits lent))
+  place_alike : Both (place (with d bs rows) at size slots bits lent) (place (with d bs' rows') at size slots bits lent)
+  unfolding place
+  place_alike =
+      let w = placed (with d bs rows) at slots bits lent in
+      unless_alike (range_refusal d at size (length slots)) _ _ (taken_alike (placing w) (placing_taken w (laid_length lent slots)))
 
   pub places_alike : Both (step (with d bs rows) (Place at size slots bits lent)) (step (with d bs' rows') (Place at size slots bits lent))
-  unfolding step unplaced_refusal unless
-  places_alike =
-      by_cond Given (not (shaped_of d)) _ _ (λ _. refused_alike 12 refl)
-      (λ _. by_cond Given (not (is_idle d.pending)) _ _ (λ _. refused_alike 7 refl)
-      (λ _. by_cond Given d.placed _ _ (λ _. refused_alike 6 refl)
-      (λ _. by_cond Given (not (tables_fit d (length bits) (length lent))) _ _ (λ _. refused_alike 11 refl) (λ _. place_alike))))
+  unfolding step
+  places_alike = unless_alike (unplaced_refusal d (length bits) (length lent)) _ _ place_alike

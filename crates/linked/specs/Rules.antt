@@ -1,10 +1,9 @@
 -- SPDX-License-Identifier: Apache-2.0 AND BSD-3-Clause
 -- The rules of `history` for a program that links the library, of every call of every run of the exported functions: of the world in hand before it, of the call, and of what it shows.
-use Rattle.std.specs.Prelude.{ℕ, ◌+◌, ◌≡◌, List}
+use Rattle.std.specs.Prelude.{ℕ, ◌+◌, ◌≡◌, List, Ok}
 use Rattle.record.specs.declared.Device.{Device}
 use Rattle.step.specs.World.{World, Call, Outcome}
 use Rattle.step.specs.Step.{step}
-use Rattle.making.specs.declared.Made.TheVariants.{Device as MadeDevice}
 use Rattle.history.specs.History.{Story, after, begun}
 use Rattle.history.specs.Rules.{asked_in, taken_in, waits, KeepsShape, Never12, UsableNeverShrinks, DiscardIsCounted, OnlySizeChangeMovesRequested, PlugWithinRequested, SizeChangeTouchesNothing, LoweringAsksNothing, WholeOrNotAtAll, PendingStays, AsksWhatIsDue}
 use Rattle.history.specs.Questions.{AsksForPending, OnlyUnplugsDiscard, OnlyOpenUnplugsDiscard}
@@ -26,7 +25,7 @@ story_in_hand h s = record { world = in_hand h; «open» = s.«open»; events = 
 
 -- P holds after every run, and of any call then, where it speaks of what led there
 abbrev pub AfterEveryRun : (Story → Call → Type 0) → Type 0
-AfterEveryRun P = (m : Making) (words' : List ℕ) → Makes m words' → (d : Device) → made_by m ≡ MadeDevice d → (us : List Use) → Run (first words') us → (u : Use)
+AfterEveryRun P = (m : Making) (words' : List ℕ) → Makes m words' → (d : Device) → made_by m ≡ Ok d → (us : List Use) → Run (first words') us → (u : Use)
     → P (story_in_hand (held_after (first words') us) (after (begun d) (calls_of us))) (call_of u)
 
 -- R18.12: each sentence as `history` has it
@@ -53,5 +52,5 @@ pub record RulesInHand : Type 0 where
   pub asks_for_pending : OfEveryCall AsksForPending
   pub asks_what_is_due : AfterEveryRun AsksWhatIsDue
   pub pending_stays : OfEveryCall PendingStays
-  pub each_asked_answered : (m : Making) (words' : List ℕ) → Makes m words' → (d : Device) → made_by m ≡ MadeDevice d → (us : List Use) → Run (first words') us
+  pub each_asked_answered : (m : Making) (words' : List ℕ) → Makes m words' → (d : Device) → made_by m ≡ Ok d → (us : List Use) → Run (first words') us
       → asked_in (begun d).world (calls_of us) ≡ taken_in (begun d).world (calls_of us) + waits (in_hand (held_after (first words') us)).device.pending

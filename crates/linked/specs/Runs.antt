@@ -1,17 +1,16 @@
 -- SPDX-License-Identifier: Apache-2.0 AND BSD-3-Clause
 -- A run of the exported functions, as a program that links the library makes it: the arguments of each call, what it was lent, what it left there, and the number that it returned.
 use Prim.{Unit}
-use Rattle.std.specs.Prelude.{ℕ, ◌≤◌, ◌≡◌, Bool, true, false, not, ◌||◌, List, [], ◌∷◌, eqb, Some}
+use Rattle.std.specs.Prelude.{ℕ, ◌≤◌, ◌≡◌, Bool, true, false, not, ◌||◌, List, [], ◌∷◌, eqb, Some, Ok, Result}
 use Rattle.bitmap.specs.Blocks.{blocks}
 use Rattle.rows.specs.Rows.{rows_of}
 use Rattle.little_endian.specs.Bytes.{put}
+use Rattle.refusal.specs.declared.Refusal.{Refusal}
 use Rattle.record.specs.declared.Device.{Device}
 use Rattle.record.specs.Shape.{is_idle}
 use Rattle.step.specs.World.{World, Call, world_of}
 use Rattle.step.specs.Step.{step}
 use Rattle.step.specs.Promise.{Lent, place_on, resize_on, request_on, answer_on, read_on, write_on}
-use Rattle.making.specs.declared.Made.{Made}
-use Rattle.making.specs.declared.Made.TheVariants.{Device as MadeDevice}
 use Rattle.making.specs.Made.{made}
 use Rattle.words.specs.Record.{record_of, decoded_of}
 use Rattle.step.specs.Answers.{answer_words, number_of}
@@ -121,7 +120,7 @@ pub record Making : Type 0 where
   pub node : ℕ
   pub boot : ℕ
 
-abbrev pub made_by : Making → Made
+abbrev pub made_by : Making → Result Device Refusal
 made_by m = made m.capacity m.requested m.several (node_of m.given m.node) m.boot
 
 -- it has returned 0 and left words'; a node has 16 bits, as its type says
@@ -163,5 +162,5 @@ pub record Follows (h : Held) (s : Story) : Type 0 where
 -- the theorem: a device was made, and over any run from then on
 pub record Linked (m : Making) (words' : List ℕ) : Type 0 where
   pub device : Device
-  pub is_made : made_by m ≡ MadeDevice device
+  pub is_made : made_by m ≡ Ok device
   pub follows : Follows (first words') (begun device)

@@ -43,10 +43,10 @@ pub enum Taking {
 fn discards(pending: Pending) -> bool
     ensures { result ≡ discarding pending }
 {
-    match pending {
-        Pending::Discard { .. } | Pending::DiscardOne { .. } => true,
-        Pending::Nothing | Pending::Create { .. } => false,
-    }
+    matches!(
+        pending,
+        Pending::Discard { .. } | Pending::DiscardOne { .. }
+    )
 }
 
 // The queue's part of 12: a head is out only while a discard is pending.

@@ -1,12 +1,11 @@
 -- SPDX-License-Identifier: Apache-2.0 AND BSD-3-Clause
 -- One exported call against one step on the queue: what is held goes on meaning where the run stands, and what the call tells is what the step tells.
 use Rattle.step.specs.declared.Answer.{Answer}
-use Rattle.std.specs.Prelude.{Option, Some, None}
+use Rattle.std.specs.Prelude.{Option, Some, None, Err}
 use Prim.Native.Nat.{ℕ}
 use mathlib.Core.Path.{◌≡◌, refl, ap, sym, ◌∙◌}
 use mathlib.Core.Bool.{Bool, true, false, cond, not}
 use mathlib.Core.List.{List, [], ◌∷◌}
-use lib.Dec.{eqb}
 use lib.ListN.{length}
 use Rattle.units.proofs.Tests.{by_test}
 use Rattle.bitmap.specs.Blocks.{blocks}
@@ -14,12 +13,12 @@ use Rattle.rows.specs.declared.MapRow.{MapRow}
 use Rattle.rows.specs.Rows.{rows_of}
 use Rattle.rows.proofs.Words.{read_back}
 use Rattle.little_endian.specs.Bytes.{put}
+use Rattle.refusal.specs.declared.Refusal.TheVariants.{NotPlaced, NoShape}
 use Rattle.record.specs.declared.Device.{Device}
 use Rattle.record.specs.declared.Pending.{Pending}
 use Rattle.record.specs.declared.Pending.TheVariants.{Nothing as Idle, Create, Discard, DiscardOne}
 use Rattle.record.specs.Shape.{shaped_of, is_idle}
 use Rattle.rings.specs.declared.Queue.{Queue}
-use Rattle.rings.specs.declared.Next.TheVariants.{Refused as HasRefused}
 use Rattle.step.specs.World.{World, Guest, Call, world_of}
 use Rattle.words.specs.Record.{decoded_of}
 use Rattle.queue.specs.Queue.{QueueOutcome, queue_ok, taking_refusal, next_unless, next_of, takes, out_refusal, answer_refusal, answers, unless_refused, queue_answer_words, queue_number_of}
@@ -29,7 +28,7 @@ use Rattle.jambcopper.specs.Queue.{QueueHanded, QueueTold, QueueCalled}
 use Rattle.history.specs.Rules.{is_place}
 use Rattle.history.proofs.Shaped.{clash}
 use Rattle.linked.specs.Runs.{in_use, holding}
-use Rattle.linked.proofs.Tables.{lengths_kept, with, not_ready, not-0, answer_early}
+use Rattle.linked.proofs.Tables.{lengths_kept, with, not_ready, answer_early}
 use Rattle.linked.proofs.Steps.{not_in_use}
 use Rattle.queue_runs.specs.Runs.{QueueCall, TakeNext, Host, queue_step, device_calls}
 use Rattle.queue_runs.specs.Rules.{AsCalls, is_placing}
@@ -63,16 +62,13 @@ module _ (d : Device) (bs bs' : List Bool) (rows rows' : List MapRow) (q : Queue
   there = with d bs' rows'
 
   -- 12 or 5, whatever tables are lent
-  refused_early : (b r : ℕ) → taking_refusal d q.taken b r ≡ cond (not (queue_ok q.taken d.pending)) 12 (cond (not (shaped_of d)) 12 5)
+  refused_early : (b r : ℕ) → taking_refusal d q.taken b r ≡ Err (cond (not (queue_ok q.taken d.pending)) NoShape (cond (not (shaped_of d)) NoShape NotPlaced))
   unfolding taking_refusal
-  refused_early b r = rw (not_ready d bs bs' rows rows' unplaced idle b r)
+  refused_early b r = by_test (queue_ok q.taken d.pending) (λ t. rw (t, not_ready d bs bs' rows rows' unplaced idle b r)) (λ t. rw t)
 
-  some_number : eqb (cond (not (queue_ok q.taken d.pending)) 12 (cond (not (shaped_of d)) 12 5)) 0 ≡ false
-  some_number = by_test (queue_ok q.taken d.pending) (λ t. rw t (not-0 d bs bs' rows rows' unplaced idle (shaped_of d) 5 refl)) (λ t. rw t)
-
-  next_early : (w : World) → w.device ≡ d → (g : Guest) → next_of w q g ≡ HasRefused (cond (not (queue_ok q.taken d.pending)) 12 (cond (not (shaped_of d)) 12 5))
+  next_early : (w : World) → w.device ≡ d → (g : Guest) → next_of w q g ≡ Err (cond (not (queue_ok q.taken d.pending)) NoShape (cond (not (shaped_of d)) NoShape NotPlaced))
   unfolding next_unless
-  next_early w e g = rw (e, refused_early (length w.blocks) (length w.rows), some_number)
+  next_early w e g = rw (e, refused_early (length w.blocks) (length w.rows))
 
   taking_early : (g : Guest) → Stay here there (queue_step here q (TakeNext g)) (queue_step there q (TakeNext g))
   unfolding queue_step takes

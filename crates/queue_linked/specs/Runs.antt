@@ -1,14 +1,13 @@
 -- SPDX-License-Identifier: Apache-2.0 AND BSD-3-Clause
 -- A run of the exported functions on a device and its queue, as a program that links the library makes it.
 use Prim.{Unit}
-use Rattle.std.specs.Prelude.{ℕ, ◌≡◌, Bool, true, List, [], ◌∷◌, Some}
+use Rattle.std.specs.Prelude.{ℕ, ◌≡◌, Bool, true, List, [], ◌∷◌, Some, Ok}
 use Rattle.bitmap.specs.Blocks.{blocks}
 use Rattle.rows.specs.Rows.{rows_of}
 use Rattle.little_endian.specs.Bytes.{put}
 use Rattle.record.specs.declared.Device.{Device}
 use Rattle.rings.specs.declared.Queue.{Queue}
 use Rattle.step.specs.World.{World}
-use Rattle.making.specs.declared.Made.TheVariants.{Device as MadeDevice}
 use Rattle.queue.specs.Queue.{queue_answer_words, queue_number_of}
 use Rattle.queue_words.specs.Words.{decoded_queue_of}
 use Rattle.step.specs.Promise.{Lent, guest_in}
@@ -140,7 +139,7 @@ pub record Tells (w : World) (q : Queue) (u : QueueUse) : Type 0 where
 -- the theorem: a device and a queue were made, and over any run of the exported functions from then on
 pub record QueueLinked (m : Making) (words : List ℕ) (k : QueueMaking) (queue : List ℕ) : Type 0 where
   pub device : Device
-  pub is_made : made_by m ≡ MadeDevice device
+  pub is_made : made_by m ≡ Ok device
   -- what is held means where the definition's run of the same calls stands
   pub means : (us : List QueueUse) → Run (begins words queue) us → let s = after_all (opened (begun device) (made_queue k)) (calls_of us) in QueueMeans (held_after (begins words queue) us) s.world s.queue
   -- any further call tells what its next step tells

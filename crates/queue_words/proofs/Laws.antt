@@ -3,7 +3,7 @@
 use Rattle.std.specs.Prelude.{Option, Some, None}
 use Prim.Native.Nat.{ℕ, ◌+◌, ◌-◌, ◌≤◌}
 use mathlib.Core.Path.{◌≡◌, refl, sym, ap}
-use mathlib.Core.Bool.{Bool, true, false, cond, ◌&&◌}
+use mathlib.Core.Bool.{Bool, true, false, cond}
 use mathlib.Core.List.{List, ◌++◌}
 use native.Mathlib.Omega.{arith}
 use lib.Dec.{leb, eqb}
@@ -24,7 +24,7 @@ use Rattle.step.specs.Answers.{answer_words, served_with, OfReply}
 use Rattle.step.proofs.Served.{Short}
 use Rattle.queue.specs.declared.Ending.TheVariants.{Out, Used}
 use Rattle.queue.specs.Queue.{ending_of}
-use Rattle.queue_words.specs.Words.{taken_word, taken_of, queue_words, is_queue, queue_of, decoded_queue_of, ending_words}
+use Rattle.queue_words.specs.Words.{taken_word, taken_of, taken_meant, queue_words, is_queue, queue_of, decoded_queue_of, ending_words}
 
 -- ---- the tests of a queue
 -- what the tests of `is_queue` say
@@ -50,17 +50,25 @@ pub fits_queue : (ws : List ℕ) → Fits ws → is_queue ws ≡ true
 unfolding is_queue
 fits_queue ws f = simp (le-leb _ _ f.long, le-leb _ _ f.available, le-leb _ _ f.used, le-leb _ _ f.taken)
 
--- the bounds in one test, as `decode_queue` has them
-abbrev bounded : List ℕ → Bool
-bounded ws = leb (word ws 3) 65535 && (leb (word ws 4) 65535 && leb (word ws 5) 65536)
+-- ---- the words test by test, as `decode_queue` does it
+-- one test that fails is enough
+pub unfit : (ws : List ℕ) (t : Bool) → (Fits ws → t ≡ true) → t ≡ false → None ≡ decoded_queue_of ws
+unfolding decoded_queue_of
+unfit ws t f e =
+    by_test (is_queue ws)
+    (λ s. let h : t ≡ true = f (queue_fits ws s) in absurd (let z : ◌≡◌ {A = ℕ} 0 1 = cc in omega arith))
+    (λ s. simp s)
 
-pub bounds : (ws : List ℕ) → 6 ≤ length ws → bounded ws ≡ true → Fits ws
-unfolding is_queue
-bounds ws long h = queue_fits ws (simp (le-leb _ _ long) h)
+pub fit : (ws : List ℕ) → Fits ws → decoded_queue_of ws ≡ Some (queue_of ws)
+unfolding decoded_queue_of
+fit ws f = simp (fits_queue ws f)
 
-pub unfit : (ws : List ℕ) → bounded ws ≡ false → None ≡ decoded_queue_of ws
-unfolding decoded_queue_of is_queue
-unfit ws h = by_test (leb 6 (length ws)) (λ t. simp (t, h)) (λ t. simp t)
+-- the head that a word means
+pub no_taken : (w : ℕ) → None ≡ taken_meant w → leb w 65536 ≡ false
+no_taken w e = by_test (leb w 65536) (λ t. let q = simp t at e in absurd (cc)) (λ t. t)
+
+pub a_taken : (w : ℕ) (taken : Option ℕ) → Some taken ≡ taken_meant w → (w ≤ 65536) × (taken_of w ≡ taken)
+a_taken w taken e = by_test (leb w 65536) (λ t. let q = simp t at e in (leb-true w 65536 t, cc)) (λ t. let q = simp t at e in absurd (cc))
 
 -- ---- a queue reads back
 pub taken_back : (t : Option ℕ) → taken_of (taken_word t) ≡ t

@@ -30,6 +30,10 @@ queue_words q =
 unfoldable pub taken_of : ℕ → Option ℕ
 taken_of n = cond (eqb n 0) None (Some (n - 1))
 
+-- a word means a head, or none, where that is a number of 16 bits
+abbrev pub taken_meant : ℕ → Option (Option ℕ)
+taken_meant n = cond (leb n 65536) (Some (taken_of n)) None
+
 -- R19.4: words begin with a queue's: there are as many, and the indices and a head are numbers of 16 bits
 unfoldable pub is_queue : List ℕ → Bool
 is_queue ws =

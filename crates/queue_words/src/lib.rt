@@ -5,54 +5,53 @@
 ghost use Rattle.std.specs.Prelude.{◌≡◌, true, ◌≤◌, length, Some};
 ghost use Rattle.little_endian.specs.Bytes.{put};
 ghost use Rattle.queue.specs.Queue.{queue_answer_words, queue_number_of};
-ghost use Rattle.queue_words.specs.Words.{queue_length, taken_word, taken_of, queue_words, is_queue};
+ghost use Rattle.queue_words.specs.Words.{queue_length, taken_word, taken_meant, queue_words, is_queue};
 ghost use Rattle.queue_words.specs.Words.{decoded_queue_of, ending_words};
 
-use step::Answer;
 use answer_words::{ANSWER_WORDS, tell};
 use queue::Ending;
 use rings::Queue;
+use step::Answer;
 use units::GuestAddr;
 use words::write_all;
 
 // A queue's length in words.
 pub const QUEUE_WORDS: usize = 6;
 
-// The head that a word means: the word less 1, and none where it is 0.
-fn taken_of(word: u64) -> Option<u16>
-    requires { word ≤ 65536 }
-    ensures { result ≡ taken_of word }
+// The head that a word means: the word less 1, and none where it is 0. No meaning where that is no head.
+#[tactic(auto, unfolding(crate::specs::Words::taken_of))]
+fn taken_of(word: u64) -> Option<Option<u16>>
+    ensures { result ≡ taken_meant word }
 {
-    if word == 0 {
-        return None;
+    match word {
+        0 => Some(None),
+        _ => Some(Some(u16::try_from(word - 1).ok()?)),
     }
-    Some((word - 1) as u16)
 }
 
 // The queue that words begin with, if they do.
 pub fn decode_queue(words: &[u64]) -> Option<Queue>
     ensures { result ≡ decoded_queue_of words.now }
 {
-    if words.len() < QUEUE_WORDS {
+    let &[
+        descriptors,
+        available,
+        used,
+        next_available,
+        next_used,
+        taken,
+        ..
+    ] = words
+    else {
         return None;
-    }
-    let descriptors = words[0];
-    let available = words[1];
-    let used = words[2];
-    let next_available = words[3];
-    let next_used = words[4];
-    let out = words[5];
-    if !((next_available <= 65535) & ((next_used <= 65535) & (out <= 65536))) {
-        return None;
-    }
-    let taken = taken_of(out);
+    };
     Some(Queue {
         descriptors: GuestAddr(descriptors),
         available: GuestAddr(available),
         used: GuestAddr(used),
-        next_available: next_available as u16,
-        next_used: next_used as u16,
-        taken: taken,
+        next_available: u16::try_from(next_available).ok()?,
+        next_used: u16::try_from(next_used).ok()?,
+        taken: taken_of(taken)?,
     })
 }
 
@@ -63,7 +62,7 @@ fn taken_word(taken: Option<u16>) -> u64
 {
     match taken {
         None => 0,
-        Some(head) => head as u64 + 1,
+        Some(head) => u64::from(head) + 1,
     }
 }
 
@@ -72,15 +71,13 @@ fn queue_words(q: Queue) -> [u64; QUEUE_WORDS]
     ensures value { result ≡ queue_words q }
     ensures result_value { is_queue result ≡ true }
 {
-    let taken = q.taken;
-    let out = taken_word(taken);
     [
         q.descriptors.0,
         q.available.0,
         q.used.0,
-        q.next_available as u64,
-        q.next_used as u64,
-        out,
+        u64::from(q.next_available),
+        u64::from(q.next_used),
+        taken_word(q.taken),
     ]
 }
 
@@ -107,23 +104,17 @@ pub fn tell_queue(answer: Option<Answer>, words: &mut [u64]) -> u64
     }
 }
 
-// What the words of an answer mean for the head that it is about.
+// What the words of an answer mean for the head that it is about. Its kind is a number here because an answer is words
+// at the C interface.
+#[tactic(auto, unfolding(crate::specs::Words::ending_words))]
 pub fn ending_told(told: [u64; ANSWER_WORDS]) -> Ending
     ensures { result ≡ ending_words told }
 {
-    let kind = told[0];
-    let length = told[7];
-    match kind {
-        1 => Ending::Out,
-        2 => Ending::Out,
-        4 => Ending::Used(0),
-        5 => {
-            if length == 0 {
-                Ending::Used(0)
-            } else {
-                Ending::Used(10)
-            }
-        }
+    match (told[0], told[7]) {
+        (1 | 2, _) => Ending::Out,
+        (4, _) => Ending::Used(0),
+        (5, 0) => Ending::Used(0),
+        (5, _) => Ending::Used(10),
         _ => Ending::Stays,
     }
 }

@@ -84,10 +84,7 @@ pub struct Device {
 fn alignment_ok(alignment: u64) -> bool
     ensures { result ≡ alignment_ok alignment }
 {
-    match alignment {
-        MIB_128 | MIB_256 | MIB_512 | GIB_1 | GIB_2 => true,
-        _ => false,
-    }
+    matches!(alignment, MIB_128 | MIB_256 | MIB_512 | GIB_1 | GIB_2)
 }
 
 // A positive multiple of twice the alignment, at most 1 TiB.

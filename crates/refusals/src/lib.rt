@@ -2,7 +2,7 @@
 // What a refusal means, in one plain sentence with the numbers that matter, and what the device waits for.
 //
 // Each function puts a text into a buffer at a position. It answers the next position, and one past the buffer's length
-// where there is no room. Buffer and position stay two parameters: the buffer is lent, and there is no heap for a String.
+// where there is no room. Buffer and position stay two parameters: the buffer is lent, since there is no heap.
 #![tactic(auto)]
 
 ghost use Rattle.text.specs.Putting.{Put};

@@ -3,7 +3,7 @@
 // ERROR has done nothing.
 //
 // Each function puts a text into a buffer at a position. It answers the next position, and one past the buffer's length
-// where there is no room. Buffer and position stay two parameters: the buffer is lent, and there is no heap for a String.
+// where there is no room. Buffer and position stay two parameters: the buffer is lent, since there is no heap.
 #![tactic(auto)]
 
 ghost use Rattle.std.specs.Prelude.{◌≡◌};
@@ -324,8 +324,8 @@ fn put_error(
     }
 }
 
-// The sentence of a response to a line, with the lent bitmap as it is after the line. An ERROR has a reason: one without
-// would be told as that of a range that ends past the usable end.
+// The sentence of a response to a line, with the lent bitmap as it is after the line. An ERROR has a reason: without
+// one it would be told as that of a range that ends past the usable end.
 #[tactic(auto, unfolding(crate::specs::Responses::reply_text, crate::specs::Responses::told_as))]
 pub fn put_reply(
     out: &mut [u8],

@@ -119,7 +119,8 @@ fn run_at(s: &[u8], at: usize) -> Option<RunLine>
 }
 
 // Whether the text from a position on is that of runs that neither touch nor fall back, none past block `end`; and
-// how many blocks they have.
+// how many blocks they have. The position goes by hand: each line says where the next one begins, and what is no line
+// is refused.
 pub fn count_runs(s: &[u8], at: usize, end: u32) -> Option<u64>
     ensures { Counts 0 end 0 (drop at s.now) result }
 {

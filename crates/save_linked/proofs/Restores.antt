@@ -1,9 +1,10 @@
 -- SPDX-License-Identifier: Apache-2.0 AND BSD-3-Clause
 -- A restore by the library is a restore of the definition's run: the words that it leaves mean the restored record, and the bitmap the blocks of the text's runs.
-use Rattle.std.specs.Prelude.{Option, Some, None}
+use Rattle.std.specs.Prelude.{Option, Some, None, Ok, Err, Result}
 use Prim.Native.Nat.{ℕ}
-use mathlib.Core.Path.{◌≡◌, refl, ap, ◌∙◌}
+use mathlib.Core.Path.{◌≡◌, refl, ap, sym, ◌∙◌}
 use mathlib.Core.List.{List}
+use Rattle.refusal.specs.declared.Refusal.{Refusal}
 use Rattle.record.specs.declared.Device.{Device}
 use Rattle.step.specs.World.{World, Call, Outcome, world_of}
 use Rattle.words.specs.Record.{decoded_of}
@@ -13,8 +14,6 @@ use Rattle.history.specs.Reached.{after_restore, CanRestore, Reached, by_restore
 use Rattle.history.specs.Rules.{FromEveryGood, FromEveryWorld}
 use Rattle.history.proofs.Demand3.{reached_after}
 use Rattle.runs.specs.Runs.{runs_of}
-use Rattle.saving.specs.declared.Restored.{Restored}
-use Rattle.saving.specs.declared.Restored.TheVariants.{Device as Laid, Refused}
 use Rattle.saving.specs.Restoring.{Restoring, RestoresText as Kept}
 use Rattle.saving.proofs.Turns.{never_0}
 use Rattle.save_runs.specs.Starts.{plugs_of}
@@ -35,7 +34,7 @@ module _ (h : Held) (s : Story) (m : Means h s.world) (reached : Reached s) (tex
   same_world : world_of here h.bitmap h.table ≡ s.world
   same_world = rw (m.marked, m.mapped)
 
-  laid : (d' : Device) → Restoring here text h.bitmap bitmap' d' → words' ≡ restored_words (Laid d') h.words → SaveLinked (held_then h words' bitmap') s text
+  laid : (d' : Device) → Restoring here text h.bitmap bitmap' d' → words' ≡ restored_words (Ok d') h.words → SaveLinked (held_then h words' bitmap') s text
   laid d' r recorded =
       let f = r.fields in
       let plugs = plugs_of (runs_of r.bs) in
@@ -60,9 +59,9 @@ module _ (h : Held) (s : Story) (m : Means h s.world) (reached : Reached s) (tex
       }
 
   -- a refusal does not return 0
-  answered : (a : Restored) → Kept here text h.bitmap bitmap' a → 0 ≡ restored_number a → words' ≡ restored_words a h.words → SaveLinked (held_then h words' bitmap') s text
-  answered (Laid d') r e recorded = laid d' r recorded
-  answered (Refused k) r e recorded = absurd (never_0 here text h.bitmap bitmap' (rw e r))
+  answered : (a : Result Device Refusal) → Kept here text h.bitmap bitmap' a → 0 ≡ restored_number a → words' ≡ restored_words a h.words → SaveLinked (held_then h words' bitmap') s text
+  answered (Ok d') r e recorded = laid d' r recorded
+  answered (Err why) r e recorded = absurd (never_0 here text h.bitmap bitmap' why r (sym e))
 
   on_record_lem : RestoreCalled h text words' bitmap' 0 → RestoresRecord here text h.words words' h.bitmap bitmap' 0
   unfolding RestoresFrom
@@ -88,9 +87,9 @@ pub refused_restore_changes_nothing : RefusedRestoreChangesNothing
 unfolding RestoresFrom
 refused_restore_changes_nothing text words words' bitmap bitmap' number t refused = go (decoded_of words) t
   where
-    of : (d : Device) (a : Restored) → Kept d text bitmap bitmap' a → number ≡ restored_number a → words' ≡ restored_words a words → RestoreUntouched words words' bitmap bitmap'
-    of d (Laid d') r e w = absurd (refused e)
-    of d (Refused k) r e w = record { same_words = w; same_bitmap = r.same }
+    of : (d : Device) (a : Result Device Refusal) → Kept d text bitmap bitmap' a → number ≡ restored_number a → words' ≡ restored_words a words → RestoreUntouched words words' bitmap bitmap'
+    of d (Ok d') r e w = absurd (refused e)
+    of d (Err why) r e w = record { same_words = w; same_bitmap = r.same }
 
     go : (r : Option Device) → RestoresFrom r text words words' bitmap bitmap' number → RestoreUntouched words words' bitmap bitmap'
     go (Some d) l = of d l.answer l.restores l.numbered l.recorded

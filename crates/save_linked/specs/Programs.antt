@@ -1,8 +1,7 @@
 -- SPDX-License-Identifier: Apache-2.0 AND BSD-3-Clause
 -- The whole of a program that links the library: it makes a device, calls the exports, and restores, in any order and as often as it likes.
-use Rattle.std.specs.Prelude.{ℕ, ◌≡◌, Bool, List}
+use Rattle.std.specs.Prelude.{ℕ, ◌≡◌, Bool, List, Ok}
 use Rattle.record.specs.declared.Device.{Device}
-use Rattle.making.specs.declared.Made.TheVariants.{Device as MadeDevice}
 use Rattle.history.specs.History.{Story, next, begun, Demand3}
 use Rattle.history.specs.Reached.{Reached}
 use Rattle.save.specs.declared.Fields.{Fields}
@@ -12,7 +11,7 @@ use Rattle.save_linked.specs.Restores.{RestoreCalled, held_then, starts_at}
 
 -- what it holds, and where the definition's run stands. A refused restore leaves what is held, so it is no step here
 pub data Program : Held → Story → Type 0 where
-  by_making : (m : Making) (words : List ℕ) (d : Device) → Makes m words → made_by m ≡ MadeDevice d → Program (first words) (begun d)
+  by_making : (m : Making) (words : List ℕ) (d : Device) → Makes m words → made_by m ≡ Ok d → Program (first words) (begun d)
   by_export : {h : Held} {s : Story} → Program h s → (u : Use) → One h u → Program (leaves h u) (next s (call_of u))
   by_restoring : {h : Held} {s : Story} → Program h s → (text words' bitmap' : List ℕ) (f : Fields) (bs : List Bool) → RestoreCalled h text words' bitmap' 0 → Says text f bs
       → Program (held_then h words' bitmap') (starts_at s.world f bs)

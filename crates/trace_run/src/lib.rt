@@ -31,7 +31,7 @@ use trace_text::{FirstLine, Line, Op, RangeOp, read_line};
 use units::{GuestAddr, map_regions};
 use wire::RequestType;
 
-// Where a run stands: before its first line, on a device, or ended.
+// Where a run stands: before its first line, on a device, or ended. These are three ways, and an Option has two.
 #[derive(Clone, Copy)]
 pub enum Run {
     Before,

@@ -109,20 +109,6 @@ pub fn is_multiple(n: u64, of: u64) -> bool
     n.is_multiple_of(of)
 }
 
-// The smaller of two numbers.
-pub fn smaller(a: u64, b: u64) -> u64
-    ensures { result ≡ min a b }
-{
-    a.min(b)
-}
-
-// a - b, and 0 where b is the larger.
-pub fn saturating_sub(a: u64, b: u64) -> u64
-    ensures { result ≡ a - b }
-{
-    a.saturating_sub(b)
-}
-
 // Whether a + b is at most `limit`, as numbers without end: no sum is made.
 pub fn sum_within(a: u64, b: u64, limit: u64) -> bool
     ensures { result ≡ leb (a + b) limit }
@@ -141,13 +127,6 @@ pub fn product_within(a: u64, b: u64, limit: u64) -> bool
         return true;
     }
     a <= limit / b
-}
-
-// a + b, saturating at 2^64 - 1.
-pub fn saturating_add(a: u64, b: u64) -> u64
-    ensures { result ≡ saturated (a + b) }
-{
-    a.saturating_add(b)
 }
 
 // The guest's memory block size, by its boot memory (R4.2).

@@ -148,6 +148,7 @@ pub fn read_config(config: VirtioMemConfig, offset: u64, data: &mut [u8])
     if past {
         return;
     }
+    // Beside the table and not in it: the table is constant, and its values are those of one config.
     let values: [u64; 8] = [
         config.block_size,
         config.node_id as u64,

@@ -1,6 +1,7 @@
 -- SPDX-License-Identifier: Apache-2.0 AND BSD-3-Clause
 -- Words written one at a time are words written at once. Encoding and decoding are inverse: a record reads back from its words, and words that are a record's are what it is written as.
-use Rattle.std.specs.Prelude.{Option, Some, None}
+use Rattle.std.specs.Prelude.{Option, Some, None, Result, Ok, Err}
+use Rattle.std.specs.Result.{OkIff, result_ok}
 use Prim.Native.Nat.{ℕ, ◌+◌, ◌≤◌, ◌<◌}
 use mathlib.Core.Path.{◌≡◌, refl, sym, ap, ◌∙◌}
 use mathlib.Core.Bool.{Bool, true, false, ◌&&◌}
@@ -51,6 +52,16 @@ pending_laid ws ps p h e =
     let k : 11 + length (pending_words p) ≤ length ws = omega arith in
     rw (e, put_fits ws 11 (pending_words p) k, n, append_assoc)
     (ap (λ (rest : List ℕ). take 11 ws ++ (pending_words p ++ rest)) (drop-drop 4 11 ws))
+
+-- ---- a word that is a number of 16 bits
+
+pub no_u16 : {E : Type 0} (w : ℕ) (r : Result ℕ E) → OkIff r (w < 65536) w → None ≡ result_ok r → leb w 65535 ≡ false
+no_u16 w (Ok x) k e = absurd (cc)
+no_u16 w (Err x) k e = by_test (leb w 65535) (λ t. absurd (k (omega (arith, leb-true w 65535 t)))) (λ t. t)
+
+pub a_u16 : {E : Type 0} (w n : ℕ) (r : Result ℕ E) → OkIff r (w < 65536) w → Some n ≡ result_ok r → (w ≤ 65535) × (n ≡ w)
+a_u16 w n (Ok x) k e = (omega (arith, k.0), let q = k.1 in cc)
+a_u16 w n (Err x) k e = absurd (cc)
 
 -- ---- the tests of a record
 

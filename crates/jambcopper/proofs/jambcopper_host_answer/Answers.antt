@@ -5,14 +5,13 @@ use Rattle.step.proofs.Kept.{answer_changes}
 use Rattle.jambcopper.proofs.jambcopper_host_answer.Goals as goal
 
 pub returns-in_default : goal.returns-in_default
-returns-in_default c = foreign _ _ _ c.decode.ensures c.in_default.is _ _ _ _ c.tell.ensures.value c.tell.ensures.words_after
+returns-in_default c = foreign _ _ _ c.decode.ensures c.in_default.is _ c.tell.ensures.value c.tell.ensures.words_after
 
 pub returns : goal.returns
 returns c =
     let is = c.decode.ensures in
     let known = c.in-Some.is in
     let met = c.host_answer-s.ensures in
-    served _ _ _ is _ known _ _ _ _ _ _ _
-    met
-    (answer_written _ _ is _ known _ _ met.recorded _ (answer_changes _ _ _ _) c.encode_answer.ensures)
+    served _ _ _ is known met
+    (answer_written _ is known met.recorded (answer_changes _ _ _ _) c.encode_answer.ensures)
     (c.tell-2.ensures.value, c.tell-2.ensures.words_after)

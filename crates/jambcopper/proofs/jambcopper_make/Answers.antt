@@ -8,22 +8,22 @@ use Rattle.jambcopper.proofs.Ways.{no_room, made_refused, made_device}
 use Rattle.jambcopper.proofs.jambcopper_make.Goals as goal
 
 pub returns-then-too_short : goal.returns-then-too_short
-returns-then-too_short c = no_room _ _ (omega arith)
+returns-then-too_short c = no_room (omega arith) c.number.ensures
 
-pub returns-in-Refused : goal.returns-in-Refused
-returns-in-Refused c =
+pub returns-in-Err : goal.returns-in-Err
+returns-in-Err c =
     let a = c.args in
-    made_refused _ _ _ (omega arith) _
+    made_refused (omega arith)
     (c.new.ensures.same
     ∙ ap (λ (n : Option ℕ). made a.capacity_mib a.requested_mib a.several n a.boot) c.node_of-which.ensures)
-    c.in-Refused.is
+    c.in-Err.is
+    c.number-in-Err.ensures
 
-pub returns-in-Device : goal.returns-in-Device
-returns-in-Device c =
+pub returns-in-Ok : goal.returns-in-Ok
+returns-in-Ok c =
     let a = c.args in
-    made_device _ _ _ (omega arith) _
+    made_device (omega arith)
     (c.new.ensures.same
     ∙ ap (λ (n : Option ℕ). made a.capacity_mib a.requested_mib a.several n a.boot) c.node_of-which.ensures)
-    c.in-Device.is
-    _
+    c.in-Ok.is
     c.encode.ensures.words_after

@@ -5,14 +5,13 @@ use Rattle.step.proofs.Kept.{request_changes}
 use Rattle.jambcopper.proofs.jambcopper_request.Goals as goal
 
 pub returns-in_default : goal.returns-in_default
-returns-in_default c = foreign _ _ _ c.decode.ensures c.in_default.is _ _ _ _ c.tell.ensures.value c.tell.ensures.words_after
+returns-in_default c = foreign _ _ _ c.decode.ensures c.in_default.is _ c.tell.ensures.value c.tell.ensures.words_after
 
 pub returns : goal.returns
 returns c =
     let is = c.decode.ensures in
     let known = c.in-Some.is in
     let met = c.request-s.ensures in
-    served _ _ _ is _ known _ _ _ _ _ _ _
-    met
-    (request_written _ _ is _ known _ _ met.recorded _ (request_changes _ _ _ _) c.encode_request.ensures)
+    served _ _ _ is known met
+    (request_written _ is known met.recorded (request_changes _ _ _ _) c.encode_request.ensures)
     (c.tell-2.ensures.value, c.tell-2.ensures.words_after)

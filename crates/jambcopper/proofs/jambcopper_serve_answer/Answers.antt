@@ -1,7 +1,6 @@
 -- SPDX-License-Identifier: Apache-2.0 AND BSD-3-Clause
 -- `jambcopper::jambcopper_serve_answer` meets its contract: 12 where there is no record, or no queue; a number of the queue's; or the device's answer, and the head that is out by it.
 use mathlib.Core.Path.{refl}
-use borrow.Author.Tests.{eq-eqb, ne_eqb}
 use Rattle.step.proofs.Served.{always_short}
 use Rattle.queue.specs.Queue.{answers}
 use Rattle.queue.proofs.Turns.{refused_as, heard_as}
@@ -11,32 +10,32 @@ use Rattle.jambcopper.specs.Queue.{serve_answer_on}
 use Rattle.jambcopper.proofs.jambcopper_serve_answer.Goals as goal
 
 pub returns-in_default : goal.returns-in_default
-returns-in_default c = no_record _ _ _ _ c.decode.ensures c.in_default.is _ _ _ _ (c.tell.ensures.value, c.tell.ensures.words_after)
+returns-in_default c = no_record _ _ _ c.decode.ensures c.in_default.is _ _ (c.tell.ensures.value, c.tell.ensures.words_after)
 
 pub returns-in_default-decode_queue : goal.returns-in_default-decode_queue
 returns-in_default-decode_queue c =
-    no_queue _ _ _ _ c.decode.ensures _ c.in-Some.is _ c.decode_queue.ensures c.in_default-decode_queue.is _ _ _ _ (c.tell-in_default-decode_queue.ensures.value, c.tell-in_default-decode_queue.ensures.words_after)
+    no_queue _ _ _ c.decode.ensures c.in-Some.is c.decode_queue.ensures c.in_default-decode_queue.is _ _
+    (c.tell-in_default-decode_queue.ensures.value, c.tell-in_default-decode_queue.ensures.words_after)
 
-pub returns-then-refused-ne0 : goal.returns-then-refused-ne0
-returns-then-refused-ne0 c =
+pub returns-in-Err : goal.returns-in-Err
+returns-in-Err c =
     let a = c.args in
-    let l = lent a.bitmap.now a.table.now a.mem.now in
-    unmoved_told (serve_answer_on a.base a.ok a.host) _ _ _ c.decode.ensures _ c.in-Some.is _ c.decode_queue.ensures _ c.in-Some-decode_queue.is _ _ _ l _
-    (refused_as _ _ _ _ _ _ _ _ c.queue_refusal-refused.ensures (ne_eqb _ _ c.if-refused-ne0.true))
-    (c.tell-then-refused-ne0.ensures.value, c.tell-then-refused-ne0.ensures.words_after)
+    unmoved_told (serve_answer_on a.base a.ok a.host) _ _ c.decode.ensures c.in-Some.is c.decode_queue.ensures c.in-Some-decode_queue.is
+    _ (lent a.bitmap.now a.table.now a.mem.now)
+    (refused_as _ _ _ _ _ _ _ _ c.queue_refusal.ensures _ c.in-Err.is)
+    (c.tell-in-Err.ensures.value, c.tell-in-Err.ensures.words_after)
 
 pub returns-in_default-taken : goal.returns-in_default-taken
 unfolding answers
 returns-in_default-taken c =
-    aside-told _ _ _ _ c.decode.ensures _ c.in-Some.is _ c.decode_queue.ensures _ c.in-Some-decode_queue.is
+    aside-told _ _ _ c.decode.ensures c.in-Some.is c.decode_queue.ensures c.in-Some-decode_queue.is
     _ _ _ _ _ _ _ c.jambcopper_host_answer.ensures
-    (heard_as _ _ _ _ _ _ _ _ c.queue_refusal-refused.ensures (eq-eqb _ _ c.if-refused-ne0.false) _ c.in_default-taken.is)
+    (heard_as _ _ _ _ _ _ _ _ c.queue_refusal.ensures c.in_default-queue_refusal.is _ c.in_default-taken.is)
 
 pub returns : goal.returns
 unfolding answers
 returns c =
-    about-told _ _ _ _ c.decode.ensures _ c.in-Some.is _ c.decode_queue.ensures _ c.in-Some-decode_queue.is
-    _ _ _ _ _ _ _ c.jambcopper_host_answer-number.ensures
-    refl (always_short _ _) _ _ _ _
-    (heard_as _ _ _ _ _ _ _ _ c.queue_refusal-refused.ensures (eq-eqb _ _ c.if-refused-ne0.false) _ c.in-Some.is)
-    _ c.ending_told-ending.ensures _ _ _ _ _ c.settle-now.ensures (c.encode_queue.ensures.words_after, c.encode_queue.ensures.words_after_2) c.pass_on.ensures
+    about-told _ _ _ c.decode.ensures c.in-Some.is c.decode_queue.ensures c.in-Some-decode_queue.is
+    _ _ _ _ _ _ _ c.jambcopper_host_answer-number.ensures _ refl (always_short _ _)
+    (heard_as _ _ _ _ _ _ _ _ c.queue_refusal.ensures c.in_default-queue_refusal.is _ c.in-Some-taken.is)
+    c.ending_told-ending.ensures c.settle-now.ensures (c.encode_queue.ensures.words_after, c.encode_queue.ensures.words_after_2) c.pass_on.ensures

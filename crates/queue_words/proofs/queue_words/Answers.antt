@@ -8,8 +8,8 @@ use Rattle.queue_words.proofs.queue_words.Goals as goal
 pub returns : goal.returns
 unfolding queue_words
 returns c =
-    let word = c.taken_word-out.ensures in
+    let word = c.taken_word.ensures in
     record {
-      value = rw word.value;
+      value = rw (word.value, c.from.ensures, c.from-2.ensures);
       result_value = fits_queue _ (record { long = omega arith; available = omega arith; used = omega arith; taken = word.upper_bound });
     }

@@ -1,15 +1,13 @@
 -- SPDX-License-Identifier: Apache-2.0 AND BSD-3-Clause
 -- `words::decode` meets its contract, test by test and then field by field.
-use Rattle.std.specs.Prelude.{Some, None, Result, Ok, Err, ◌<◌}
-use Rattle.std.specs.Result.{OkIff, result_ok}
+use Rattle.std.specs.Prelude.{Some, None}
 use Prim.Native.Nat.{ℕ, ◌≤◌}
 use mathlib.Core.Path.{◌≡◌, sym, ◌∙◌}
 use mathlib.Core.Bool.{Bool, false}
-use native.Mathlib.Omega.{arith}
 use lib.Dec.{leb, eqb}
 use borrow.Author.Tests.{le-leb, lt-leb, leb-true}
 use Rattle.units.proofs.Tests.{by_test}
-use Rattle.words.proofs.Laws.{Fits, unfit, fit, known, unknown}
+use Rattle.words.proofs.Laws.{no_u16, a_u16, Fits, unfit, fit, known, unknown}
 use Rattle.words.specs.Record.{word, flag_of, is_record, record_of, decoded_of}
 use Rattle.words.proofs.decode.Goals as goal
 
@@ -20,21 +18,12 @@ no_flag w e = by_test (leb w 1) (λ t. let q = simp t at e in absurd (cc)) (λ t
 a_flag : (w : ℕ) (flag : Bool) → Some flag ≡ flag_of w → (w ≤ 1) × (eqb w 1 ≡ flag)
 a_flag w flag e = by_test (leb w 1) (λ t. let q = simp t at e in (leb-true w 1 t, cc)) (λ t. let q = simp t at e in absurd (cc))
 
--- a node, where it is a number of 16 bits
-no_node : {E : Type 0} (w : ℕ) (r : Result ℕ E) → OkIff r (w < 65536) w → None ≡ result_ok r → leb w 65535 ≡ false
-no_node w (Ok x) k e = absurd (cc)
-no_node w (Err x) k e = by_test (leb w 65535) (λ t. absurd (k (omega (arith, leb-true w 65535 t)))) (λ t. t)
-
-a_node : {E : Type 0} (w n : ℕ) (r : Result ℕ E) → OkIff r (w < 65536) w → Some n ≡ result_ok r → (w ≤ 65535) × (n ≡ w)
-a_node w n (Ok x) k e = (omega (arith, k.0), let q = k.1 in cc)
-a_node w n (Err x) k e = absurd (cc)
-
 pub returns-in_default : goal.returns-in_default
 unfolding decoded_of is_record
 returns-in_default c = simp (lt-leb 15 _ c.in_default.len_below)
 
 pub returns-in_err-ok : goal.returns-in_err-ok
-returns-in_err-ok c = c.from_residual.ensures ∙ unfit c.args.words.now _ (λ f. le-leb _ _ f.node) (no_node _ _ c.try_from.ensures c.in_err-ok.ensures.value)
+returns-in_err-ok c = c.from_residual.ensures ∙ unfit c.args.words.now _ (λ f. le-leb _ _ f.node) (no_u16 _ _ c.try_from.ensures c.in_err-ok.ensures.value)
 
 pub returns-in_err-flag_of : goal.returns-in_err-flag_of
 returns-in_err-flag_of c = c.from_residual-in_err-flag_of.ensures ∙ unfit c.args.words.now _ (λ f. le-leb _ _ f.several) (no_flag _ c.in_err-flag_of.ensures)
@@ -49,7 +38,7 @@ pub returns : goal.returns
 unfolding record_of
 returns c =
     let ws = c.args.words.now in
-    let node = a_node (word ws 1) c.in_ok-ok.field-0 _ c.try_from.ensures c.in_ok-ok.ensures.value in
+    let node = a_u16 (word ws 1) c.in_ok-ok.field-0 _ c.try_from.ensures c.in_ok-ok.ensures.value in
     let several = a_flag (word ws 8) c.in_ok-flag_of.field-0 c.in_ok-flag_of.ensures in
     let placed = a_flag (word ws 10) c.in_ok-flag_of-2.field-0 c.in_ok-flag_of-2.ensures in
     let call = known (word ws 11) (word ws 12) (word ws 13) (word ws 14) c.in_ok-call_of.field-0 (sym c.in_ok-call_of.ensures) in
