@@ -1,7 +1,7 @@
 // SPDX-License-Identifier: Apache-2.0 AND BSD-3-Clause
 // The plugged blocks as a packed bitmap, lent as bytes: block 8 * j + k is bit k of byte j.
-// A range is tested and put by whole bytes, with single bits at its ends. A loop over blocks stands at bit k of byte j
-// and counts down what is left. No block number is made that could wrap.
+// A range is tested and put by whole bytes, with single bits at its ends. A loop over blocks stands at bit k of byte j:
+// a count counts down what is left, and a search ends at `end`. No block number is made that could wrap.
 #![tactic(auto)]
 
 ghost use Rattle.std.specs.Prelude.{◌≡◌, ◌+◌, ◌-◌, ◌*◌, ◌/◌, ◌%◌, ◌^◌, ◌≤◌, ◌<◌, length};
@@ -59,9 +59,7 @@ fn are(b: u8, k: usize, n: usize, v: bool) -> bool
     b & m == whole_byte(v) & m
 }
 
-// Whether each block of these bytes is v: eight bytes at a time, then one. The first loop's test is the one that
-// `read_u64` makes, so the compiler drops the second.
-// Two loops over `as_chunks` were tried: about six instructions for eight bytes, where these execute about five.
+// Whether each block of these bytes is v: eight bytes at a time, then one. docs/BENCHMARK.md has what eight cost.
 fn bytes_are(bytes: &[u8], v: bool) -> bool
     ensures { result ≡ every v (blocks bytes.now) }
 {

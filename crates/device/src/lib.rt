@@ -1,6 +1,6 @@
 // SPDX-License-Identifier: Apache-2.0 AND BSD-3-Clause
 // The device's one door: every entry, and the types that they take and give.
-// 1. Make: `Mem::new` gives a `Device`, a record that the caller keeps, or the number of a refusal.
+// 1. Make: `Mem::new` gives a `Device`, a record that the caller keeps, or a `Refusal`.
 // 2. Place: `place` takes the record, and a bitmap and a map table that the caller keeps beside it.
 //    This call and all that follow give `Answered`: the record to keep from now on, and an `Answer`.
 // 3. Answer the host: after `Wants`, do what the `HostCall` asks and tell `host_answer` how it went; it may want more.
@@ -8,7 +8,7 @@
 // 4. Serve: `request` takes the head of a chain in guest memory. `Served` and `Unserved` end it: report the head used,
 //    with the length of the `Reply` or 0. The response is in guest memory by then.
 // 5. `set_requested_size` says how much memory the guest is to have; `read_config`, `write_config` are the guest's own.
-// Nothing has to hold of what is lent: each call tests it first, and gives `Refused` with the law's number.
+// Nothing has to hold of what is lent: each call tests it first, and gives `Refused` with the `Refusal`.
 #![tactic(auto)]
 
 ghost use Rattle.std.specs.Prelude.{[]};
