@@ -59,7 +59,8 @@ fn are(b: u8, k: usize, n: usize, v: bool) -> bool
     b & m == whole_byte(v) & m
 }
 
-// Whether each block of these bytes is v: eight bytes at a time, then one. docs/BENCHMARK.md has what eight cost.
+// Whether each block of these bytes is v: eight bytes at a time, then one. The first loop's test is the one that
+// `read_u64` makes, so the compiler drops the second.
 fn bytes_are(bytes: &[u8], v: bool) -> bool
     ensures { result ≡ every v (blocks bytes.now) }
 {

@@ -4,7 +4,7 @@ use Prim.Native.Nat.{ℕ, zero, suc, ◌+◌, ◌-◌, ◌*◌, ◌/◌, ◌%◌
 use mathlib.Core.Path.{◌≡◌, refl, sym, ap, ◌∙◌}
 use mathlib.Core.List.{List, [], ◌∷◌, ◌++◌, append-nil, append_assoc}
 use borrow.Rule.Slice.PartMut.{put_mid}
-use native.Mathlib.Nat.{pow-succ', one-le-pow, div-one, div-div-eq-div-mul, mul_assoc, mul_comm, add-mul-mod_self_left, mod-lt, mod-one, mod-eq_of_lt, div-add-mod, zero-add, zero-sub, suc-sub-suc, sub-zero}
+use native.Mathlib.Nat.{pow-succ', one-le-pow, div-one, div-div-eq-div-mul, mul_assoc, mul_comm, add-mul-mod_self_left, mod-lt, mod-one, mod-eq_of_lt, div-add-mod, zero-add, suc-add, zero-sub, suc-sub-suc, sub-zero}
 use native.Mathlib.Omega.{arith}
 use native.Mathlib.Numerals.{add-one}
 use lib.ListN.{length, take, drop, get_or, set, replicate, length-take, length-drop, length-set, length-replicate, drop_of_length-le}
@@ -51,6 +51,12 @@ unfolding little_endian
 take-little_endian zero m v h = refl
 take-little_endian (suc n) zero v h = absurd (omega arith)
 take-little_endian (suc n) (suc m) v h = rw (take-little_endian n m (v / 256) (omega arith))
+
+-- a number of a + b bytes is its a lowest bytes and the b above them
+little_endian_append : (a b v : ℕ) → little_endian (a + b) v ≡ little_endian a v ++ little_endian b (v / 256 ^ a)
+unfolding little_endian
+little_endian_append zero b v = rw (zero-add, div-one)
+little_endian_append (suc a) b v = rw (suc-add, pow-succ', ← div-div-eq-div-mul v 256 (256 ^ a), ← little_endian_append a b (v / 256))
 
 -- ---- bytes written at a place
 
@@ -100,6 +106,13 @@ pub put_rest : (xs ys : List ℕ) (at : ℕ) → put_mid at (length xs - at) xs 
 put_rest xs ys at =
     let e : drop (length xs - at) (drop at xs) ≡ [] = drop_of_length-le (drop at xs) (omega (arith, length-drop at xs)) in
     rw (e, append-nil) (sym (put_from xs at ys))
+
+-- so are the two halves of a number
+pub put_halves : (xs : List ℕ) (at a b v : ℕ) {ys zs : List ℕ} → ys ≡ put xs at (little_endian a v)
+    → zs ≡ put ys (at + a) (little_endian b (v / 256 ^ a)) → zs ≡ put xs at (little_endian (a + b) v)
+put_halves xs at a b v e f =
+    let n : length (little_endian a v) ≡ a = length-little_endian a v in
+    rw (little_endian_append a b v, put_append, n, ← e) f
 
 -- the bytes behind what is written stay
 pub drop-put : (n : ℕ) (xs : List ℕ) (at : ℕ) (ys : List ℕ) → at + length ys ≤ n → drop n (put xs at ys) ≡ drop n xs

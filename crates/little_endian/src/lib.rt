@@ -38,19 +38,18 @@ pub fn places(bytes: &[u8], width: usize) -> usize
     bytes.len() - width + 1
 }
 
-// The N bytes of a number from `at` on: those that are missing are zeros.
+// The N bytes of a number from `at` on: those that are missing are zeros. The test is the one that a loop over whole
+// bytes makes too (`bitmap`), so the compiler drops it there.
 fn bytes_at<const N: usize>(bytes: &[u8], at: usize) -> [u8; N]
     ensures { value result ≡ value (part bytes.now at N) }
 {
-    let rest = from(bytes, at);
-    match rest.first_chunk() {
-        Some(all) => *all,
-        None => {
-            let mut padded = [0; N];
-            copy(&mut padded, rest);
-            padded
-        }
+    let mut found = [0; N];
+    if at < places(bytes, N) {
+        found.copy_from_slice(&bytes[at..at + N]);
+    } else {
+        copy(&mut found, from(bytes, at));
     }
+    found
 }
 
 pub fn read_u16(bytes: &[u8], at: usize) -> u16
