@@ -97,17 +97,23 @@ pub fn mapping_of(table: &[u64], row: u64) -> Option<HostAddr>
     Some(host)
 }
 
-// The first row from `first` to `last` that is not mapped.
+// The first row from `first` to `last` that is not mapped: the loop yields its index by `break` (R20.7), which no `for`
+// does.
 pub fn first_unmapped(table: &[u64], first: u64, last: u64) -> Option<u64>
     ensures { result ≡ first_unmapped (rows_of table.now) first last }
 {
-    for row in first..end_of(table, last) {
+    let end = end_of(table, last);
+    let mut row = first;
+    loop {
+        if end <= row {
+            break None;
+        }
         let unmapped = row_at(table, row).mapped == 0;
         if unmapped {
-            return Some(row);
+            break Some(row);
         }
+        row += 1;
     }
-    None
 }
 
 // Maps the rows from `first` to `last`, one after the other from `host` on (R6.7). The device has tested that no sum

@@ -25,9 +25,9 @@ returns-then-unmapped c =
     let z : (row_at (rows_of a.table.now) o.row).mapped ≡ 0 = sym (ap (λ r. r.mapped) c.row_at-unmapped.ensures) ∙ c.if-unmapped.true in
     search_ends (rows_of a.table.now) o.row (a.last + 1 - (o.row + 1)) (omega arith) z ∙ rw n at o.invariant
 
-pub returns : goal.returns
+pub returns-then-end-row : goal.returns-then-end-row
 unfolding unmapped_from
-returns c =
+returns-then-end-row c =
     let a = c.args in
     let o = c.loop-row in
     rw (range_nothing (rows_of a.table.now) o.row (a.last + 1 - o.row) (omega arith)) at o.invariant

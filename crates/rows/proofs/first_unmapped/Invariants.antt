@@ -8,3 +8,6 @@ use Rattle.rows.proofs.first_unmapped.Given as goal
 
 abbrev pub invariant-loop-row : goal.invariant-loop-row
 invariant-loop-row l = unmapped_from l.row (take (l.last + 1 - l.row) (drop l.row (rows_of l.table))) ≡ first_unmapped (rows_of l.table) l.first l.last
+
+abbrev pub decreases-loop-row : goal.decreases-loop-row
+decreases-loop-row l = l.end - l.row
