@@ -36,14 +36,14 @@ pub struct Queue {
 fn ahead_of(index: u16, of: u16) -> u16
     ensures { result ≡ ahead_of index of }
 {
-    index.wrapping_sub(of)
+    ((index as u32 + 65536 - of as u32) % 65536) as u16
 }
 
 // The index after an index.
 pub fn index_after(index: u16) -> u16
     ensures { result ≡ index_after index }
 {
-    index.wrapping_add(1)
+    ((index as u32 + 1) % 65536) as u16
 }
 
 // Whether bytes lie inside the memory.

@@ -1,6 +1,5 @@
 // SPDX-License-Identifier: Apache-2.0 AND BSD-3-Clause
-// The numbers of the device: three kinds of address, the node, the sizes, the alignment, rounding, and tests for
-// overflow.
+// The numbers of the device: three kinds of address, the sizes, the alignment, rounding, and tests for overflow.
 #![tactic(auto)]
 
 ghost use Rattle.std.specs.Prelude.{◌≡◌, ◌+◌, ◌-◌, ◌*◌, ◌/◌, ◌%◌, min, leb, eqb};
