@@ -27,7 +27,10 @@ pub fn scan_at(s: &[u8], at: usize, form: &[u8], values: &mut [u64]) -> Option<u
             k += 1;
             i = number.next;
         } else {
-            if *s.get(i)? != *t {
+            let Some(byte) = s.get(i) else {
+                return None;
+            };
+            if *byte != *t {
                 return None;
             }
             i += 1;

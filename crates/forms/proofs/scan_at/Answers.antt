@@ -7,7 +7,7 @@ use Rattle.std.proofs.Common.{rules}
 use lib.ListN.{length}
 use Rattle.forms.proofs.Turns.{begin, no_room, no_number, hole_turn, no_byte, other_byte, byte_turn, at_end}
 use Rattle.forms.proofs.scan_at.Goals as goal
-use Rattle.forms.proofs.scan_at.Goals.{then-t-eq-HOLE+else-values-k+in_ok-number, else-t-eq-HOLE+in_ok-get+else-branch-t}
+use Rattle.forms.proofs.scan_at.Goals.{then-t-eq-HOLE+else-values-k+in_ok-number, else-t-eq-HOLE+in-Some+else-byte-t}
 
 pub loop-t-init : goal.loop-t-init
 loop-t-init c = let start : c.min-i.result ≡ min c.args.at (length c.args.s.now) = search rules in begin _ _ _ _ _ start
@@ -20,14 +20,13 @@ returns-in_err-number c =
     rw c.from_residual.ensures
     (no_number c.loop-t.invariant c.loop-t-test.true c.if-t-eq-HOLE.true _ c.if-values-k.false c.read_number.ensures c.in_err-number.was)
 
-pub returns-in_err-get : goal.returns-in_err-get
-returns-in_err-get c =
-    rw c.from_residual-in_err-get.ensures (no_byte c.loop-t.invariant c.loop-t-test.true c.if-t-eq-HOLE.false c.in_err-get.ensures.lookup.3)
+pub returns-in_default : goal.returns-in_default
+returns-in_default c = no_byte c.loop-t.invariant c.loop-t-test.true c.if-t-eq-HOLE.false c.in_default.ensures.lookup.3
 
-pub returns-then-branch-t : goal.returns-then-branch-t
-returns-then-branch-t c =
-    let there = c.in_ok-get.ensures.lookup in
-    other_byte c.loop-t.invariant c.loop-t-test.true c.if-t-eq-HOLE.false there.3.0 (λ e. c.if-branch-t.true (there.4 (omega arith) 0 ∙ e))
+pub returns-then-byte-t : goal.returns-then-byte-t
+returns-then-byte-t c =
+    let there = c.in-Some.ensures.lookup in
+    other_byte c.loop-t.invariant c.loop-t-test.true c.if-t-eq-HOLE.false there.3.0 (λ e. c.if-byte-t.true (there.4 (omega arith) 0 ∙ e))
 
 pub loop-t-preserved : goal.loop-t-preserved
 loop-t-preserved c =
@@ -36,10 +35,10 @@ loop-t-preserved c =
           let n = w.in_ok-number.number in
           rw (w.values-is, w.i-is, w.k-is)
           (hole_turn c.loop-t.invariant c.loop-t-test.true w.if-t-eq-HOLE.true _ w.if-values-k.false w.read_number.ensures n.value n.next w.in_ok-number.was)
-      | else-t-eq-HOLE+in_ok-get+else-branch-t w ↦
-          let there = w.in_ok-get.ensures.lookup in
+      | else-t-eq-HOLE+in-Some+else-byte-t w ↦
+          let there = w.in-Some.ensures.lookup in
           rw (w.values-is, w.i-is, w.k-is)
-          (byte_turn c.loop-t.invariant c.loop-t-test.true w.if-t-eq-HOLE.false there.3.0 (sym (there.4 (omega arith) 0) ∙ w.if-branch-t.false))
+          (byte_turn c.loop-t.invariant c.loop-t-test.true w.if-t-eq-HOLE.false there.3.0 (sym (there.4 (omega arith) 0) ∙ w.if-byte-t.false))
     ]
 
 pub returns : goal.returns
