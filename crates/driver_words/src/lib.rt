@@ -68,10 +68,15 @@ pub fn tell_config(bytes: &[u8], words: &mut [u64]) -> Result<(), Refusal>
     tell(read_config(bytes).map(config_words), words)
 }
 
-// Proposes a plug from the 56 bytes of a config and a bitmap. 16, 12, 11, 17.
+// Proposes a plug from the 56 bytes of a config and a bitmap. 16, 12, 11, 17. The bitmap is looked at only where there
+// is room for the plug.
 pub fn tell_plan(config: &[u8], bitmap: &[u8], words: &mut [u64]) -> Result<(), Refusal>
     ensures { PlanTold config.now (blocks bitmap.now) words.old words.new (code result) }
 {
     let c = read_config(config)?;
+    let lacks_room = words.len() < 2;
+    if lacks_room {
+        return Err(Refusal::BadBytes);
+    }
     tell(plan(c, bitmap).map(plug_words), words)
 }

@@ -5,7 +5,8 @@ use Rattle.std.proofs.Common.{◌≡◌, rules, refl}
 use Rattle.refusal.specs.declared.Refusal.TheVariants.{BadBytes}
 use Rattle.bitmap.specs.Blocks.{blocks}
 use Rattle.driver_words.specs.Told.{plug_words, plan_gives}
-use Rattle.driver_words.proofs.Laws.{told_by, no_text}
+use native.Mathlib.Omega.{arith}
+use Rattle.driver_words.proofs.Laws.{told_by, no_text, no_room}
 use Rattle.driver_words.proofs.tell_plan.Goals as goal
 
 pub returns-in_err-c : goal.returns-in_err-c
@@ -14,6 +15,11 @@ returns-in_err-c c =
     let gave : c.from_residual.result ≡ Err why = search rules in
     let known : why ≡ BadBytes = c.in_err-c.ensures.refused why refl in
     record { got = Err why; reads = c.in_err-c.ensures; told = rw (gave, known) (no_text 2 c.args.words.now) }
+
+pub returns-then-lacks_room : goal.returns-then-lacks_room
+returns-then-lacks_room c =
+    let read = c.in_ok-c.c in
+    record { got = Ok read; reads = c.in_ok-c.ensures; told = no_room 2 _ c.args.words.now (omega arith) }
 
 pub returns : goal.returns
 returns c =
