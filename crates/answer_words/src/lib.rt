@@ -4,10 +4,12 @@
 
 ghost use Rattle.std.specs.Prelude.{◌≡◌};
 ghost use Rattle.little_endian.specs.Bytes.{put};
+ghost use Rattle.refusal.specs.Refusal.{number};
+ghost use Rattle.step.specs.declared.Answer.TheVariants.{Refused};
 ghost use Rattle.step.specs.Answers.{answer_words, question_words, number_of};
 
-use change::why_number;
 use record::HostCall;
+use refusal::Refusal;
 use step::Answer;
 use words::write_all;
 
@@ -29,10 +31,10 @@ fn answer_words(answer: Answer) -> [u64; ANSWER_WORDS]
     ensures { result ≡ answer_words answer }
 {
     match answer {
-        Answer::Refused(refusal) => [0, refusal.number(), 0, 0, 0, 0, 0, 0, 0],
+        Answer::Refused(number) => [0, number, 0, 0, 0, 0, 0, 0, 0],
         Answer::Wants(call) => question_words(call),
         Answer::Sized => [3, 0, 0, 0, 0, 0, 0, 0, 0],
-        Answer::Unserved(reason) => [4, 0, 0, 0, 0, 0, 0, 0, reason.number()],
+        Answer::Unserved(reason) => [4, 0, 0, 0, 0, 0, 0, 0, reason],
         Answer::Served(reply) => [
             5,
             0,
@@ -42,7 +44,7 @@ fn answer_words(answer: Answer) -> [u64; ANSWER_WORDS]
             u64::from(reply.response.resp_type),
             u64::from(reply.response.state),
             u64::from(reply.used),
-            why_number(reply.why),
+            reply.why,
         ],
         Answer::Done => [6, 0, 0, 0, 0, 0, 0, 0, 0],
     }
@@ -53,7 +55,7 @@ pub fn number_of(answer: Answer) -> u64
     ensures { result ≡ number_of answer }
 {
     match answer {
-        Answer::Refused(refusal) => refusal.number(),
+        Answer::Refused(number) => number,
         _ => 0,
     }
 }
@@ -67,6 +69,14 @@ pub fn tell(answer: Answer, words: &mut [u64]) -> u64
     write_all(words, all);
     let number = all[1];
     number
+}
+
+// Writes a refusal of the law as words, none past the end, and tells its number.
+pub fn tell_refused(refusal: Refusal, words: &mut [u64]) -> u64
+    ensures value { result ≡ number refusal }
+    ensures words_after { words.new ≡ put words.old 0 (answer_words (Refused (number refusal))) }
+{
+    tell(Answer::Refused(refusal.number()), words)
 }
 
 // Writes words that were told elsewhere; none past the end.

@@ -22,7 +22,7 @@ use record::shaped;
 pub use record::{Device, HostCall};
 pub use refusal::Refusal;
 pub use serving::{host_answer, request};
-use step::refuse;
+use step::refuse_as;
 pub use step::{Answer, Answered, Reply};
 pub use units::{GuestAddr, HostAddr, RegionOffset};
 pub use wire::VirtioMemResp;
@@ -32,7 +32,7 @@ pub fn read_config(d: Device, offset: u64, data: &mut [u8]) -> Answered
     ensures { Steps d (read_on offset) (lent [] [] «data».old) (lent [] [] «data».new) result }
 {
     if !shaped(d) {
-        return refuse(d, Refusal::NoShape);
+        return refuse_as(d, Refusal::NoShape);
     }
     let config = d.config;
     wire::read_config(config, offset, data);
@@ -47,7 +47,7 @@ pub fn write_config(d: Device, offset: u64, data: &[u8]) -> Answered
     ensures { Steps d (write_on offset) (lent [] [] «data».now) (lent [] [] «data».now) result }
 {
     if !shaped(d) {
-        return refuse(d, Refusal::NoShape);
+        return refuse_as(d, Refusal::NoShape);
     }
     Answered {
         device: d,

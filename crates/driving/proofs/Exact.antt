@@ -87,7 +87,7 @@ clash p q = let z : ◌≡◌ {A = ℕ} 0 1 = cc in absurd (omega arith)
 -- the type of a response, of the answers that are one
 abbrev type_in : Answer → ℕ
 type_in (Served reply) = reply.response.resp_type
-type_in (Refused refusal) = 9
+type_in (Refused number) = 9
 type_in (Wants call) = 9
 type_in Sized = 9
 type_in (Unserved reason) = 9

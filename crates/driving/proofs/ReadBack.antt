@@ -1,5 +1,6 @@
 -- SPDX-License-Identifier: Apache-2.0 AND BSD-3-Clause
 -- Every response and every config that the device gives is read back by the driver: by one walk over `step`, of what a response leaves.
+use Rattle.change.specs.Why.{why}
 use Rattle.std.specs.Prelude.{Result, Ok, Err}
 use Prim.Native.Nat.{ℕ, ◌+◌, ◌≤◌, ◌<◌, ◌^◌}
 use mathlib.Core.Path.{◌≡◌, refl, sym, ap, ◌∙◌}
@@ -71,7 +72,7 @@ KnownVerdict v = (v.response.resp_type ≤ 3) × (v.response.state ≤ 2)
 abbrev AnyWorld : World → Type 0
 AnyWorld w = Prim.Unit {0}
 
-any_failed : (x : Result Change Reason) → Failed (λ why. KnownVerdict (error why)) x
+any_failed : (x : Result Change Reason) → Failed (λ reason. KnownVerdict (error (why reason))) x
 unfolding Failed
 any_failed (Ok change) = tt
 any_failed (Err why) = (omega arith, omega arith)

@@ -105,7 +105,7 @@ changes w u addr count wanted = go (range_of (block_size w) (start w) (usable w)
         (low 7 (omega arith))
     go (Err reason) e = rw e at (range_low (block_size w) (start w) (usable w) addr count)
 
-known : Known (λ v. NotSpoiled (why_number v.why)) Backed
+known : Known (λ v. NotSpoiled v.why) Backed
 known =
     record {
       acks = low 0 (omega arith);
@@ -120,4 +120,4 @@ pub never_9_or_10 : FromEveryGood Never9Or10
 never_9_or_10 s g =
     let w = s.world in
     let f = shaped_is w.device g.shaped in
-    of_every_reply (λ v. NotSpoiled (why_number v.why)) Backed known w (record { whole = omega (arith, f.block_size); in_region = f.usable_in; below = g.mapped.below; fits = g.mapped.fits })
+    of_every_reply (λ v. NotSpoiled v.why) Backed known w (record { whole = omega (arith, f.block_size); in_region = f.usable_in; below = g.mapped.below; fits = g.mapped.fits })

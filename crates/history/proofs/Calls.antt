@@ -1,5 +1,6 @@
 -- SPDX-License-Identifier: Apache-2.0 AND BSD-3-Clause
 -- Every call at once: what holds of each ending of the step, with the events that it tells, holds of every call with its events.
+use Rattle.change.specs.Why.{why}
 use Rattle.std.specs.Prelude.{Some, None, Ok, Err, Result}
 use Prim.Native.Nat.{ℕ, ◌+◌, ◌*◌, ◌%◌, ◌≤◌, ◌<◌}
 use mathlib.Core.Path.{◌≡◌, refl, ap, ◌∙◌}
@@ -17,7 +18,6 @@ use Rattle.wire.specs.declared.VirtioMemReq.{VirtioMemReq}
 use Rattle.refusal.specs.declared.Refusal.{Refusal}
 use Rattle.refusal.specs.declared.Refusal.TheVariants.{WrongSize, WrongRange, WrongStart, NothingPending, HostPastTop, NoShape}
 use Rattle.refusal.specs.Refusal.{number}
-use Rattle.change.specs.declared.Reason.{Reason}
 use Rattle.change.specs.declared.Reason.TheVariants.{FailedDiscard}
 use Rattle.step.specs.declared.Verdict.{Verdict}
 use Rattle.chain.specs.declared.Asked.{Asked}
@@ -122,19 +122,19 @@ pub record Endings (w : World) (K : Call → Outcome → List Event → Type 0) 
   pub ends_at_once : (a : Requesting w (some 2)) → next_set w.blocks 0 (region_blocks w) ≡ None → K (request_of a) (ends_all w a.status a.guest) (UnplugAllAck ∷ [])
   pub asks_first : (a : Requesting w (some 2)) (block offset host : ℕ) → next_set w.blocks 0 (region_blocks w) ≡ Some block → Located w block 1 offset host
       → K (request_of a) (asks_one w block offset host a.status a.guest) []
-  pub stops_at_once : {why : Reason} (a : Requesting w (some 2)) → K (request_of a) (stops why w a.status a.guest) []
+  pub stops_at_once : {why : ℕ} (a : Requesting w (some 2)) → K (request_of a) (stops why w a.status a.guest) []
   pub maps : (i last : ℕ) (a : Answering w (Create i last) true) → K (answer_of a) (creates w i last a.host a.guest.mem) []
   pub create_fails_lem : (i last : ℕ) (a : Answering w (Create i last) false) → K (answer_of a) (create_fails w a.guest.mem) []
   pub unplugs_range : (first count : ℕ) (status : GuestAddr) (a : Answering w (Discard first count status) true)
       → K (answer_of a) (unplugs w first count status.0 a.guest) (UnplugAck first count ∷ [])
-  pub discard_fails : (first count : ℕ) (status : GuestAddr) (a : Answering w (Discard first count status) false) → K (answer_of a) (stops FailedDiscard w status.0 a.guest) []
+  pub discard_fails : (first count : ℕ) (status : GuestAddr) (a : Answering w (Discard first count status) false) → K (answer_of a) (stops (why FailedDiscard) w status.0 a.guest) []
   pub ends_all_lem : (j : ℕ) (status : GuestAddr) (a : Answering w (DiscardOne j status) true) → next_set (cleared w j).blocks (j + 1) (region_blocks w) ≡ None
       → K (answer_of a) (ends_all (cleared w j) status.0 a.guest) (UnplugAllAck ∷ Discarded j ∷ [])
   pub asks_next : (j : ℕ) (status : GuestAddr) (a : Answering w (DiscardOne j status) true) (block offset host : ℕ)
       → next_set (cleared w j).blocks (j + 1) (region_blocks w) ≡ Some block → Located (cleared w j) block 1 offset host
       → K (answer_of a) (asks_one (cleared w j) block offset host status.0 a.guest) (Discarded j ∷ [])
-  pub stops_after : {why : Reason} (j : ℕ) (status : GuestAddr) (a : Answering w (DiscardOne j status) true) → K (answer_of a) (stops why (cleared w j) status.0 a.guest) (Discarded j ∷ [])
-  pub one_fails : (j : ℕ) (status : GuestAddr) (a : Answering w (DiscardOne j status) false) → K (answer_of a) (stops FailedDiscard w status.0 a.guest) []
+  pub stops_after : {why : ℕ} (j : ℕ) (status : GuestAddr) (a : Answering w (DiscardOne j status) true) → K (answer_of a) (stops why (cleared w j) status.0 a.guest) (Discarded j ∷ [])
+  pub one_fails : (j : ℕ) (status : GuestAddr) (a : Answering w (DiscardOne j status) false) → K (answer_of a) (stops (why FailedDiscard) w status.0 a.guest) []
   pub resizes : (a : Resizing w) → K (SetRequestedSize a.mib) (sizes (resized_by a)) []
   pub resize_asks : (a : Resizing w) (i last size : ℕ) → Grows (resized_by a) i last size → K (SetRequestedSize a.mib) (asks_create (resized_by a) i last size) []
   pub places : (a : Placing w) → K (place_of a) (sizes (placed_by a)) []
@@ -191,16 +191,16 @@ module _ (w : World) (K : Call → Outcome → List Event → Type 0) (k : Endin
         serve_cases (With c (ack_to_type w req) []) w req status g
         (λ t. rw t (plug_cases (With c (PlugAck (block_of w addr) count ∷ []) []) w s status g addr count
         (λ first offset r l. rw (← l.first_is) (k.plugs_range (of 0 t) addr count first offset r l))
-        (λ why. k.responds (of 0 t) (error why))
+        (λ reason. k.responds (of 0 t) (error (why reason)))
         (k.responds (of 0 t) nack)))
         (λ t₀ t₁. rw (t₀, t₁) (unplug_cases (With c [] []) w s status g addr count
         (λ first offset host r l at. k.asks_range (of 1 t₁) addr count first offset host r l at)
         (λ first offset r l. k.spoils (of 1 t₁) addr count first offset r l)
-        (λ why. k.responds (of 1 t₁) (error why))))
+        (λ reason. k.responds (of 1 t₁) (error (why reason)))))
         (λ t₀ t₁ t₂. rw (t₀, t₁, t₂) (unplug_all_cases (With c (UnplugAllAck ∷ []) []) w s status g 0
         (λ r. k.ends_at_once (of 2 t₂) r)
         (λ block offset host r at. k.asks_first (of 2 t₂) block offset host r at)
-        (λ why. k.stops_at_once (of 2 t₂))))
+        (λ reason. k.stops_at_once (of 2 t₂))))
         (λ t₀ t₁ t₂. rw (t₀, t₁, t₂) (of_response status (state_verdict w addr count)))
         (k.unserves (asking status _ q) UnknownType)
 
@@ -224,7 +224,7 @@ module _ (w : World) (K : Call → Outcome → List Event → Type 0) (k : Endin
       unplug_all_cases (With (answer_of a) (UnplugAllAck ∷ []) (Discarded j ∷ [])) (cleared w j) (cleared_shaped w j a.entry.is_shaped) status.0 a.guest (j + 1)
       (λ r. k.ends_all_lem j status a r)
       (λ block offset host r at. k.asks_next j status a block offset host r at)
-      (λ why. k.stops_after j status a)
+      (λ reason. k.stops_after j status a)
   of_answer (DiscardOne j status) false a = k.one_fails j status a
 
   pub each_call : (c : Call) → K c (step w c) (events_of w (open_of w.device.pending) c (step w c).answer)

@@ -1,5 +1,6 @@
 -- SPDX-License-Identifier: Apache-2.0 AND BSD-3-Clause
 -- For each tree of `Step`: what holds of every leaf that it can end in holds of its outcome, and each leaf gets what its tests tell.
+use Rattle.change.specs.Why.{why}
 use Rattle.std.specs.Prelude.{Option, Some, None, Ok, Err, Result, ⊤}
 use Prim.Native.Nat.{ℕ, ◌+◌, ◌-◌, ◌*◌, ◌%◌, ◌≤◌, ◌<◌}
 use mathlib.Core.Path.{◌≡◌, refl, ap, ◌∙◌}
@@ -156,7 +157,7 @@ located w addr count wanted change s e =
 module _ (P : Outcome → Type 0) (w : World) (s : Parts w.device) (status : ℕ) (g : Guest) where
   pub plug_cases : (addr count : ℕ)
       → ((first offset : ℕ) → plugged w + bytes_of (block_size w) count ≤ requested w → Lies w addr count true first offset → P (plugs w first count status g))
-      → ((why : Reason) → P (served (error why) status w g)) → P (served nack status w g) → P (plug w addr count status g)
+      → ((reason : Reason) → P (served (error (why reason)) status w g)) → P (served nack status w g) → P (plug w addr count status g)
   unfolding plug plug_as
   plug_cases addr count legal bad over =
       by_cond P (ltb (requested w) (plugged w + bytes_of (block_size w) count)) _ _ (λ _. over)
@@ -164,13 +165,13 @@ module _ (P : Outcome → Type 0) (w : World) (s : Parts w.device) (status : ℕ
     where
       go : (c : Result Change Reason) → changing w addr count true ≡ c → plugged w + bytes_of (block_size w) count ≤ requested w → P (plug_as c w count status g)
       go (Ok change) e h = legal change.first change.offset.0 h (lies w addr count true change s e)
-      go (Err why) e h = bad why
+      go (Err reason) e h = bad reason
 
   pub unplug_cases : (addr count : ℕ)
       → ((first offset host : ℕ) → bytes_of (block_size w) count ≤ plugged w → Lies w addr count false first offset → Located w first count offset host
       → P (asks_discard w first count offset host status g))
       → ((first offset : ℕ) → plugged w < bytes_of (block_size w) count → Lies w addr count false first offset → P (refused NoShape w g.mem))
-      → ((why : Reason) → P (served (error why) status w g)) → P (unplug w addr count status g)
+      → ((reason : Reason) → P (served (error (why reason)) status w g)) → P (unplug w addr count status g)
   unfolding unplug_as
   unplug_cases addr count legal spoiled bad = go (changing w addr count false) refl
     where
@@ -180,11 +181,11 @@ module _ (P : Outcome → Type 0) (w : World) (s : Parts w.device) (status : ℕ
           by_cond P (ltb (plugged w) (bytes_of (block_size w) count)) _ _
           (λ h. spoiled change.first change.offset.0 (ltb-true (plugged w) (bytes_of (block_size w) count) h) l)
           (λ h. legal change.first change.offset.0 change.host.0 (ltb-false (plugged w) (bytes_of (block_size w) count) h) l (located w addr count false change s e))
-      go (Err why) e = bad why
+      go (Err reason) e = bad reason
 
   one_cases : (block : ℕ)
       → ((offset host : ℕ) → Located w block 1 offset host → P (asks_one w block offset host status g))
-      → ((why : Reason) → P (stops why w status g)) → P (unplug_one w block status g)
+      → ((reason : Reason) → P (stops (why reason) w status g)) → P (unplug_one w block status g)
   unfolding one_as
   one_cases block asks stop = go (changing w (start w + bytes_of (block_size w) block) 1 false) refl
     where
@@ -194,12 +195,12 @@ module _ (P : Outcome → Type 0) (w : World) (s : Parts w.device) (status : ℕ
           let l = lies w addr 1 false change s e in
           let at = located w addr 1 false change s e in
           asks change.offset.0 change.host.0 (record { offset_is = omega (arith, l.offset_is); host_is = at.host_is })
-      go (Err why) e = stop why
+      go (Err reason) e = stop reason
 
   pub unplug_all_cases : (from : ℕ)
       → (next_set w.blocks from (region_blocks w) ≡ None → P (ends_all w status g))
       → ((block offset host : ℕ) → next_set w.blocks from (region_blocks w) ≡ Some block → Located w block 1 offset host → P (asks_one w block offset host status g))
-      → ((why : Reason) → P (stops why w status g)) → P (unplug_all w from status g)
+      → ((reason : Reason) → P (stops (why reason) w status g)) → P (unplug_all w from status g)
   unfolding next_as
   unplug_all_cases from ends asks stop = go (next_set w.blocks from (region_blocks w)) refl
     where

@@ -1,6 +1,6 @@
 -- SPDX-License-Identifier: Apache-2.0 AND BSD-3-Clause
 -- The whole example (R12.12) as a run, guest bytes and all, a second run with every kind of event, a builder that plugs again after a failed unplug-all (R10.13), and a run that goes on from a restore. All begin with a newly made device, so what is said of every run is said of something. Computed, by `refl`.
-use Rattle.std.specs.Prelude.{None}
+use Rattle.change.specs.Why.{why}
 use Prim.Native.Nat.{ℕ}
 use mathlib.Core.Path.{◌≡◌, refl}
 use mathlib.Core.Bool.{true, false}
@@ -132,10 +132,10 @@ pub record Example : Type 0 where
       ∷ Sized
       ∷ served_with ack 10
       ∷ served_with nack 10
-      ∷ served_with (verdict 0 2 None) 10
+      ∷ served_with (verdict 0 2 0) 10
       ∷ Wants (Discard (record { 0 = 0 }) 4194304 (record { 0 = 140737488355328 }))
       ∷ Wants (Discard (record { 0 = 4194304 }) 4194304 (record { 0 = 140737492549632 }))
-      ∷ served_with (error FailedDiscard) 10
+      ∷ served_with (error (why FailedDiscard)) 10
       ∷ Sized
       ∷ []
   pub told : (after (begun device) calls).events ≡ Discarded 0 ∷ PlugAck 0 2 ∷ []
@@ -161,7 +161,7 @@ pub record Example : Type 0 where
       ∷ served_with ack 10
       ∷ Wants (Discard (record { 0 = 0 }) 4194304 (record { 0 = 140737488355328 }))
       ∷ Wants (Discard (record { 0 = 4194304 }) 4194304 (record { 0 = 140737492549632 }))
-      ∷ served_with (error FailedDiscard) 10
+      ∷ served_with (error (why FailedDiscard)) 10
       ∷ served_with ack 10
       ∷ []
   pub again_told : (after (begun device) again).events ≡ PlugAck 0 1 ∷ Discarded 0 ∷ PlugAck 0 4 ∷ []

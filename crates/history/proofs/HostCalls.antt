@@ -1,6 +1,6 @@
 -- SPDX-License-Identifier: Apache-2.0 AND BSD-3-Clause
 -- No host call is asked twice or left unanswered: questions and the answers taken balance, and what is asked for is due.
-use Prim.Native.Nat.{◌+◌}
+use Prim.Native.Nat.{ℕ, ◌+◌}
 use mathlib.Core.Path.{◌≡◌, refl}
 use mathlib.Core.Bool.{true}
 use mathlib.Core.List.{List, [], ◌∷◌}
@@ -9,7 +9,6 @@ use borrow.Author.Tests.{ne_eqb}
 use Rattle.record.specs.declared.Pending.{Pending}
 use Rattle.record.specs.declared.Pending.TheVariants.{Nothing, Create, Discard, DiscardOne}
 use Rattle.record.specs.Shape.{is_idle}
-use Rattle.refusal.specs.declared.Refusal.{Refusal}
 use Rattle.refusal.specs.Refusal.{number}
 use Rattle.step.specs.declared.Answer.TheVariants.{Refused}
 use Rattle.step.specs.Answers.{question, refusal}
@@ -27,14 +26,14 @@ idle_waits (Create first last) e = clash e refl
 idle_waits (Discard first count status) e = clash e refl
 idle_waits (DiscardOne block status) e = clash e refl
 
-refused_takes : (c : Call) (r : Refusal) → (number r ≡ 10 → ⊥) → takes_answer c (Refused r) ≡ 0
+refused_takes : (c : Call) (n : ℕ) → (n ≡ 10 → ⊥) → takes_answer c (Refused n) ≡ 0
 unfolding takes_answer refusal
-refused_takes (Place at size slots blocks rows) r h = refl
-refused_takes (SetRequestedSize mib) r h = refl
-refused_takes (Request guest descriptors head) r h = refl
-refused_takes (HostAnswer guest ok host) r h = rw (ne_eqb (number r) 10 h)
-refused_takes (ReadConfig offset buffer) r h = refl
-refused_takes (WriteConfig offset buffer) r h = refl
+refused_takes (Place at size slots blocks rows) n h = refl
+refused_takes (SetRequestedSize mib) n h = refl
+refused_takes (Request guest descriptors head) n h = refl
+refused_takes (HostAnswer guest ok host) n h = rw (ne_eqb n 10 h)
+refused_takes (ReadConfig offset buffer) n h = refl
+refused_takes (WriteConfig offset buffer) n h = refl
 
 abbrev Balanced : World → Call → Outcome → List Event → Type 0
 Balanced w c o new = asks o.answer + waits w.device.pending ≡ takes_answer c o.answer + waits o.world.device.pending
@@ -44,7 +43,7 @@ unfolding question takes_answer refusal waits
 balanced w =
     let p = w.device.pending in
     record {
-      refuses = λ c r h _. rw (refused_takes c r h);
+      refuses = λ c r h _. rw (refused_takes c (number r) h);
       reads = λ offset buffer bytes. refl;
       writes = λ offset buffer. refl;
       unserves = λ a reason. refl;

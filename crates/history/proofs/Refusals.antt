@@ -10,7 +10,6 @@ use lib.ListN.{length}
 use borrow.Author.Tests.{le-leb}
 use Rattle.bitmap.proofs.Laws.{fill_length}
 use Rattle.refusal.specs.declared.Refusal.{Refusal}
-use Rattle.refusal.specs.declared.Refusal.TheVariants.{WrongSize, WrongRange, WrongStart, CreationFailed as Ten}
 use Rattle.refusal.specs.Refusal.{number}
 use Rattle.rows.specs.declared.MapRow.{MapRow}
 use Rattle.rows.proofs.Laws.{laid_length}
@@ -50,7 +49,7 @@ left : (w : World) → Endings w (IsLeft w)
 unfolding refusal lent_bytes
 left w =
     record {
-      refuses = λ c r not-ten _. record { same = λ s e _. (refl, refl); ten = λ e. let ten : r ≡ Ten = cc in absurd (not-ten (ap number ten)) };
+      refuses = λ c r not-ten _. record { same = λ s e _. (refl, refl); ten = λ e. let ten : number r ≡ 10 = cc in absurd (not-ten ten) };
       reads = λ offset buffer bytes. done w _ _ refl;
       writes = λ offset buffer. done w _ _ refl;
       unserves = λ a reason. done w _ _ refl;
@@ -64,7 +63,7 @@ left w =
       maps = λ i last a. done w _ _ refl;
       create_fails_lem = λ i last a.
           record {
-            same = λ r e not-ten. let ten : r ≡ Ten = cc in absurd (not-ten ten);
+            same = λ n e not-ten. let ten : n ≡ 10 = cc in absurd (not-ten ten);
             ten = λ _.
                 record {
                   first = i;
@@ -112,8 +111,8 @@ pub ten_in_size_change : TenInSizeChange
 unfolding step question
 ten_in_size_change w mib call asked g host =
     let P : Outcome → Type 0 = λ o. o.answer ≡ Wants call → SizeChangeFailed w mib (step o.world (HostAnswer g false host)) in
-    on_ready P w [] _ (λ r _ _ e. silent (Refused r) call refl e) (length w.blocks) (length w.rows)
-    (λ p entry. size_cases P w mib (λ e. silent (Refused WrongSize) call refl e)
+    on_ready P w [] _ (λ r _ _ e. silent (Refused (number r)) call refl e) (length w.blocks) (length w.rows)
+    (λ p entry. size_cases P w mib (λ e. silent (Refused 1) call refl e)
     (λ q r.
     let a : Resizing w = record { mib = mib; is_placed = p; entry = entry; in_region = q; whole = r } in
     resized_cases P (resized_by a) (λ e. silent Sized call refl e)
@@ -165,8 +164,8 @@ pub ten_in_placing : TenInPlacing
 unfolding step question
 ten_in_placing w at size slots bs rows call asked g host =
     let P : Outcome → Type 0 = λ o. o.answer ≡ Wants call → PlacingFailed w at slots bs rows (step o.world (HostAnswer g false host)) in
-    on_unplaced P w [] _ (λ r _ _ e. silent (Refused r) call refl e) (length bs) (length rows)
-    (λ p entry. place_cases P w at size slots bs rows (λ e. silent (Refused WrongRange) call refl e) (λ e. silent (Refused WrongStart) call refl e)
+    on_unplaced P w [] _ (λ r _ _ e. silent (Refused (number r)) call refl e) (length bs) (length rows)
+    (λ p entry. place_cases P w at size slots bs rows (λ e. silent (Refused 3) call refl e) (λ e. silent (Refused 4) call refl e)
     (λ n f.
     let a : Placing w = record { at = at; size = size; slots = slots; bits = bs; table = rows; not_placed_lem = p; entry = entry; slots_fit = n; start_fits = f } in
     let shaped = stays_shaped w entry.is_shaped in

@@ -135,7 +135,7 @@ asked_by w o c (Create guest size slot) = NoRequest
 asked_by w o c (Discard offset size host) = opened_by w o c (blocks_in (block_size w) offset.0)
 
 unfoldable pub open_after : World → Open → Call → Answer → Open
-open_after w o c (Refused refused) = o
+open_after w o c (Refused number) = o
 open_after w o c (Wants call) = asked_by w o c call
 open_after w o c Sized = NoRequest
 open_after w o c (Unserved reason) = NoRequest

@@ -3,8 +3,6 @@
 use Rattle.std.specs.Prelude.{ℕ, ◌*◌, ◌≡◌, Bool, true, false, List, []}
 use Rattle.units.specs.Numbers.{MiB}
 use Rattle.rows.specs.declared.MapRow.{MapRow}
-use Rattle.refusal.specs.declared.Refusal.{Refusal}
-use Rattle.refusal.specs.declared.Refusal.TheVariants.{CreationFailed as Ten}
 use Rattle.record.specs.declared.Pending.TheVariants.{Nothing, Create}
 use Rattle.record.specs.declared.HostCall.{HostCall}
 use Rattle.record.specs.Changes.{pending_to, requested_to}
@@ -24,7 +22,7 @@ lent_bytes (WriteConfig offset buffer) = buffer
 
 -- R2.8: neither the record, nor the tables, nor a byte
 abbrev pub RefusedChangesNothing : World → Call → Outcome → Type 0
-RefusedChangesNothing w c o = (r : Refusal) → o.answer ≡ Refused r → (r ≡ Ten → ⊥) → (o.world ≡ w) × (o.bytes ≡ lent_bytes c)
+RefusedChangesNothing w c o = (n : ℕ) → o.answer ≡ Refused n → (n ≡ 10 → ⊥) → (o.world ≡ w) × (o.bytes ≡ lent_bytes c)
 
 -- R1.10, R2.9: 10 is given for the host's no to a pending creation and for nothing else; then nothing is pending, and no more has changed
 pub record CreationFailed (w : World) (c : Call) (o : Outcome) : Type 0 where
@@ -38,7 +36,7 @@ pub record CreationFailed (w : World) (c : Call) (o : Outcome) : Type 0 where
   pub same_bytes : o.bytes ≡ lent_bytes c
 
 abbrev pub TenIsCreationFailed : World → Call → Outcome → Type 0
-TenIsCreationFailed w c o = o.answer ≡ Refused Ten → CreationFailed w c o
+TenIsCreationFailed w c o = o.answer ≡ Refused 10 → CreationFailed w c o
 
 -- ---- a call that asks the host, and the host's no
 abbrev pub then_no : World → Call → Guest → (host : ℕ) → Outcome
@@ -46,7 +44,7 @@ then_no w c g host = step (step w c).world (HostAnswer g false host)
 
 -- R2.9
 pub record SizeChangeFailed (w : World) (mib : ℕ) (o : Outcome) : Type 0 where
-  pub gives_10 : o.answer ≡ Refused Ten
+  pub gives_10 : o.answer ≡ Refused 10
   pub requested_stands : o.world ≡ device_of (requested_to (mib * MiB) w.device) w
 
 abbrev pub TenInSizeChange : Type 0
@@ -55,7 +53,7 @@ TenInSizeChange = (w : World) (mib : ℕ) (call : HostCall) → (step w (SetRequ
 
 -- R2.10
 pub record PlacingFailed (w : World) (at : ℕ) (slots : List ℕ) (bs : List Bool) (rows : List MapRow) (o : Outcome) : Type 0 where
-  pub gives_10 : o.answer ≡ Refused Ten
+  pub gives_10 : o.answer ≡ Refused 10
   pub unplaced : o.world.device.placed ≡ false
   pub as_written : o.world ≡ placed w at slots bs rows
   pub tried_again : (c : Call) → is_place c ≡ true → (step o.world c).answer ≡ (step w c).answer

@@ -6,8 +6,6 @@ use Rattle.units.specs.Numbers.{MiB}
 use Rattle.units.specs.declared.GuestAddr.{GuestAddr}
 use Rattle.units.specs.declared.RegionOffset.{RegionOffset}
 use Rattle.units.specs.declared.HostAddr.{HostAddr}
-use Rattle.refusal.specs.declared.Refusal.TheVariants.{NoShape}
-use Rattle.change.specs.Why.{why_number}
 use Rattle.record.specs.declared.Pending.{Pending}
 use Rattle.record.specs.declared.Pending.TheVariants.{Nothing, Create, Discard, DiscardOne}
 use Rattle.record.specs.declared.HostCall.TheVariants.{Discard as DiscardCall}
@@ -39,14 +37,14 @@ KeepsShape s c = shaped_of (next s c).world.device ≡ true
 
 -- so 12 never appears
 abbrev pub Never12 : Story → Call → Type 0
-Never12 s c = (step s.world c).answer ≡ Refused NoShape → ⊥
+Never12 s c = (step s.world c).answer ≡ Refused 12 → ⊥
 
 -- R10.19: an unmapped row and a host sum that passes come of a spoiled table alone: no response of a run has reason 9 or 10
 abbrev pub NotSpoiled : (why : ℕ) → Type 0
 NotSpoiled why = (why ≡ 9 → ⊥) × (why ≡ 10 → ⊥)
 
 abbrev pub Never9Or10 : Story → Call → Type 0
-Never9Or10 s c = OfReply (λ reply. NotSpoiled (why_number reply.why)) (step s.world c).answer
+Never9Or10 s c = OfReply (λ reply. NotSpoiled reply.why) (step s.world c).answer
 
 -- R6.2: the usable size never shrinks
 abbrev pub UsableNeverShrinks : World → Call → Outcome → Type 0

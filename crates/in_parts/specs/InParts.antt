@@ -5,7 +5,6 @@ use mathlib.Core.List.{List, [], ◌∷◌, Permᴰ}
 use Rattle.units.specs.Numbers.{bytes_of, map_region, MiB}
 use Rattle.units.specs.declared.GuestAddr.{GuestAddr}
 use Rattle.wire.specs.declared.VirtioMemReq.{VirtioMemReq}
-use Rattle.refusal.specs.declared.Refusal.TheVariants.{NoShape}
 use Rattle.chain.specs.Chain.{asked, parsed}
 use Rattle.record.specs.Shape.{size_ok}
 use Rattle.record.specs.Changes.{requested_to}
@@ -147,7 +146,7 @@ pub record Raised (r : ℕ) (w : World) (c : Call) : Type 0 where
 -- R16.5: to a size that a record may have, whole blocks and at most the region; with any other it has lost its shape, and every call is refused
 abbrev pub RaisingKeeps : Type 0
 RaisingKeeps = (w : World) (r addr count : ℕ) (c : Call) → Asks c addr count → requested w ≤ r → Acknowledged (step w c)
-    → (size_ok (block_size w) r (region w) ≡ true → Raised r w c) × (size_ok (block_size w) r (region w) ≡ false → (step (requested_at r w) c).answer ≡ Refused NoShape)
+    → (size_ok (block_size w) r (region w) ≡ true → Raised r w c) × (size_ok (block_size w) r (region w) ≡ false → (step (requested_at r w) c).answer ≡ Refused 12)
 
 -- R16.6: as an owner raises it, by a size change to no less. More may then be usable too; where that needs a creation, requests are refused (7) until the host has answered. Where the change is done at once the plug is answered as before
 abbrev pub RaisingByCall : Type 0

@@ -14,7 +14,6 @@ use Rattle.little_endian.proofs.Laws.{put_fits}
 use Rattle.record.specs.declared.Device.{Device}
 use Rattle.rings.specs.declared.Queue.{Queue}
 use Rattle.record.specs.declared.HostCall.TheVariants.{Create, Discard}
-use Rattle.refusal.specs.declared.Refusal.TheVariants.{NoShape}
 use Rattle.step.specs.declared.Answer.{Answer}
 use Rattle.step.specs.declared.Answer.TheVariants.{Refused, Wants, Sized, Unserved, Served, Done}
 use Rattle.step.specs.World.{Outcome, Call}
@@ -33,7 +32,7 @@ use Rattle.jambcopper.specs.Queue.{QueueMadeIn, queue_handed, QueueStep, QueueCa
 
 -- ---- an answer's nine words
 nine : (a : Answer) → length (answer_words a) ≡ 9
-nine (Refused refusal) = refl
+nine (Refused number) = refl
 nine (Wants (Create guest size slot)) = refl
 nine (Wants (Discard offset size host)) = refl
 nine Sized = refl
@@ -52,7 +51,7 @@ put_whole xs ys e =
 module _ (call : QueueStep) (words queue : List ℕ) {r : Option Device} (e : r ≡ decoded_of words) where
   -- no record: only the answer is written
   pub no_record : r ≡ None → (answer : List ℕ) (l : Lent) → {answer' : List ℕ} {number : ℕ}
-      → (number ≡ 12) × (answer' ≡ put answer 0 (answer_words (Refused NoShape)))
+      → (number ≡ 12) × (answer' ≡ put answer 0 (answer_words (Refused 12)))
       → QueueExported call (queue_handed queue (handed words answer l)) (queue_handed queue (handed words answer' l)) number
   unfolding QueueCalled
   no_record f answer l t =
@@ -65,7 +64,7 @@ module _ (call : QueueStep) (words queue : List ℕ) {r : Option Device} (e : r 
 
     -- a record and no queue: so too
     pub no_queue : x ≡ None → (answer : List ℕ) (l : Lent) → {answer' : List ℕ} {number : ℕ}
-        → (number ≡ 12) × (answer' ≡ put answer 0 (answer_words (Refused NoShape)))
+        → (number ≡ 12) × (answer' ≡ put answer 0 (answer_words (Refused 12)))
         → QueueExported call (queue_handed queue (handed words answer l)) (queue_handed queue (handed words answer' l)) number
     unfolding QueueCalled
     no_queue i answer l t =

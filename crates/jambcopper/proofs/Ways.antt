@@ -20,7 +20,6 @@ use Rattle.step.specs.Step.{step, read_config, write_config}
 use Rattle.record.specs.Shape.{shaped_of}
 use Rattle.record.specs.Changes.{pending_to, placed_to, plugged_to, usable_to}
 use Rattle.refusal.specs.declared.Refusal.{Refusal}
-use Rattle.refusal.specs.declared.Refusal.TheVariants.{NoShape}
 use Rattle.refusal.specs.Refusal.{number}
 use Rattle.words.specs.Record.{words_of, decoded_of, after_request, after_answer}
 use Rattle.step.specs.Answers.{answer_words, number_of}
@@ -32,7 +31,7 @@ use Rattle.jambcopper.specs.Exports.{made_words, MadeIn, handed, Called, Exporte
 module _ (call : Lent → Call) (words answer : List ℕ) {r : Option Device} (e : r ≡ decoded_of words) where
   -- no record: only the answer is written
   pub foreign : r ≡ None → (slices : Lent) → {number : ℕ} {answer' : List ℕ} → number ≡ 12
-      → answer' ≡ put answer 0 (answer_words (Refused NoShape))
+      → answer' ≡ put answer 0 (answer_words (Refused 12))
       → Exported call (handed words answer slices) (handed words answer' slices) number
   unfolding Called
   foreign f slices n t =

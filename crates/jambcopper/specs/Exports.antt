@@ -4,7 +4,6 @@ use Rattle.std.specs.Prelude.{ℕ, ◌≡◌, Bool, cond, List, leb, length, Opt
 use Rattle.little_endian.specs.Bytes.{put}
 use Rattle.record.specs.declared.Device.{Device}
 use Rattle.refusal.specs.declared.Refusal.{Refusal}
-use Rattle.refusal.specs.declared.Refusal.TheVariants.{NoShape}
 use Rattle.making.specs.Made.{made_number}
 use Rattle.step.specs.declared.Answer.TheVariants.{Refused as RefusedWith}
 use Rattle.step.specs.World.{Outcome, Call}
@@ -48,7 +47,7 @@ pub record Told (o : Outcome) (entry exit : Handed) (number : ℕ) : Type 0 wher
 -- R19.2, R19.8: the words are no record, and only the answer is written
 pub record Foreign (entry exit : Handed) (number : ℕ) : Type 0 where
   pub numbered : number ≡ 12
-  pub told : exit.answer ≡ put entry.answer 0 (answer_words (RefusedWith NoShape))
+  pub told : exit.answer ≡ put entry.answer 0 (answer_words (RefusedWith 12))
   pub recorded : exit.words ≡ entry.words
   pub untouched : exit.slices ≡ entry.slices
 

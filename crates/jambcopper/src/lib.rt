@@ -15,7 +15,7 @@ ghost use Rattle.jambcopper.specs.Exports.{node_of, MadeIn, handed, Exported};
 ghost use Rattle.jambcopper.specs.Queue.{new_queue, QueueMadeIn};
 ghost use Rattle.jambcopper.specs.Queue.{queue_handed, serve_on, serve_answer_on, QueueExported};
 
-use answer_words::{ANSWER_WORDS, number_of, pass_on, tell};
+use answer_words::{ANSWER_WORDS, number_of, pass_on, tell, tell_refused};
 use device::{read_config, write_config};
 use driver::write_request;
 use driver_words::{tell_config, tell_plan, tell_response};
@@ -27,7 +27,6 @@ use refusal::{Refusal, code};
 use rings::Queue;
 use save_words::{tell_new, tell_old, tell_restore, tell_save, tell_save_length};
 use serving::{host_answer, request};
-use step::Answer;
 use units::{GuestAddr, HostAddr};
 use wire::VirtioMemReq;
 use words::{RECORD_WORDS, decode, encode, encode_answer, encode_request};
@@ -81,7 +80,7 @@ pub fn jambcopper_place(
         (handed words.new answer.new (lent bitmap.new table.new [])) result }
 {
     let Some(d) = decode(&words[..]) else {
-        return tell(Answer::Refused(Refusal::NoShape), answer);
+        return tell_refused(Refusal::NoShape, answer);
     };
     let s = place(d, bitmap, table, GuestAddr(start), size, slots);
     encode(s.device, words);
@@ -101,7 +100,7 @@ pub fn jambcopper_set_requested_size(
         (handed words.new answer.new (lent bitmap.now table.now [])) result }
 {
     let Some(d) = decode(&words[..]) else {
-        return tell(Answer::Refused(Refusal::NoShape), answer);
+        return tell_refused(Refusal::NoShape, answer);
     };
     let s = set_requested_size(d, bitmap, table, requested_mib);
     encode(s.device, words);
@@ -126,7 +125,7 @@ pub fn jambcopper_request(
         (lent bitmap.new table.now mem.new)) result }
 {
     let Some(d) = decode(&words[..]) else {
-        return tell(Answer::Refused(Refusal::NoShape), answer);
+        return tell_refused(Refusal::NoShape, answer);
     };
     let s = request(
         d,
@@ -159,7 +158,7 @@ pub fn jambcopper_host_answer(
         (lent bitmap.new table.new mem.new)) result }
 {
     let Some(d) = decode(&words[..]) else {
-        return tell(Answer::Refused(Refusal::NoShape), answer);
+        return tell_refused(Refusal::NoShape, answer);
     };
     let s = host_answer(d, bitmap, table, mem, GuestAddr(base), ok, HostAddr(host));
     encode_answer(s.device, words);
@@ -202,10 +201,10 @@ pub fn jambcopper_serve(
         (lent bitmap.new table.now mem.new))) result }
 {
     let Some(d) = decode(&words[..]) else {
-        return tell(Answer::Refused(Refusal::NoShape), answer);
+        return tell_refused(Refusal::NoShape, answer);
     };
     let Some(q) = decode_queue(&queue[..]) else {
-        return tell(Answer::Refused(Refusal::NoShape), answer);
+        return tell_refused(Refusal::NoShape, answer);
     };
     match next_taking(d, q, bitmap.len(), table.len(), &mem[..], GuestAddr(base)) {
         Taking::NoHead(told) => tell_queue(told, answer),
@@ -250,10 +249,10 @@ pub fn jambcopper_serve_answer(
         (lent bitmap.new table.new mem.new))) result }
 {
     let Some(d) = decode(&words[..]) else {
-        return tell(Answer::Refused(Refusal::NoShape), answer);
+        return tell_refused(Refusal::NoShape, answer);
     };
     let Some(q) = decode_queue(&queue[..]) else {
-        return tell(Answer::Refused(Refusal::NoShape), answer);
+        return tell_refused(Refusal::NoShape, answer);
     };
     if let Err(refusal) = queue_refusal(
         d,
@@ -263,7 +262,7 @@ pub fn jambcopper_serve_answer(
         &mem[..],
         GuestAddr(base),
     ) {
-        return tell(Answer::Refused(refusal), answer);
+        return tell_refused(refusal, answer);
     }
     let taken = q.taken;
     let Some(head) = taken else {

@@ -29,7 +29,7 @@ use Rattle.history.specs.History.{PlugAck, NoRequest, ack_to_type, ack_to_reques
 use Rattle.history.proofs.Shaped.{clash}
 use Rattle.linked.specs.Runs.{jambcopper_place, jambcopper_set_requested_size, jambcopper_request, jambcopper_host_answer, jambcopper_read_config}
 use Rattle.linked.specs.Runs.{Use, call_by, in_use, on_tables, new_tables, holding, Run, held_after, Making, Makes, first, in_hand}
-use Rattle.linked.specs.Heard.{refusal_of, unasked_of, why_of, answer_of, heard_by, HasRoom, AllHeard, events_heard}
+use Rattle.linked.specs.Heard.{answer_of, heard_by, HasRoom, AllHeard, events_heard}
 use Rattle.linked.proofs.Heard.{demand_3_heard}
 
 -- the words of the record: start, usable size, plugged size, placed, and the pending call
@@ -124,7 +124,7 @@ pub record Seen : Type 0 where
   pub sized : plugged (in_hand (held_after (first (record_words 0 0 0 0 0)) uses)) ≡ 8388608
 
 pub seen : Seen
-unfolding record_words zeros asked uses call_by in_use new_tables holding held_after refusal_of unasked_of why_of answer_of heard_by HasRoom AllHeard events_heard value little_endian part request_at virtq_desc descriptor_at descriptor_addr inside link_at link_after with_second with_first parsed record_of ack_to_type ack_to_request ack_to_host acknowledges discard_of reports response refusal events_of opened_by_type opened_by_request goes_on opened_by asked_by open_after
+unfolding record_words zeros asked uses call_by in_use new_tables holding held_after answer_of heard_by HasRoom AllHeard events_heard value little_endian part request_at virtq_desc descriptor_at descriptor_addr inside link_at link_after with_second with_first parsed record_of ack_to_type ack_to_request ack_to_host acknowledges discard_of reports response refusal events_of opened_by_type opened_by_request goes_on opened_by asked_by open_after
 seen = record { all_heard = (omega arith, (omega arith, (omega arith, (omega arith, (omega arith, (omega arith, (omega arith, (tt, tt)))))))); hears = refl; marked = refl; sized = refl }
 
 -- demand 3 says that these fit each other

@@ -1,6 +1,5 @@
 -- SPDX-License-Identifier: Apache-2.0 AND BSD-3-Clause
 -- What a program hears is what the definition's step answers; so the events that it hears are those of the definition's run, and demand 3 holds of what it holds and has heard.
-use Rattle.std.specs.Prelude.{Option, Some, None}
 use Prim.Native.Nat.{ℕ, ◌+◌, ◌≤◌}
 use mathlib.Core.Path.{◌≡◌, refl, ap, sym, ◌∙◌}
 use mathlib.Core.List.{List, [], ◌∷◌, ◌++◌}
@@ -9,15 +8,6 @@ use lib.ListN.{length, drop}
 use Rattle.units.proofs.Tests.{by_test}
 use Rattle.little_endian.specs.Bytes.{put}
 use Rattle.little_endian.proofs.Laws.{put_fits}
-use Rattle.refusal.specs.declared.Refusal.{Refusal}
-use Rattle.refusal.specs.declared.Refusal.TheVariants.{WrongSize, CapacityTooLarge, WrongRange, WrongStart, NotPlaced, AlreadyPlaced, CallPending, NothingPending, HostPastTop, CreationFailed, TooShort, NoShape, BadLine, RingOutside, RingOverfull, BadBytes, NothingToPlug, NoState, LaterForm}
-use Rattle.refusal.specs.Refusal.{number}
-use Rattle.chain.specs.declared.NoRequest.{NoRequest as Unasked}
-use Rattle.chain.specs.declared.NoRequest.TheVariants.{UnknownType, Missing, FirstWriteOnly, WrongLength, NotInside, NotWritable, TooShort as ChainTooShort, Indirect}
-use Rattle.chain.specs.Chain.{reason}
-use Rattle.change.specs.declared.Reason.{Reason}
-use Rattle.change.specs.declared.Reason.TheVariants.{Alignment, ZeroBlocks, Overflow, BelowStart, PastUsable, EndPastUsable, WrongState, CrossesBorder, Unmapped, SumPasses, FailedDiscard}
-use Rattle.change.specs.Why.{why_number}
 use Rattle.record.specs.declared.HostCall.TheVariants.{Create, Discard}
 use Rattle.record.specs.Shape.{shaped_of}
 use Rattle.step.specs.declared.Answer.{Answer}
@@ -29,76 +19,27 @@ use Rattle.jambcopper.specs.Exports.{Handed}
 use Rattle.history.specs.History.{Open, acknowledges, reports, if_ack, if_not_refused, events_of, open_after, Story, next, after, begun}
 use Rattle.linked.specs.Runs.{Function, jambcopper_place, jambcopper_set_requested_size, jambcopper_request, jambcopper_host_answer, jambcopper_read_config, jambcopper_write_config}
 use Rattle.linked.specs.Runs.{Use, call_by, call_of, Held, leaves, Run, calls_of, first, Means}
-use Rattle.linked.specs.Heard.{refusal_of, unasked_of, why_of, answer_of, heard_by, HasRoom, AllHeard, events_heard, Demand3InHand}
+use Rattle.linked.specs.Heard.{answer_of, heard_by, HasRoom, AllHeard, events_heard, Demand3InHand}
 use Rattle.linked.proofs.Steps.{Tells, in_hand_lem, one_goes}
 use Rattle.linked.proofs.Linked.{at_first, made_decodes, linked}
-
--- ---- a number tells what it was given for
-refusal_back : (r : Refusal) → refusal_of (number r) ≡ r
-unfolding refusal_of
-refusal_back WrongSize = refl
-refusal_back CapacityTooLarge = refl
-refusal_back WrongRange = refl
-refusal_back WrongStart = refl
-refusal_back NotPlaced = refl
-refusal_back AlreadyPlaced = refl
-refusal_back CallPending = refl
-refusal_back NothingPending = refl
-refusal_back HostPastTop = refl
-refusal_back CreationFailed = refl
-refusal_back TooShort = refl
-refusal_back NoShape = refl
-refusal_back BadLine = refl
-refusal_back RingOutside = refl
-refusal_back RingOverfull = refl
-refusal_back BadBytes = refl
-refusal_back NothingToPlug = refl
-refusal_back NoState = refl
-refusal_back LaterForm = refl
-
-unasked_back : (r : Unasked) → unasked_of (reason r) ≡ r
-unfolding unasked_of
-unasked_back UnknownType = refl
-unasked_back Missing = refl
-unasked_back FirstWriteOnly = refl
-unasked_back WrongLength = refl
-unasked_back NotInside = refl
-unasked_back NotWritable = refl
-unasked_back ChainTooShort = refl
-unasked_back Indirect = refl
-
-why_back : (why : Option Reason) → why_of (why_number why) ≡ why
-unfolding why_of
-why_back None = refl
-why_back (Some Alignment) = refl
-why_back (Some ZeroBlocks) = refl
-why_back (Some Overflow) = refl
-why_back (Some BelowStart) = refl
-why_back (Some PastUsable) = refl
-why_back (Some EndPastUsable) = refl
-why_back (Some WrongState) = refl
-why_back (Some CrossesBorder) = refl
-why_back (Some Unmapped) = refl
-why_back (Some SumPasses) = refl
-why_back (Some FailedDiscard) = refl
 
 -- ---- the words of an answer tell it
 words_tell : (a : Answer) (rest : List ℕ) → answer_of (answer_words a ++ rest) ≡ a
 unfolding answer_of
-words_tell (Refused refusal) rest = ap Refused (refusal_back refusal)
+words_tell (Refused n) rest = refl
 words_tell (Wants (Create guest size slot)) rest = refl
 words_tell (Wants (Discard offset size host)) rest = refl
 words_tell Sized rest = refl
-words_tell (Unserved why) rest = ap Unserved (unasked_back why)
-words_tell (Served reply) rest = ap (λ (why : Option Reason). Served (record { response = reply.response; used = reply.used; why = why })) (why_back reply.why)
+words_tell (Unserved reason) rest = refl
+words_tell (Served reply) rest = refl
 words_tell Done rest = refl
 
 nine : (a : Answer) → length (answer_words a) ≡ 9
-nine (Refused refusal) = refl
+nine (Refused n) = refl
 nine (Wants (Create guest size slot)) = refl
 nine (Wants (Discard offset size host)) = refl
 nine Sized = refl
-nine (Unserved why) = refl
+nine (Unserved reason) = refl
 nine (Served reply) = refl
 nine Done = refl
 
@@ -114,10 +55,10 @@ answers_tell a b e = sym (words_tell a []) ∙ ap (λ (ws : List ℕ). answer_of
 -- ---- the config's calls are no event, and leave open what is
 no_event : (a : Answer) → (if_ack a [] ++ if_not_refused a []) ≡ []
 unfolding response refusal
-no_event (Refused refused) = refl
+no_event (Refused n) = refl
 no_event (Wants call) = refl
 no_event Sized = refl
-no_event (Unserved why) = refl
+no_event (Unserved reason) = refl
 no_event (Served reply) = by_test (eqb reply.response.resp_type 0) (λ t. rw t) (λ t. rw t)
 no_event Done = refl
 

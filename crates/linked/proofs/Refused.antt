@@ -4,8 +4,6 @@ use Rattle.record.specs.declared.Device.{Device}
 use Rattle.std.specs.Prelude.{Option, Some, None}
 use mathlib.Core.Path.{◌≡◌, refl, ap, ◌∙◌}
 use mathlib.Core.Bool.{true}
-use Rattle.refusal.specs.declared.Refusal.{Refusal}
-use Rattle.refusal.specs.Refusal.{number}
 use Rattle.bitmap.proofs.Bytes.{blocks_tell}
 use Rattle.rows.specs.Rows.{written}
 use Rattle.rows.proofs.Words.{whole}
@@ -27,17 +25,12 @@ use Rattle.linked.specs.Runs.{Function, jambcopper_place, jambcopper_set_request
 use Rattle.linked.specs.Refused.{lends_bytes, UseUntouched, RefusedExportChangesNothing}
 
 -- an answer whose number is not 0 is a refusal with it
-pub record RefusedWith (a : Answer) : Type 0 where
-  pub refusal : Refusal
-  pub is_refused : a ≡ Refused refusal
-  pub numbered : number_of a ≡ number refusal
-
-pub refused_with : (a : Answer) → (number_of a ≡ 0 → ⊥) → RefusedWith a
-refused_with (Refused refusal) h = record { refusal = refusal; is_refused = refl; numbered = refl }
+pub refused_with : (a : Answer) → (number_of a ≡ 0 → ⊥) → a ≡ Refused (number_of a)
+refused_with (Refused n) h = refl
 refused_with (Wants (Create guest size slot)) h = absurd (h refl)
 refused_with (Wants (Discard offset size host)) h = absurd (h refl)
 refused_with Sized h = absurd (h refl)
-refused_with (Unserved why) h = absurd (h refl)
+refused_with (Unserved reason) h = absurd (h refl)
 refused_with (Served reply) h = absurd (h refl)
 refused_with Done h = absurd (h refl)
 
@@ -58,8 +51,7 @@ refused_export_changes_nothing u low low' p refused not-10 = go (decoded_of u.be
     go (Some d) is t =
         let w = world_of d u.before.slices.bitmap u.before.slices.table in
         let a = (step w (call_of u)).answer in
-        let r = refused_with a (λ e. refused (t.numbered ∙ e)) in
-        let same = refused_changes_nothing w (call_of u) r.refusal r.is_refused (λ ten. not-10 (t.numbered ∙ r.numbered ∙ ap number ten)) in
+        let same = refused_changes_nothing w (call_of u) (number_of a) (refused_with a (λ e. refused (t.numbered ∙ e))) (λ e. not-10 (t.numbered ∙ e)) in
         record {
           same_words = t.recorded ∙ ap (λ (v : World). put u.before.words 0 (words_of v.device)) same.0 ∙ decoded_encodes u.before.words d is;
           same_bitmap = blocks_tell u.after.slices.bitmap u.before.slices.bitmap low' low (t.leaves.marked ∙ ap (λ (v : World). v.blocks) same.0);

@@ -1,13 +1,7 @@
 -- SPDX-License-Identifier: Apache-2.0 AND BSD-3-Clause
 -- What a program hears in a run of the exported functions: the answer that an answer's words mean, and from the answers and from what it holds the events of demand 3. Nothing here speaks of the definition's step.
 use Prim.{Unit}
-use Rattle.std.specs.Prelude.{ℕ, ◌-◌, ◌≤◌, cond, List, [], ◌∷◌, ◌++◌, eqb, length, get_or, Option, Some, None}
-use Rattle.refusal.specs.declared.Refusal.{Refusal}
-use Rattle.refusal.specs.declared.Refusal.TheVariants.{WrongSize, CapacityTooLarge, WrongRange, WrongStart, NotPlaced, AlreadyPlaced, CallPending, NothingPending, HostPastTop, CreationFailed, TooShort, NoShape, BadLine, RingOutside, RingOverfull, BadBytes, NothingToPlug, NoState, LaterForm}
-use Rattle.chain.specs.declared.NoRequest.{NoRequest as Unasked}
-use Rattle.chain.specs.declared.NoRequest.TheVariants.{UnknownType, Missing, FirstWriteOnly, WrongLength, NotInside, NotWritable, TooShort as ChainTooShort, Indirect}
-use Rattle.change.specs.declared.Reason.{Reason}
-use Rattle.change.specs.declared.Reason.TheVariants.{Alignment, ZeroBlocks, Overflow, BelowStart, PastUsable, EndPastUsable, WrongState, CrossesBorder, Unmapped, SumPasses, FailedDiscard}
+use Rattle.std.specs.Prelude.{ℕ, ◌≤◌, cond, List, [], ◌∷◌, ◌++◌, eqb, length}
 use Rattle.record.specs.declared.HostCall.TheVariants.{Create, Discard}
 use Rattle.step.specs.declared.Answer.{Answer}
 use Rattle.step.specs.declared.Answer.TheVariants.{Refused, Wants, Sized, Unserved, Done}
@@ -18,30 +12,15 @@ use Rattle.jambcopper.specs.Exports.{Handed}
 use Rattle.history.specs.History.{Event, Open, NoRequest, events_of, open_after, Demand3}
 use Rattle.linked.specs.Runs.{Function, jambcopper_place, jambcopper_set_requested_size, jambcopper_request, jambcopper_host_answer, jambcopper_read_config, jambcopper_write_config, Use, call_of, Held, leaves, Run, held_after, first, in_hand, Making, Makes}
 
--- ---- what the numbers of an answer mean; a call tells no others
--- why a call is refused (`number` of crates/refusal/specs/Refusal.antt)
-unfoldable pub refusal_of : ℕ → Refusal
-refusal_of n =
-    get_or (WrongSize ∷ CapacityTooLarge ∷ WrongRange ∷ WrongStart ∷ NotPlaced ∷ AlreadyPlaced ∷ CallPending ∷ NothingPending ∷ HostPastTop ∷ CreationFailed ∷ TooShort ∷ NoShape ∷ BadLine ∷ RingOutside ∷ RingOverfull ∷ BadBytes ∷ NothingToPlug ∷ NoState ∷ LaterForm ∷ []) (n - 1) LaterForm
-
--- why a chain is no request (`reason` of crates/chain/specs/Chain.antt)
-unfoldable pub unasked_of : ℕ → Unasked
-unasked_of n = cond (eqb n 0) UnknownType (get_or (Missing ∷ FirstWriteOnly ∷ WrongLength ∷ NotInside ∷ NotWritable ∷ ChainTooShort ∷ Indirect ∷ []) (n - 21) Indirect)
-
--- why a response is an ERROR, or none (`why_number` of crates/change/specs/Why.antt)
-unfoldable pub why_of : ℕ → Option Reason
-why_of n =
-    get_or (None ∷ Some Alignment ∷ Some ZeroBlocks ∷ Some Overflow ∷ Some BelowStart ∷ Some PastUsable ∷ Some EndPastUsable ∷ Some WrongState ∷ Some CrossesBorder ∷ Some Unmapped ∷ Some SumPasses ∷ Some FailedDiscard ∷ []) n None
-
 -- the answer that words mean
 unfoldable pub answer_of : List ℕ → Answer
 answer_of ws =
-    cond (eqb (word ws 0) 0) (Refused (refusal_of (word ws 1)))
+    cond (eqb (word ws 0) 0) (Refused (word ws 1))
     (cond (eqb (word ws 0) 1) (Wants (Create (record { 0 = word ws 2 }) (word ws 3) (word ws 4)))
     (cond (eqb (word ws 0) 2) (Wants (Discard (record { 0 = word ws 2 }) (word ws 3) (record { 0 = word ws 4 })))
     (cond (eqb (word ws 0) 3) Sized
-    (cond (eqb (word ws 0) 4) (Unserved (unasked_of (word ws 8)))
-    (cond (eqb (word ws 0) 5) (served_with (verdict (word ws 5) (word ws 6) (why_of (word ws 8))) (word ws 7)) Done)))))
+    (cond (eqb (word ws 0) 4) (Unserved (word ws 8))
+    (cond (eqb (word ws 0) 5) (served_with (verdict (word ws 5) (word ws 6) (word ws 8)) (word ws 7)) Done)))))
 
 -- the answer that a call has told; the config's calls tell a number alone
 unfoldable pub heard_by : Function → (after : Handed) → Answer

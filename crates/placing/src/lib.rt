@@ -14,7 +14,7 @@ use record::{Device, HostCall, Pending, start_ok};
 use refusal::Refusal;
 use resize::{growth_of, new_size};
 use rows::{lay, slot_of};
-use step::{Answer, Answered, Shaped, ready_refusal, refuse, sized, unplaced_refusal};
+use step::{Answer, Answered, Shaped, ready_refusal, refuse_as, sized, unplaced_refusal};
 use units::{GuestAddr, MemTool, RegionOffset, map_regions};
 
 // Asks for one creation that covers the rows from `first` to `last`.
@@ -73,10 +73,10 @@ pub fn set_requested_size(d: Device, bitmap: &[u8], table: &[u64], requested_mib
         (lent bitmap.now table.now []) result }
 {
     if let Err(refusal) = ready_refusal(d, bitmap.len(), table.len()) {
-        return refuse(d, refusal);
+        return refuse_as(d, refusal);
     }
     if requested_refused(requested_mib, d.config.region_size, d.config.block_size) {
-        return refuse(d, Refusal::WrongSize);
+        return refuse_as(d, Refusal::WrongSize);
     }
     let requested = requested_mib * MemTool::MIB;
     let mut asked = d;
@@ -127,10 +127,10 @@ pub fn place(
         (lent bitmap.new table.new []) result }
 {
     if let Err(refusal) = unplaced_refusal(d, bitmap.len(), table.len()) {
-        return refuse(d, refusal);
+        return refuse_as(d, refusal);
     }
     if let Err(refusal) = range_refusal(d, start, size, slots.len() as u64) {
-        return refuse(d, refusal);
+        return refuse_as(d, refusal);
     }
     let blocks = MemTool::blocks_in(d.config.region_size, d.config.block_size);
     set_range(bitmap, 0, blocks as usize, false);

@@ -1,5 +1,6 @@
 -- SPDX-License-Identifier: Apache-2.0 AND BSD-3-Clause
 -- What the ways through a call of the queue come to: each lemma takes what the code knows on a way and shows the ending of `Queue.antt` there.
+use Rattle.refusal.specs.Refusal.{number}
 use Rattle.std.specs.Prelude.{Option, Some, None, Ok, Err, Result, ⊤}
 use Rattle.std.specs.Result.{result_ok, result_and}
 use Rattle.std.specs.Option.{option_flatten}
@@ -8,7 +9,6 @@ use mathlib.Core.Path.{◌≡◌, refl, sym, ap, ◌∙◌}
 use mathlib.Core.Bool.{Bool, true, false, cond}
 use mathlib.Core.List.{List}
 use native.Mathlib.Omega.{arith}
-use lib.Dec.{eqb}
 use lib.ListN.{length}
 use Rattle.units.proofs.Tests.{by_test}
 use Rattle.bitmap.proofs.Laws.{blocks-length}
@@ -68,7 +68,7 @@ told_none (Ok u) (Ok (Some h)) head e = refl
 told_none (Ok u) (Err r) head e = let z : ◌≡◌ {A = ℕ} 0 1 = cc in absurd (omega arith)
 told_none (Err r) next head e = let z : ◌≡◌ {A = ℕ} 0 1 = cc in absurd (omega arith)
 
-pub told_refusal : (admitted : Result ⊤ Refusal) (next : Result (Option ℕ) Refusal) (refusal : Refusal) → result_and admitted next ≡ Err refusal → Some (Refused refusal) ≡ none_told (next_unless admitted next)
+pub told_refusal : (admitted : Result ⊤ Refusal) (next : Result (Option ℕ) Refusal) (refusal : Refusal) → result_and admitted next ≡ Err refusal → Some (Refused (number refusal)) ≡ none_told (next_unless admitted next)
 unfolding none_told next_unless
 told_refusal (Ok u) (Ok head) refusal e = let z : ◌≡◌ {A = ℕ} 0 1 = cc in absurd (omega arith)
 told_refusal (Ok u) (Err r) refusal e = cc
@@ -186,7 +186,7 @@ module _ (d : Device) (bitmap table : List ℕ) (q : Queue) (g : Guest) where
     answered_as_lem : host_answers (world_of d bitmap table) q g ok host ≡ unless_refused n (world_of d bitmap table) q g.mem (answers q.taken q g.base (step (world_of d bitmap table) (HostAnswer g ok host)))
     answered_as_lem = by_refusal (world_of d bitmap table) q g ok host ∙ rw (blocks-length bitmap, count table, ← n-is)
 
-    pub refused_as : (refusal : Refusal) → n ≡ Err refusal → host_answers (world_of d bitmap table) q g ok host ≡ unmoved (Some (Refused refusal)) (world_of d bitmap table) q g.mem
+    pub refused_as : (refusal : Refusal) → n ≡ Err refusal → host_answers (world_of d bitmap table) q g ok host ≡ unmoved (Some (Refused (number refusal))) (world_of d bitmap table) q g.mem
     unfolding unless_refused
     refused_as refusal some = answered_as_lem ∙ rw some
 
@@ -196,5 +196,5 @@ module _ (d : Device) (bitmap table : List ℕ) (q : Queue) (g : Guest) where
         let o = step (world_of d bitmap table) (HostAnswer g ok host) in
         answered_as_lem ∙ rw (none, ap (λ (x : Option ℕ). answers x q g.base o) e)
 
-    pub answer_refused : {t : Turn} (refusal : Refusal) → n ≡ Err refusal → t ≡ turned d q (Some (Refused refusal)) → GivesTurn (host_answers (world_of d bitmap table) q g ok host) (lent bitmap table g.mem) (lent bitmap table g.mem) t
-    answer_refused refusal some is = rw (refused_as refusal some) (unchanged (Some (Refused refusal)) is)
+    pub answer_refused : {t : Turn} (refusal : Refusal) → n ≡ Err refusal → t ≡ turned d q (Some (Refused (number refusal))) → GivesTurn (host_answers (world_of d bitmap table) q g ok host) (lent bitmap table g.mem) (lent bitmap table g.mem) t
+    answer_refused refusal some is = rw (refused_as refusal some) (unchanged (Some (Refused (number refusal))) is)

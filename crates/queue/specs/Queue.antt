@@ -1,6 +1,7 @@
 -- SPDX-License-Identifier: Apache-2.0 AND BSD-3-Clause
 -- The device on its queue (R13): which head a call takes, what becomes of it by the device's answer, and the host's answer while a head is out.
-use Rattle.std.specs.Prelude.{ℕ, ◌≡◌, Bool, true, false, cond, not, List, [], ◌∷◌, eqb, length, get_or, Option, Some, None, Ok, Err, Result, ⊤}
+use Rattle.refusal.specs.Refusal.{number}
+use Rattle.std.specs.Prelude.{ℕ, ◌≡◌, Bool, true, false, cond, not, List, [], ◌∷◌, length, get_or, Option, Some, None, Ok, Err, Result, ⊤}
 use Rattle.units.specs.declared.GuestAddr.{GuestAddr}
 use Rattle.record.specs.declared.Device.{Device}
 use Rattle.record.specs.Shape.{shaped_of}
@@ -58,7 +59,7 @@ queue_ok (Some head) p = discarding p
 -- ---- what becomes of a head by the device's answer
 -- R13.8, R13.9: it is reported when its request has ended, and a refused call takes none
 abbrev pub ending_of : Answer → Ending
-ending_of (Refused refusal) = Stays
+ending_of (Refused number) = Stays
 ending_of (Wants call) = Out
 ending_of Sized = Stays
 ending_of (Unserved reason) = Used 0
@@ -114,13 +115,13 @@ next_of w q g =
 unfoldable pub none_told : Result (Option ℕ) Refusal → Option Answer
 none_told (Ok (Some head)) = None
 none_told (Ok None) = None
-none_told (Err refusal) = Some (Refused refusal)
+none_told (Err refusal) = Some (Refused (number refusal))
 
 -- R13.4, R13.7
 unfoldable pub takes : Result (Option ℕ) Refusal → World → Queue → Guest → QueueOutcome
 takes (Ok (Some head)) w q g = about head g.base q (took_head q head) (step w (Request g q.descriptors.0 head))
 takes (Ok None) w q g = unmoved None w q g.mem
-takes (Err refusal) w q g = unmoved (Some (Refused refusal)) w q g.mem
+takes (Err refusal) w q g = unmoved (Some (Refused (number refusal))) w q g.mem
 
 abbrev pub serve_next : World → Queue → Guest → QueueOutcome
 serve_next w q g = takes (next_of w q g) w q g
@@ -133,7 +134,7 @@ standing (Err refusal) admitted = NoHead (none_told (next_unless admitted (Err r
 
 unfoldable pub taking_of : Device → Queue → (blocks rows : ℕ) → (mem : List ℕ) (base : ℕ) → Taking
 taking_of d q blocks rows mem base =
-    cond (not (queue_ok q.taken d.pending)) (NoHead (Some (Refused NoShape)))
+    cond (not (queue_ok q.taken d.pending)) (NoHead (Some (Refused (number NoShape))))
     (standing (next_head mem base q) (ready_refusal d blocks rows))
 
 unfoldable pub walks : Taking → World → Queue → Guest → QueueOutcome
@@ -169,7 +170,7 @@ answers (Some head) q base o = about head base q q o
 -- the outcome, unless the call is refused
 unfoldable pub unless_refused : Result ⊤ Refusal → World → Queue → List ℕ → QueueOutcome → QueueOutcome
 unless_refused (Ok admitted) w q bytes o = o
-unless_refused (Err refusal) w q bytes o = unmoved (Some (Refused refusal)) w q bytes
+unless_refused (Err refusal) w q bytes o = unmoved (Some (Refused (number refusal))) w q bytes
 
 abbrev pub host_answers : World → Queue → Guest → (ok : Bool) (host : ℕ) → QueueOutcome
 host_answers w q g ok host =

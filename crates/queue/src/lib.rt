@@ -136,7 +136,7 @@ fn none_told(admitted: Result<(), Refusal>, next: Result<Option<u16>, Refusal>) 
 {
     match admitted.and(next) {
         Ok(_) => None,
-        Err(refusal) => Some(Answer::Refused(refusal)),
+        Err(refusal) => Some(Answer::Refused(refusal.number())),
     }
 }
 
@@ -154,7 +154,7 @@ pub fn next_taking(
     let taken = q.taken;
     let pending = d.pending;
     if !queue_ok(taken, pending) {
-        return Taking::NoHead(Some(Answer::Refused(Refusal::NoShape)));
+        return Taking::NoHead(Some(Answer::Refused(Refusal::NoShape.number())));
     }
     let next = next_head(mem, base, q);
     let Some(head) = next.ok().flatten() else {
@@ -250,7 +250,7 @@ pub fn host_answer(
         (lent bitmap.new table.new mem.new) result }
 {
     if let Err(refusal) = queue_refusal(d, q, bitmap.len(), table.len(), &mem[..], base) {
-        return tells(d, q, Some(Answer::Refused(refusal)));
+        return tells(d, q, Some(Answer::Refused(refusal.number())));
     }
     let s = serving::host_answer(d, bitmap, table, mem, base, ok, host);
     let answer = s.answer;

@@ -1,7 +1,5 @@
 -- SPDX-License-Identifier: Apache-2.0 AND BSD-3-Clause
 -- A refused export on a queue changes nothing: the definition's refused call does not, and an export leaves what the definition's call leaves.
-use Rattle.refusal.specs.declared.Refusal.{Refusal}
-use Rattle.refusal.specs.Refusal.{number}
 use Rattle.record.specs.declared.Device.{Device}
 use Rattle.step.specs.declared.Answer.{Answer}
 use Rattle.std.specs.Prelude.{Option, Some, None}
@@ -30,15 +28,9 @@ use Rattle.queue_runs.specs.Standard.{on_guest}
 use Rattle.queue_runs.proofs.Refused.{refused_takes_none, refused_moves_nothing}
 use Rattle.queue_linked.specs.Refused.{QueueUntouched, RefusedQueueExportChangesNothing}
 
--- what is told with a number that is not 0 is a refusal with it
-pub record RefusedAs (t : Option Answer) : Type 0 where
-  pub refusal : Refusal
-  pub is_refused : t ≡ Some (Refused refusal)
-  pub numbered : queue_number_of t ≡ number refusal
-
-refused_of : (t : Option Answer) → (queue_number_of t ≡ 0 → ⊥) → RefusedAs t
+refused_of : (t : Option Answer) → (queue_number_of t ≡ 0 → ⊥) → t ≡ Some (Refused (queue_number_of t))
 refused_of None h = absurd (h refl)
-refused_of (Some a) h = let r = refused_with a h in record { refusal = r.refusal; is_refused = ap Some r.is_refused; numbered = r.numbered }
+refused_of (Some a) h = ap Some (refused_with a h)
 
 guest_bytes : (c : QueueCall) → on_guest c ≡ true → bytes_to c ≡ (lent_to c).mem
 unfolding on_guest bytes_to lent_to
@@ -66,9 +58,9 @@ refused_queue_export_changes_nothing c b a n guest lends low low' p refused not-
         let w = world_of d b.others.slices.bitmap b.others.slices.table in
         let call = c b.others.slices in
         let o = queue_step w q call in
-        let r = refused_of o.answer (λ e. refused (t.numbered ∙ e)) in
-        let same = refused_moves_nothing w q call r.refusal r.is_refused (λ ten. not-10 (t.numbered ∙ r.numbered ∙ ap number ten)) in
-        let none = refused_takes_none w q call r.refusal r.is_refused in
+        let is-refused = refused_of o.answer (λ e. refused (t.numbered ∙ e)) in
+        let same = refused_moves_nothing w q call (queue_number_of o.answer) is-refused (λ e. not-10 (t.numbered ∙ e)) in
+        let none = refused_takes_none w q call (queue_number_of o.answer) is-refused in
         record {
           same_words = t.recorded ∙ ap (λ (v : World). put b.others.words 0 (words_of v.device)) same ∙ decoded_encodes b.others.words d is;
           same_queue = t.queued ∙ ap (λ (x : Queue). put b.queue 0 (queue_words x)) none.0.same_queue ∙ queue-encodes b.queue q queue-is;

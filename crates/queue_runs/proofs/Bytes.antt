@@ -70,7 +70,7 @@ module _ (w : World) (call : Call) (g : Guest) where
   keeps : (a : Answer) (bytes : List ℕ) → (response_of a ≡ none → bytes ≡ g.mem)
       → ((reply : Reply) → a ≡ Served reply → (status : ℕ) × (status_for w call ≡ some status) × Delivered g status reply bytes) → Keeps w call g a bytes
   unfolding response
-  keeps (Refused refusal) bytes quiet says = unwritten (Refused refusal) bytes stays (quiet refl)
+  keeps (Refused number) bytes quiet says = unwritten (Refused number) bytes stays (quiet refl)
   keeps (Wants question) bytes quiet says = unwritten (Wants question) bytes (λ len e. impossible cc) (quiet refl)
   keeps Sized bytes quiet says = unwritten Sized bytes stays (quiet refl)
   keeps (Unserved reason) bytes quiet says = unwritten (Unserved reason) bytes (λ len e. let z : 0 ≡ len = cc in omega arith) (quiet refl)

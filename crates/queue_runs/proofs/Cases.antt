@@ -1,5 +1,6 @@
 -- SPDX-License-Identifier: Apache-2.0 AND BSD-3-Clause
 -- The ways of a queue's call, case by case, for every law over its runs.
+use Rattle.refusal.specs.Refusal.{number}
 use Rattle.std.specs.Prelude.{Option, Some, None, Ok, Err, Result, ⊤}
 use Prim.Native.Nat.{ℕ}
 use mathlib.Core.Path.{◌≡◌, refl}
@@ -68,7 +69,7 @@ module _ (w : World) (q : Queue) (g : Guest) (P : Result (Option ℕ) Refusal �
 module _ (w : World) (q : Queue) (g : Guest) (ok : Bool) (host : ℕ) (P : List Call → QueueOutcome → Type 0) where
   pub answer_cases :
       (answer_refusal w.device q (length w.blocks) (length w.rows) g ≡ Ok tt → P (HostAnswer g ok host ∷ []) (answers q.taken q g.base (step w (HostAnswer g ok host))))
-      → ((r : Refusal) → answer_refusal w.device q (length w.blocks) (length w.rows) g ≡ Err r → P [] (unmoved (Some (Refused r)) w q g.mem))
+      → ((r : Refusal) → answer_refusal w.device q (length w.blocks) (length w.rows) g ≡ Err r → P [] (unmoved (Some (Refused (number r))) w q g.mem))
       → P (device_calls w q (Host g ok host)) (host_answers w q g ok host)
   unfolding device_calls calls_if unless_refused
   answer_cases heard refuses =

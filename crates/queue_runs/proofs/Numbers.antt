@@ -1,5 +1,7 @@
 -- SPDX-License-Identifier: Apache-2.0 AND BSD-3-Clause
 -- In a run 12 never appears, and 7 does while a host call is pending.
+use Rattle.refusal.proofs.Numbered.{numbers_tell}
+use Rattle.refusal.specs.Refusal.{number}
 use Rattle.std.specs.Prelude.{Option, Some, None, Ok, Err, Result}
 use Prim.Native.Nat.{ℕ, ◌-◌}
 use mathlib.Core.Path.{◌≡◌, refl, ap, sym}
@@ -68,12 +70,12 @@ ring_not_12 mem base q e =
     (λ r. let f = rw (t, s, r) at e in impossible cc)))
     (λ t. let f = rw t at e in impossible cc)
 
-module _ (w : World) (q : Queue) (shaped : shaped_of w.device ≡ true) (fine : queue_ok q.taken w.device.pending ≡ true) (device : (call : Call) → (step w call).answer ≡ Refused NoShape → ⊥) where
-  taken_not_12 : (g : Guest) (x : Result (Option ℕ) Refusal) → (x ≡ Err NoShape → ⊥) → (takes x w q g).answer ≡ Some (Refused NoShape) → ⊥
+module _ (w : World) (q : Queue) (shaped : shaped_of w.device ≡ true) (fine : queue_ok q.taken w.device.pending ≡ true) (device : (call : Call) → (step w call).answer ≡ Refused 12 → ⊥) where
+  taken_not_12 : (g : Guest) (x : Result (Option ℕ) Refusal) → (x ≡ Err NoShape → ⊥) → (takes x w q g).answer ≡ Some (Refused 12) → ⊥
   unfolding takes
   taken_not_12 g (Ok (Some h)) n e = device (Request g q.descriptors.0 h) cc
   taken_not_12 g (Ok None) n e = impossible cc
-  taken_not_12 g (Err m) n e = let same : m ≡ NoShape = cc in n (rw same)
+  taken_not_12 g (Err m) n e = let same : number m ≡ number NoShape = cc in n (rw (numbers_tell m NoShape same))
 
   next_not_12 : (g : Guest) → next_of w q g ≡ Err NoShape → ⊥
   unfolding next_unless taking_refusal
@@ -82,7 +84,7 @@ module _ (w : World) (q : Queue) (shaped : shaped_of w.device ≡ true) (fine : 
       (λ t. ring_not_12 g.mem g.base q (rw (fine, t) at e))
       (λ r t. let f = rw (fine, t) at e in let same : r ≡ NoShape = cc in ready_not_12 w.device (length w.blocks) (length w.rows) shaped (rw same at t))
 
-  heard_not_12 : (g : Guest) (ok : Bool) (host : ℕ) (t : Option ℕ) → (answers t q g.base (step w (HostAnswer g ok host))).answer ≡ Some (Refused NoShape) → ⊥
+  heard_not_12 : (g : Guest) (ok : Bool) (host : ℕ) (t : Option ℕ) → (answers t q g.base (step w (HostAnswer g ok host))).answer ≡ Some (Refused 12) → ⊥
   unfolding answers
   heard_not_12 g ok host None e = device (HostAnswer g ok host) cc
   heard_not_12 g ok host (Some h) e = device (HostAnswer g ok host) cc
@@ -95,17 +97,17 @@ module _ (w : World) (q : Queue) (shaped : shaped_of w.device ≡ true) (fine : 
       (λ t. by_test (rings_inside (length g.mem) g.base q) (λ s. let f = rw (t, s) at e in impossible cc) (λ s. let f = rw (t, s) at e in impossible cc))
       (λ r t. let f = rw t at e in let same : r ≡ NoShape = cc in pending_not_12 w.device (length w.blocks) (length w.rows) shaped (rw same at t))
 
-  not_12 : (c : QueueCall) → (queue_step w q c).answer ≡ Some (Refused NoShape) → ⊥
+  not_12 : (c : QueueCall) → (queue_step w q c).answer ≡ Some (Refused 12) → ⊥
   unfolding queue_step answer_refusal
   not_12 (TakeNext g) = taken_not_12 g (next_of w q g) (next_not_12 g)
   not_12 (Host g ok host) =
-      answer_cases w q g ok host (λ _ (o : QueueOutcome). o.answer ≡ Some (Refused NoShape) → ⊥)
+      answer_cases w q g ok host (λ _ (o : QueueOutcome). o.answer ≡ Some (Refused 12) → ⊥)
       (λ _. heard_not_12 g ok host q.taken)
-      (λ r t e. let same : r ≡ NoShape = cc in out_not_12 q.taken g (rw (fine, same) at t))
+      (λ r t e. let same : number r ≡ number NoShape = cc in out_not_12 q.taken g (rw (fine, numbers_tell r NoShape same) at t))
   not_12 (PastIt b) = λ e. device (beside_call b) cc
 
   -- 7, where the host is asked
-  seven : (g : Guest) → is_idle w.device.pending ≡ false → (queue_step w q (TakeNext g)).answer ≡ Some (Refused CallPending)
+  seven : (g : Guest) → is_idle w.device.pending ≡ false → (queue_step w q (TakeNext g)).answer ≡ Some (Refused 7)
   unfolding queue_step takes next_unless taking_refusal ready_refusal
   seven g busy = let is : next_of w q g ≡ Err CallPending = rw (fine, shaped, busy) in rw (ap (λ (x : Result (Option ℕ) Refusal). (takes x w q g).answer) is)
 
@@ -114,7 +116,7 @@ module _ (s : QueueStory) (r : QueueReached s) (c : QueueCall) where
   fine_in_run : queue_ok s.queue.taken s.world.device.pending ≡ true
   fine_in_run = ok_when _ _ (out_while_open s r c)
 
-  device_in_run : (call : Call) → (step s.world call).answer ≡ Refused NoShape → ⊥
+  device_in_run : (call : Call) → (step s.world call).answer ≡ Refused 12 → ⊥
   device_in_run call = rw (runs_the_device s r).same_world at (lifts_rules DeviceNever12 device-never-12 s r c call)
 
 pub never_12 : InEveryQueueRun Never12

@@ -1,5 +1,6 @@
 -- SPDX-License-Identifier: Apache-2.0 AND BSD-3-Clause
 -- A head is out exactly while its request has not ended: each call keeps it so.
+use Rattle.refusal.specs.Refusal.{number}
 use Rattle.std.specs.Prelude.{Option, Some, None, Ok, Err, Result}
 use Prim.Native.Nat.{ℕ}
 use mathlib.Core.Path.{◌≡◌, refl, sym, ◌∙◌}
@@ -43,15 +44,15 @@ opens_by (HostAnswer g ok host) before a = cond before (out_by (ending_of a) bef
 opens_by (ReadConfig offset buffer) before a = before
 opens_by (WriteConfig offset buffer) before a = before
 
-refused_keeps : (c : Call) (before : Bool) (r : Refusal) → before ≡ opens_by c before (Refused r)
+refused_keeps : (c : Call) (before : Bool) (n : ℕ) → before ≡ opens_by c before (Refused n)
 unfolding opens_by out_by
-refused_keeps (Place at size slots blocks rows) before r = refl
-refused_keeps (SetRequestedSize mib) before r = refl
-refused_keeps (Request g table head) before r = refl
-refused_keeps (HostAnswer g ok host) true r = refl
-refused_keeps (HostAnswer g ok host) false r = refl
-refused_keeps (ReadConfig offset buffer) before r = refl
-refused_keeps (WriteConfig offset buffer) before r = refl
+refused_keeps (Place at size slots blocks rows) before n = refl
+refused_keeps (SetRequestedSize mib) before n = refl
+refused_keeps (Request g table head) before n = refl
+refused_keeps (HostAnswer g ok host) true n = refl
+refused_keeps (HostAnswer g ok host) false n = refl
+refused_keeps (ReadConfig offset buffer) before n = refl
+refused_keeps (WriteConfig offset buffer) before n = refl
 
 quiet : (p : Pending) → is_idle p ≡ true → discarding p ≡ false
 quiet Idle e = refl
@@ -68,7 +69,7 @@ module _ (w : World) where
   opens =
       let p = w.device.pending in
       record {
-        refuses = λ c r _ _. refused_keeps c (discarding p) r;
+        refuses = λ c r _ _. refused_keeps c (discarding p) (number r);
         reads = λ offset buffer bytes. refl;
         writes = λ offset buffer. refl;
         unserves = λ a reason. quiet p a.entry.pending_is_idle;

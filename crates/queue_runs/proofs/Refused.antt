@@ -5,8 +5,10 @@ use Prim.Native.Nat.{ℕ}
 use mathlib.Core.Path.{◌≡◌, refl, ◌∙◌}
 use mathlib.Core.Bool.{Bool}
 use mathlib.Core.List.{List, []}
+use lib.Dec.{eqb}
+use borrow.Author.Tests.{eqb-true, eqb-false}
+use Rattle.units.proofs.Tests.{by_test}
 use Rattle.refusal.specs.declared.Refusal.{Refusal}
-use Rattle.refusal.specs.declared.Refusal.TheVariants.{WrongSize, CapacityTooLarge, WrongRange, WrongStart, NotPlaced, AlreadyPlaced, CallPending, NothingPending, HostPastTop, CreationFailed, TooShort, NoShape, BadLine, RingOutside, RingOverfull, BadBytes, NothingToPlug, NoState, LaterForm}
 use Rattle.rings.specs.declared.Queue.{Queue}
 use Rattle.step.specs.declared.Answer.TheVariants.{Refused}
 use Rattle.step.specs.World.{World, Guest, Call, Request, HostAnswer, Outcome}
@@ -19,59 +21,40 @@ use Rattle.queue_runs.specs.Heads.{beside_bytes, bytes_to, RefusedTakesNone, Ref
 use Rattle.queue_runs.proofs.Cases.{impossible, answer_cases}
 
 -- ---- what a call that is refused leaves, by the device's own
-by_ten : {A : Type 0} (r : Refusal) → (r ≡ CreationFailed → A) → ((r ≡ CreationFailed → ⊥) → A) → A
-by_ten WrongSize f g = g (λ e. impossible cc)
-by_ten CapacityTooLarge f g = g (λ e. impossible cc)
-by_ten WrongRange f g = g (λ e. impossible cc)
-by_ten WrongStart f g = g (λ e. impossible cc)
-by_ten NotPlaced f g = g (λ e. impossible cc)
-by_ten AlreadyPlaced f g = g (λ e. impossible cc)
-by_ten CallPending f g = g (λ e. impossible cc)
-by_ten NothingPending f g = g (λ e. impossible cc)
-by_ten HostPastTop f g = g (λ e. impossible cc)
-by_ten CreationFailed f g = f refl
-by_ten TooShort f g = g (λ e. impossible cc)
-by_ten NoShape f g = g (λ e. impossible cc)
-by_ten BadLine f g = g (λ e. impossible cc)
-by_ten RingOutside f g = g (λ e. impossible cc)
-by_ten RingOverfull f g = g (λ e. impossible cc)
-by_ten BadBytes f g = g (λ e. impossible cc)
-by_ten NothingToPlug f g = g (λ e. impossible cc)
-by_ten NoState f g = g (λ e. impossible cc)
-by_ten LaterForm f g = g (λ e. impossible cc)
-
-refused_bytes : (w : World) (call : Call) (r : Refusal) → (step w call).answer ≡ Refused r → (step w call).bytes ≡ lent_bytes call
-refused_bytes w call r e =
-    by_ten r (λ ten. (ten_is_creation_failed w call (rw ten at e)).same_bytes) (λ other. (refused_changes_nothing w call r e other).1)
+refused_bytes : (w : World) (call : Call) (n : ℕ) → (step w call).answer ≡ Refused n → (step w call).bytes ≡ lent_bytes call
+refused_bytes w call n e =
+    by_test (eqb n 10)
+    (λ t. (ten_is_creation_failed w call (rw (eqb-true n 10 t) at e)).same_bytes)
+    (λ t. (refused_changes_nothing w call n e (eqb-false n 10 t)).1)
 
 -- nothing moves: the queue, the bytes, and the world unless the number is 10
-record Unmoved (w : World) (q : Queue) (bytes : List ℕ) (r : Refusal) (o : QueueOutcome) : Type 0 where
+record Unmoved (w : World) (q : Queue) (bytes : List ℕ) (n : ℕ) (o : QueueOutcome) : Type 0 where
   pub same_queue : o.queue ≡ q
   pub same_bytes : o.bytes ≡ bytes
-  pub same_world : (r ≡ CreationFailed → ⊥) → o.world ≡ w
+  pub same_world : (n ≡ 10 → ⊥) → o.world ≡ w
 
 abbrev IfRefused : World → Queue → (bytes : List ℕ) → QueueOutcome → Type 0
-IfRefused w q bytes o = (r : Refusal) → o.answer ≡ Some (Refused r) → Unmoved w q bytes r o
+IfRefused w q bytes o = (n : ℕ) → o.answer ≡ Some (Refused n) → Unmoved w q bytes n o
 
 module _ (w : World) (q : Queue) where
   about_refused : (head base : ℕ) (out : Queue) (call : Call) → IfRefused w q (lent_bytes call) (about head base q out (step w call))
   unfolding queue_by bytes_by
-  about_refused head base out call r e =
-      let f : (step w call).answer ≡ Refused r = cc in
-      record { same_queue = rw f; same_bytes = rw f (refused_bytes w call r f); same_world = λ k. (refused_changes_nothing w call r f k).0 }
+  about_refused head base out call n e =
+      let f : (step w call).answer ≡ Refused n = cc in
+      record { same_queue = rw f; same_bytes = rw f (refused_bytes w call n f); same_world = λ k. (refused_changes_nothing w call n f k).0 }
 
   taken_refused : (g : Guest) (x : Result (Option ℕ) Refusal) → IfRefused w q g.mem (takes x w q g)
   unfolding takes lent_bytes
   taken_refused g (Ok (Some h)) = about_refused h g.base (took_head q h) (Request g q.descriptors.0 h)
-  taken_refused g (Ok None) = λ r e. record { same_queue = refl; same_bytes = refl; same_world = λ _. refl }
-  taken_refused g (Err refusal) = λ r e. record { same_queue = refl; same_bytes = refl; same_world = λ _. refl }
+  taken_refused g (Ok None) = λ n e. record { same_queue = refl; same_bytes = refl; same_world = λ _. refl }
+  taken_refused g (Err refusal) = λ n e. record { same_queue = refl; same_bytes = refl; same_world = λ _. refl }
 
   heard_refused : (g : Guest) (ok : Bool) (host : ℕ) (t : Option ℕ) → IfRefused w q g.mem (answers t q g.base (step w (HostAnswer g ok host)))
   unfolding answers lent_bytes
-  heard_refused g ok host None = λ r e.
+  heard_refused g ok host None = λ n e.
       let call = HostAnswer g ok host in
-      let f : (step w call).answer ≡ Refused r = cc in
-      record { same_queue = refl; same_bytes = refused_bytes w call r f; same_world = λ k. (refused_changes_nothing w call r f k).0 }
+      let f : (step w call).answer ≡ Refused n = cc in
+      record { same_queue = refl; same_bytes = refused_bytes w call n f; same_world = λ k. (refused_changes_nothing w call n f k).0 }
   heard_refused g ok host (Some h) = about_refused h g.base q (HostAnswer g ok host)
 
   same_lent : (b : Beside) → lent_bytes (beside_call b) ≡ beside_bytes b
@@ -87,17 +70,17 @@ module _ (w : World) (q : Queue) where
   unmoved (Host g ok host) =
       answer_cases w q g ok host (λ _. IfRefused w q g.mem)
       (λ _. heard_refused g ok host q.taken)
-      (λ refusal _ r e. record { same_queue = refl; same_bytes = refl; same_world = λ _. refl })
-  unmoved (PastIt b) = λ r e.
-      let f : (step w (beside_call b)).answer ≡ Refused r = cc in
-      record { same_queue = refl; same_bytes = refused_bytes w (beside_call b) r f ∙ same_lent b; same_world = λ k. (refused_changes_nothing w (beside_call b) r f k).0 }
+      (λ refusal _ n e. record { same_queue = refl; same_bytes = refl; same_world = λ _. refl })
+  unmoved (PastIt b) = λ n e.
+      let f : (step w (beside_call b)).answer ≡ Refused n = cc in
+      record { same_queue = refl; same_bytes = refused_bytes w (beside_call b) n f ∙ same_lent b; same_world = λ k. (refused_changes_nothing w (beside_call b) n f k).0 }
 
 -- ---- no head is taken, none is reported
-none_of_refused : (q : Queue) (c : QueueCall) (r : Refusal) → (newly_taken q c (Some (Refused r)) ≡ []) × (newly_reported q c (Some (Refused r)) ≡ [])
+none_of_refused : (q : Queue) (c : QueueCall) (n : ℕ) → (newly_taken q c (Some (Refused n)) ≡ []) × (newly_reported q c (Some (Refused n)) ≡ [])
 unfolding newly_taken newly_reported ending_told taken_by used_by
-none_of_refused q (TakeNext g) r = (refl, refl)
-none_of_refused q (Host g ok host) r = (refl, refl)
-none_of_refused q (PastIt b) r = (refl, refl)
+none_of_refused q (TakeNext g) n = (refl, refl)
+none_of_refused q (Host g ok host) n = (refl, refl)
+none_of_refused q (PastIt b) n = (refl, refl)
 
 none_of_empty : (q : Queue) (c : QueueCall) → (newly_taken q c None ≡ []) × (newly_reported q c None ≡ [])
 unfolding newly_taken newly_reported ending_told taken_by used_by
@@ -106,12 +89,12 @@ none_of_empty q (Host g ok host) = (refl, refl)
 none_of_empty q (PastIt b) = (refl, refl)
 
 pub refused_takes_none : FromEveryQueue RefusedTakesNone
-refused_takes_none w q c r e =
-    let m = unmoved w q c r e in
-    (record { none_taken = rw e (none_of_refused q c r).0; none_reported = rw e (none_of_refused q c r).1; same_queue = m.same_queue }, m.same_bytes)
+refused_takes_none w q c n e =
+    let m = unmoved w q c n e in
+    (record { none_taken = rw e (none_of_refused q c n).0; none_reported = rw e (none_of_refused q c n).1; same_queue = m.same_queue }, m.same_bytes)
 
 pub refused_moves_nothing : FromEveryQueue RefusedMovesNothing
-refused_moves_nothing w q c r e k = (unmoved w q c r e).same_world k
+refused_moves_nothing w q c n e k = (unmoved w q c n e).same_world k
 
 -- ---- an empty ring
 record Still (w : World) (q : Queue) (bytes : List ℕ) (o : QueueOutcome) : Type 0 where

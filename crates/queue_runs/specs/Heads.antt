@@ -1,8 +1,6 @@
 -- SPDX-License-Identifier: Apache-2.0 AND BSD-3-Clause
 -- What becomes of the heads: each that is taken is reported used once, and a refused call takes none (R13.9, R13.12).
 use Rattle.std.specs.Prelude.{ℕ, ◌+◌, ◌-◌, ◌%◌, ◌≡◌, Bool, true, false, List, [], ◌∷◌, ◌++◌, length, Option, Some, None}
-use Rattle.refusal.specs.declared.Refusal.{Refusal}
-use Rattle.refusal.specs.declared.Refusal.TheVariants.{CallPending, CreationFailed, NoShape}
 use Rattle.record.specs.Shape.{is_idle}
 use Rattle.rings.specs.declared.Queue.{Queue}
 use Rattle.rings.specs.Standard.{used_index, used_id, used_length}
@@ -64,19 +62,19 @@ bytes_to (Host g ok host) = g.mem
 bytes_to (PastIt b) = beside_bytes b
 
 abbrev pub RefusedTakesNone : World → Queue → QueueCall → QueueOutcome → Type 0
-RefusedTakesNone w q c o = (r : Refusal) → o.answer ≡ Some (Refused r) → TakesNone w q c o × (o.bytes ≡ bytes_to c)
+RefusedTakesNone w q c o = (n : ℕ) → o.answer ≡ Some (Refused n) → TakesNone w q c o × (o.bytes ≡ bytes_to c)
 
 -- nor does it change anything; 10 is a creation that failed, and leaves of the world what `TenIsCreationFailed` says
 abbrev pub RefusedMovesNothing : World → Queue → QueueCall → QueueOutcome → Type 0
-RefusedMovesNothing w q c o = (r : Refusal) → o.answer ≡ Some (Refused r) → (r ≡ CreationFailed → ⊥) → o.world ≡ w
+RefusedMovesNothing w q c o = (n : ℕ) → o.answer ≡ Some (Refused n) → (n ≡ 10 → ⊥) → o.world ≡ w
 
 abbrev pub EmptyMovesNothing : World → Queue → QueueCall → QueueOutcome → Type 0
 EmptyMovesNothing w q c o = o.answer ≡ None → TakesNone w q c o × (o.world ≡ w) × (o.bytes ≡ bytes_to c)
 
 -- ---- R13.9: none is taken while a host call is pending
 abbrev pub NoneWhilePending : QueueStory → QueueCall → Type 0
-NoneWhilePending s c = (g : Guest) → is_idle s.world.device.pending ≡ false → (queue_step s.world s.queue (TakeNext g)).answer ≡ Some (Refused CallPending)
+NoneWhilePending s c = (g : Guest) → is_idle s.world.device.pending ≡ false → (queue_step s.world s.queue (TakeNext g)).answer ≡ Some (Refused 7)
 
 -- R13.11, R18.11: 12 never appears
 abbrev pub Never12 : QueueStory → QueueCall → Type 0
-Never12 s c = (queue_step s.world s.queue c).answer ≡ Some (Refused NoShape) → ⊥
+Never12 s c = (queue_step s.world s.queue c).answer ≡ Some (Refused 12) → ⊥

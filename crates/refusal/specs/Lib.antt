@@ -1,2 +1,3 @@
 -- SPDX-License-Identifier: Apache-2.0 AND BSD-3-Clause
 pub mod Refusal
+pub mod Numbers

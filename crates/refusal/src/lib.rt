@@ -4,6 +4,7 @@
 
 ghost use Rattle.std.specs.Prelude.{◌≡◌};
 ghost use Rattle.refusal.specs.Refusal.{number, code};
+ghost use Rattle.refusal.specs.Numbers.{Numbers};
 
 // What a refused call is refused for, by the rule R1 that says when.
 #[derive(Clone, Copy, Debug, PartialEq, Eq)]
@@ -54,6 +55,41 @@ impl Refusal {
         ensures { result ≡ number self }
     {
         self as u64
+    }
+}
+
+// A number that is no refusal's.
+#[derive(Clone, Copy, Debug, PartialEq, Eq)]
+pub struct UnknownNumber(pub u64);
+
+impl TryFrom<u64> for Refusal {
+    type Error = UnknownNumber;
+
+    ghost try_from_gives = { Numbers };
+
+    fn try_from(number: u64) -> Result<Refusal, UnknownNumber> {
+        match number {
+            1 => Ok(Refusal::WrongSize),
+            2 => Ok(Refusal::CapacityTooLarge),
+            3 => Ok(Refusal::WrongRange),
+            4 => Ok(Refusal::WrongStart),
+            5 => Ok(Refusal::NotPlaced),
+            6 => Ok(Refusal::AlreadyPlaced),
+            7 => Ok(Refusal::CallPending),
+            8 => Ok(Refusal::NothingPending),
+            9 => Ok(Refusal::HostPastTop),
+            10 => Ok(Refusal::CreationFailed),
+            11 => Ok(Refusal::TooShort),
+            12 => Ok(Refusal::NoShape),
+            13 => Ok(Refusal::BadLine),
+            14 => Ok(Refusal::RingOutside),
+            15 => Ok(Refusal::RingOverfull),
+            16 => Ok(Refusal::BadBytes),
+            17 => Ok(Refusal::NothingToPlug),
+            18 => Ok(Refusal::NoState),
+            19 => Ok(Refusal::LaterForm),
+            _ => Err(UnknownNumber(number)),
+        }
     }
 }
 

@@ -11,9 +11,6 @@ use Rattle.trace_text.specs.declared.FirstLine.{FirstLine}
 use Rattle.trace_text.specs.declared.Op.{Op}
 use Rattle.trace_text.specs.declared.Line.{Line}
 use Rattle.trace_text.specs.declared.Line.TheVariants.{First, Later}
-use Rattle.refusal.specs.declared.Refusal.{Refusal}
-use Rattle.refusal.specs.declared.Refusal.TheVariants.{WrongSize, CapacityTooLarge, WrongRange, WrongStart, NotPlaced, AlreadyPlaced, CallPending, NothingPending, HostPastTop, CreationFailed, TooShort, NoShape, BadLine}
-use Rattle.refusal.specs.Refusal.{number}
 use Rattle.spans.specs.declared.Span.{Span}
 use Rattle.spans.specs.Spans.{in_mib, pending_span, brought, created_at, created_size, covered}
 
@@ -70,15 +67,16 @@ no_line = filled (bytes "refused (13): this line is none that can stand here") [
 abbrev pub other : (n : ℕ) → List ℕ
 other n = filled (bytes "refused (#)") (n ∷ [])
 
-unfoldable pub plain_text : Refusal → List ℕ
-plain_text WrongRange = no_slots
-plain_text NotPlaced = no_place
-plain_text AlreadyPlaced = in_place
-plain_text NothingPending = not_asked
-plain_text TooShort = too_short
-plain_text NoShape = no_shape
-plain_text BadLine = no_line
-plain_text refusal = other (number refusal)
+unfoldable pub plain_text : (n : ℕ) → List ℕ
+plain_text n =
+    cond (eqb n 3) no_slots
+    (cond (eqb n 5) no_place
+    (cond (eqb n 6) in_place
+    (cond (eqb n 8) not_asked
+    (cond (eqb n 11) too_short
+    (cond (eqb n 12) no_shape
+    (cond (eqb n 13) no_line
+    (other n)))))))
 
 -- ---- the first line, which makes the device and places it
 
@@ -122,11 +120,12 @@ first_size_text f =
 unfoldable pub start_text : FirstLine → List ℕ
 start_text f = cond (eqb (f.addr.0 % alignment_of f.boot) 0) (past_top f) (not_aligned f)
 
-unfoldable pub first_refused : Refusal → FirstLine → List ℕ
-first_refused WrongSize f = first_size_text f
-first_refused CapacityTooLarge f = too_large f
-first_refused WrongStart f = start_text f
-first_refused refusal f = plain_text refusal
+unfoldable pub first_refused : (n : ℕ) → FirstLine → List ℕ
+first_refused n f =
+    cond (eqb n 1) (first_size_text f)
+    (cond (eqb n 2) (too_large f)
+    (cond (eqb n 4) (start_text f)
+    (plain_text n)))
 
 -- ---- a later line, with the record before and after it
 
@@ -158,16 +157,17 @@ create_text d = cond d.placed (not_created d) not_placed
 unfoldable pub busy_text : Device → List ℕ
 busy_text d = filled (bytes "refused (7): ") [] ++ waits_text d
 
-unfoldable pub later_refused : Refusal → Op → (before after : Device) → List ℕ
-later_refused WrongSize op before after = size_text (brought op) before
-later_refused CallPending op before after = busy_text before
-later_refused HostPastTop op before after = host_past_top (brought op) (covered before.pending before)
-later_refused CreationFailed op before after = create_text after
-later_refused refusal op before after = plain_text refusal
+unfoldable pub later_refused : (n : ℕ) → Op → (before after : Device) → List ℕ
+later_refused n op before after =
+    cond (eqb n 1) (size_text (brought op) before)
+    (cond (eqb n 7) (busy_text before)
+    (cond (eqb n 9) (host_past_top (brought op) (covered before.pending before))
+    (cond (eqb n 10) (create_text after)
+    (plain_text n))))
 
 -- ---- every line; a bad one is refused as 13 wherever it stands (R12.5)
 
-unfoldable pub refused_text : Refusal → Option Line → (before after : Device) → List ℕ
-refused_text refusal (Some (First f)) before after = first_refused refusal f
-refused_text refusal (Some (Later op)) before after = later_refused refusal op before after
-refused_text refusal None before after = plain_text refusal
+unfoldable pub refused_text : (n : ℕ) → Option Line → (before after : Device) → List ℕ
+refused_text n (Some (First f)) before after = first_refused n f
+refused_text n (Some (Later op)) before after = later_refused n op before after
+refused_text n None before after = plain_text n

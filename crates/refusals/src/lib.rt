@@ -6,6 +6,7 @@
 #![tactic(auto)]
 
 ghost use Rattle.text.specs.Putting.{Put};
+ghost use Rattle.refusal.specs.Refusal.{number};
 ghost use Rattle.refusals.specs.Refusals.{waits_text, plain_text, first_size_text, start_text, first_refused};
 ghost use Rattle.refusals.specs.Refusals.{size_text, create_text, busy_text, later_refused, refused_text};
 
@@ -51,7 +52,7 @@ pub fn put_waits(out: &mut [u8], at: usize, d: Device) -> usize
 // A refusal whose sentence needs no number of the line or of the device.
 #[tactic(auto, unfolding(crate::specs::Refusals::plain_text))]
 fn put_plain(out: &mut [u8], at: usize, refusal: Refusal) -> usize
-    ensures { Put out.old at (plain_text refusal) out.new result }
+    ensures { Put out.old at (plain_text (number refusal)) out.new result }
 {
     match refusal {
         Refusal::WrongRange => put_form_at(
@@ -153,7 +154,7 @@ fn put_start(out: &mut [u8], at: usize, f: FirstLine) -> usize
 // A first line.
 #[tactic(auto, unfolding(crate::specs::Refusals::first_refused))]
 fn put_first_refused(out: &mut [u8], at: usize, refusal: Refusal, f: FirstLine) -> usize
-    ensures { Put out.old at (first_refused refusal f) out.new result }
+    ensures { Put out.old at (first_refused (number refusal) f) out.new result }
 {
     match refusal {
         Refusal::WrongSize => put_first_size(out, at, f),
@@ -225,7 +226,7 @@ fn put_busy(out: &mut [u8], at: usize, d: Device) -> usize
 // A later line.
 #[tactic(auto, unfolding(crate::specs::Refusals::later_refused))]
 fn put_later_refused(out: &mut [u8], at: usize, refusal: Refusal, op: Op, records: Records) -> usize
-    ensures { Put out.old at (later_refused refusal op records.before records.after) out.new result }
+    ensures { Put out.old at (later_refused (number refusal) op records.before records.after) out.new result }
 {
     let before = records.before;
     match refusal {
@@ -245,20 +246,31 @@ fn put_later_refused(out: &mut [u8], at: usize, refusal: Refusal, op: Op, record
     }
 }
 
-// The sentence of a refusal of a line.
+// A refusal of the law.
 #[tactic(auto, unfolding(crate::specs::Refusals::refused_text))]
-pub fn put_refused(
+fn put_known(
     out: &mut [u8],
     at: usize,
     refusal: Refusal,
     line: Option<Line>,
     records: Records,
 ) -> usize
-    ensures { Put out.old at (refused_text refusal line records.before records.after) out.new result }
+    ensures { Put out.old at
+        (refused_text (number refusal) line records.before records.after) out.new result }
 {
     match line {
         Some(Line::First(first)) => put_first_refused(out, at, refusal, first),
         Some(Line::Later(op)) => put_later_refused(out, at, refusal, op, records),
         None => put_plain(out, at, refusal),
+    }
+}
+
+// The sentence of a line's refusal with this number; a number that the law has not is told as it is.
+pub fn put_refused(out: &mut [u8], at: usize, n: u64, line: Option<Line>, records: Records) -> usize
+    ensures { Put out.old at (refused_text n line records.before records.after) out.new result }
+{
+    match Refusal::try_from(n) {
+        Ok(refusal) => put_known(out, at, refusal, line, records),
+        Err(_) => put_form_at(out, at, b"refused (#)", &[n]),
     }
 }

@@ -1,6 +1,6 @@
 -- SPDX-License-Identifier: Apache-2.0 AND BSD-3-Clause
 -- Which sentence a response brings (R12.13): an ACK says what was done, a NACK and an ERROR why nothing was. Sizes and offsets are in MiB, addresses in bytes.
-use Rattle.std.specs.Prelude.{ℕ, ◌+◌, ◌-◌, ◌%◌, Bool, true, false, cond, List, [], ◌∷◌, eqb, Option, Some, None, unwrap_or}
+use Rattle.std.specs.Prelude.{ℕ, ◌+◌, ◌-◌, ◌%◌, Bool, true, false, cond, List, [], ◌∷◌, eqb, Option, Some, None}
 use Rattle.units.specs.Numbers.{saturated, map_region}
 use Rattle.bitmap.specs.Blocks.{next_set, next_clear}
 use Rattle.text.specs.Words.{bytes}
@@ -28,6 +28,20 @@ type_of n = cond (eqb n 0) Ack (cond (eqb n 1) Nack Error)
 -- R7.4: plugged is 0, unplugged 1, and mixed 2; no other is given
 abbrev pub state_of : ℕ → BlockState
 state_of n = cond (eqb n 0) Plugged (cond (eqb n 1) Unplugged Mixed)
+
+-- R10.17: the reason with a number; one of 1 to 11 is given, and any other is told as 6
+abbrev pub reason_of : ℕ → Reason
+reason_of n =
+    cond (eqb n 1) Alignment
+    (cond (eqb n 2) ZeroBlocks
+    (cond (eqb n 3) Overflow
+    (cond (eqb n 4) BelowStart
+    (cond (eqb n 5) PastUsable
+    (cond (eqb n 7) WrongState
+    (cond (eqb n 8) CrossesBorder
+    (cond (eqb n 9) Unmapped
+    (cond (eqb n 10) SumPasses
+    (cond (eqb n 11) FailedDiscard EndPastUsable)))))))))
 
 abbrev pub plugged_in : Device → ℕ
 plugged_in d = in_mib d.config.plugged_size
@@ -187,7 +201,7 @@ error_text why op s d bs = outside_text why s d
 unfoldable pub told_as : ResponseType → Reply → Op → (before after : Device) → List Bool → List ℕ
 told_as Ack reply op before after bs = ack_text op (state_of reply.response.state) before.pending (op_span op before) after
 told_as Nack reply op before after bs = nack (op_span op before) before
-told_as Error reply op before after bs = error_text (unwrap_or reply.why EndPastUsable) op (op_span op before) before bs
+told_as Error reply op before after bs = error_text (reason_of reply.why) op (op_span op before) before bs
 
 unfoldable pub reply_text : Reply → Op → (before after : Device) → List Bool → List ℕ
 reply_text reply op before after bs = told_as (type_of reply.response.resp_type) reply op before after bs

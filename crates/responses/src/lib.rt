@@ -9,7 +9,8 @@
 ghost use Rattle.std.specs.Prelude.{◌≡◌};
 ghost use Rattle.bitmap.specs.Blocks.{blocks};
 ghost use Rattle.text.specs.Putting.{Put};
-ghost use Rattle.responses.specs.Responses.{type_of, state_of, done, discarded_text, state_text, ack_text, nack};
+ghost use Rattle.responses.specs.Responses.{type_of, state_of, reason_of};
+ghost use Rattle.responses.specs.Responses.{done, discarded_text, state_text, ack_text, nack};
 ghost use Rattle.responses.specs.Responses.{outside_text, number_in, is_plug, wrong_text, error_text, reply_text};
 
 use bitmap::{next_clear, next_set};
@@ -60,6 +61,25 @@ impl BlockState {
             1 => BlockState::Unplugged,
             _ => BlockState::Mixed,
         }
+    }
+}
+
+// The reason with this number (R10.17): an ERROR has one of 1 to 11, and any other is told as 6.
+fn reason_of(why: u64) -> Reason
+    ensures { result ≡ reason_of why }
+{
+    match why {
+        1 => Reason::Alignment,
+        2 => Reason::ZeroBlocks,
+        3 => Reason::Overflow,
+        4 => Reason::BelowStart,
+        5 => Reason::PastUsable,
+        7 => Reason::WrongState,
+        8 => Reason::CrossesBorder,
+        9 => Reason::Unmapped,
+        10 => Reason::SumPasses,
+        11 => Reason::FailedDiscard,
+        _ => Reason::EndPastUsable,
     }
 }
 
@@ -324,8 +344,7 @@ fn put_error(
     }
 }
 
-// The sentence of a response to a line, with the lent bitmap as it is after the line. An ERROR has a reason: without
-// one it would be told as that of a range that ends past the usable end.
+// The sentence of a response to a line, with the lent bitmap as it is after the line.
 #[tactic(auto, unfolding(crate::specs::Responses::reply_text, crate::specs::Responses::told_as))]
 pub fn put_reply(
     out: &mut [u8],
@@ -347,7 +366,7 @@ pub fn put_reply(
         }
         ResponseType::Nack => put_nack(out, at, s, before),
         ResponseType::Error => {
-            let why = reply.why.unwrap_or(Reason::EndPastUsable);
+            let why = reason_of(reply.why);
             put_error(out, at, why, op, s, before, bitmap)
         }
     }

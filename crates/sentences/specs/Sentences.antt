@@ -13,8 +13,6 @@ use Rattle.step.specs.declared.Answer.{Answer}
 use Rattle.step.specs.declared.Answer.TheVariants.{Refused, Wants, Sized, Unserved, Served, Done}
 use Rattle.trace_text.specs.declared.Line.{Line}
 use Rattle.trace_text.specs.declared.Line.TheVariants.{First, Later}
-use Rattle.chain.specs.declared.NoRequest.{NoRequest}
-use Rattle.chain.specs.Chain.{reason}
 use Rattle.spans.specs.Spans.{in_mib}
 use Rattle.refusals.specs.Refusals.{refused_text}
 use Rattle.responses.specs.Responses.{reply_text}
@@ -35,8 +33,8 @@ abbrev pub sized : Device → List ℕ
 sized d = filled (bytes "done: requested is # MiB now, usable # MiB") (in_mib d.config.requested_size ∷ in_mib d.config.usable_region_size ∷ [])
 
 -- R9.7, R9.8
-abbrev pub unserved : NoRequest → List ℕ
-unserved why = filled (bytes "no request (#): the chain is none, or its type is unknown") (reason why ∷ [])
+abbrev pub unserved : (reason : ℕ) → List ℕ
+unserved reason = filled (bytes "no request (#): the chain is none, or its type is unknown") (reason ∷ [])
 
 -- R12.8: nothing comes of a line after the end
 abbrev pub ended : List ℕ
@@ -50,9 +48,9 @@ served_text reply None before after bs = ended
 
 -- the sentence of an answer to a line, with the record before and after it, and the blocks as they are after it
 unfoldable pub sentence : Option Line → (before after : Device) → List Bool → Answer → List ℕ
-sentence line before after bs (Refused refusal) = refused_text refusal line before after
+sentence line before after bs (Refused number) = refused_text number line before after
 sentence line before after bs (Wants call) = wants_text call
 sentence line before after bs Sized = sized after
-sentence line before after bs (Unserved why) = unserved why
+sentence line before after bs (Unserved reason) = unserved reason
 sentence line before after bs (Served reply) = served_text reply line before after bs
 sentence line before after bs Done = ended

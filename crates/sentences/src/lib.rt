@@ -101,14 +101,14 @@ pub fn put_sentence(
         (sentence line records.before records.after (blocks bitmap.now) answer) out.new result }
 {
     match answer {
-        Answer::Refused(refusal) => put_refused(out, at, refusal, line, records),
+        Answer::Refused(number) => put_refused(out, at, number, line, records),
         Answer::Wants(call) => put_wants(out, at, call),
         Answer::Sized => put_sized(out, at, records.after),
         Answer::Unserved(reason) => put_form_at(
             out,
             at,
             b"no request (#): the chain is none, or its type is unknown",
-            &[reason.number()],
+            &[reason],
         ),
         Answer::Served(reply) => put_served(out, at, reply, line, records, bitmap),
         Answer::Done => put_ended(out, at),

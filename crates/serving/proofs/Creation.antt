@@ -1,5 +1,6 @@
 -- SPDX-License-Identifier: Apache-2.0 AND BSD-3-Clause
 -- The endings of a creation's answer: failed, past 2^64 - 1, and made; and what is heard of a creation is the host's answer, with guest memory as it was.
+use Rattle.refusal.specs.Refusal.{number}
 use Prim.Native.Nat.{ℕ, ◌+◌}
 use mathlib.Core.Path.{◌≡◌, refl, sym, ap, ◌∙◌}
 use mathlib.Core.Bool.{Bool, true, false}
@@ -24,12 +25,12 @@ use Rattle.step.specs.Promise.{lent, Gives}
 use Rattle.step.proofs.Giving.{answers}
 
 module _ (d : Device) (tb : List ℕ) (ok : Bool) (host i last : ℕ) (s : Answered) where
-  pub failed : (d' : Device) → d' ≡ pending_to Nothing d → ok ≡ false → s ≡ record { device = d'; answer = Refused CreationFailed } → Gives (host_answer (Create i last) (world_of d [] tb) no_guest ok host) (lent [] tb []) (lent [] tb []) s
+  pub failed : (d' : Device) → d' ≡ pending_to Nothing d → ok ≡ false → s ≡ record { device = d'; answer = Refused (number CreationFailed) } → Gives (host_answer (Create i last) (world_of d [] tb) no_guest ok host) (lent [] tb []) (lent [] tb []) s
   unfolding host_answer
   failed d' e t is = rw t (answers _ _ (rw e at is) refl refl)
 
   module _ (t : ok ≡ true) (n : ℕ) (r : Bool) (e : n ≡ covered_by (world_of d [] []) i last) (f : r ≡ leb (host + n) top) where
-    pub past : r ≡ false → s ≡ record { device = d; answer = Refused HostPastTop } → Gives (host_answer (Create i last) (world_of d [] tb) no_guest ok host) (lent [] tb []) (lent [] tb []) s
+    pub past : r ≡ false → s ≡ record { device = d; answer = Refused (number HostPastTop) } → Gives (host_answer (Create i last) (world_of d [] tb) no_guest ok host) (lent [] tb []) (lent [] tb []) s
     unfolding host_answer
     past q is =
         let over : ltb top (host + n) ≡ true = lt-ltb top (host + n) (leb-false (host + n) top (sym f ∙ q)) in

@@ -1,5 +1,6 @@
 -- SPDX-License-Identifier: Apache-2.0 AND BSD-3-Clause
 -- What the calls come to: the refusals before them, a request by its chain, and the host's answer to a discard.
+use Rattle.change.specs.Why.{why}
 use Rattle.std.specs.Prelude.{Ok, Err, Result, ⊤}
 use Prim.Native.Nat.{ℕ, ◌+◌, ◌-◌, ◌*◌}
 use mathlib.Core.Path.{◌≡◌, refl, ap, ◌∙◌}
@@ -12,7 +13,6 @@ use Rattle.bitmap.proofs.Laws.{blocks-length}
 use Rattle.units.specs.declared.GuestAddr.{GuestAddr}
 use Rattle.rows.specs.Rows.{rows_of, rows_in}
 use Rattle.rows.proofs.Words.{count}
-use Rattle.wire.specs.declared.VirtioMemReq.{VirtioMemReq}
 use Rattle.chain.specs.declared.Asked.{Asked}
 use Rattle.chain.specs.declared.NoRequest.{NoRequest}
 use Rattle.chain.specs.Chain.{parsed}
@@ -92,7 +92,7 @@ pub less_shaped : (d d' d'' : Device) (n : ℕ) → shaped_of d ≡ true → n �
 less_shaped d d' d'' n shape less same same' = rw (same', same, less) (block_less_keeps d shape)
 
 module _ (d : Device) (bitmap table : List ℕ) (shape : shaped_of d ≡ true) (g : Guest) (s : Answered) {bytes : List ℕ} (ok : Bool) (status : GuestAddr) where
-  pub unplug_fails : (first count : ℕ) → ok ≡ false → Responded g status.0 (error FailedDiscard) (pending_to Nothing d) s bytes → Gives (host_answer (Discard first count status) (world_of d bitmap table) g ok 0) (lent bitmap table g.mem) (lent bitmap table bytes) s
+  pub unplug_fails : (first count : ℕ) → ok ≡ false → Responded g status.0 (error (why FailedDiscard)) (pending_to Nothing d) s bytes → Gives (host_answer (Discard first count status) (world_of d bitmap table) g ok 0) (lent bitmap table g.mem) (lent bitmap table bytes) s
   unfolding host_answer
   unplug_fails first count t p = rw t (serves g status.0 _ bitmap p refl refl)
 
@@ -101,7 +101,7 @@ module _ (d : Device) (bitmap table : List ℕ) (shape : shaped_of d ≡ true) (
   unplug_done first count t bitmap' filled d' d'' same same' p =
       rw t (serves g status.0 _ bitmap' (rw (same', same) at p) filled.as_blocks refl)
 
-  pub one_fails : (block : ℕ) → ok ≡ false → Responded g status.0 (error FailedDiscard) (pending_to Nothing d) s bytes → Gives (host_answer (DiscardOne block status) (world_of d bitmap table) g ok 0) (lent bitmap table g.mem) (lent bitmap table bytes) s
+  pub one_fails : (block : ℕ) → ok ≡ false → Responded g status.0 (error (why FailedDiscard)) (pending_to Nothing d) s bytes → Gives (host_answer (DiscardOne block status) (world_of d bitmap table) g ok 0) (lent bitmap table g.mem) (lent bitmap table bytes) s
   unfolding host_answer
   one_fails block t p = rw t (serves g status.0 _ bitmap p refl refl)
 

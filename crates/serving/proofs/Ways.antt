@@ -1,5 +1,7 @@
 -- SPDX-License-Identifier: Apache-2.0 AND BSD-3-Clause
 -- What the ways through a request come to: each lemma takes what the code knows on a way and shows the leaf of `Step.antt` there.
+use Rattle.change.specs.Why.{why}
+use Rattle.refusal.specs.Refusal.{number}
 use Rattle.std.specs.Prelude.{Option, Some, None, Ok, Err, Result}
 use Prim.Native.Nat.{ℕ, suc, ◌+◌, ◌≤◌, ◌<◌}
 use mathlib.Core.Path.{◌≡◌, refl, sym, ap, ◌∙◌}
@@ -38,7 +40,7 @@ use Rattle.step.specs.declared.Answered.{Answered}
 use Rattle.step.specs.declared.Answer.TheVariants.{Refused, Wants}
 use Rattle.step.specs.World.{World, Guest, world_of}
 use Rattle.step.specs.Promise.{lent, Gives}
-use Rattle.step.specs.Step.{served, unserved, serve, state_verdict, ack, nack, error, plug, plug_as, unplug, unplug_as, unplug_one, one_as, next_as, unplug_all, stops, changing}
+use Rattle.step.specs.Step.{served, unserved, serve, state_verdict, ack, nack, error, plug, plug_as, unplug, unplug_as, unplug_one, one_as, next_as, unplug_all, changing}
 use Rattle.step.proofs.Giving.{Responded, serves, answers}
 
 -- the host is asked for a discard, and the record waits for its answer
@@ -64,9 +66,9 @@ module _ (d : Device) (bitmap table : List ℕ) (shape : shaped_of d ≡ true) (
         let e : ltb d.config.requested_size (d.config.plugged_size + bytes_of d.config.block_size count) ≡ false = rw (← size_is) (le-ltb d.config.requested_size (d.config.plugged_size + size) h) in
         rw (e, ← ch-is)
 
-    pub plug_errs : (why : Reason) → ch ≡ Err why → Responded g status (error why) d s bytes → Gives (plug (world_of d bitmap table) addr count status g) (lent bitmap table g.mem) (lent bitmap table bytes) s
+    pub plug_errs : (reason : Reason) → ch ≡ Err reason → Responded g status (error (why reason)) d s bytes → Gives (plug (world_of d bitmap table) addr count status g) (lent bitmap table g.mem) (lent bitmap table bytes) s
     unfolding plug_as
-    plug_errs why e p = rw (asks, e) (serves g status (world_of d bitmap table) bitmap p refl refl)
+    plug_errs reason e p = rw (asks, e) (serves g status (world_of d bitmap table) bitmap p refl refl)
 
     pub plug_acks : (change : Change) → ch ≡ Ok change → (bitmap' : List ℕ) → Filled bitmap bitmap' change.first count true → (d' : Device) → d' ≡ plugged_to (d.config.plugged_size + size) d → Responded g status ack d' s bytes → Gives (plug (world_of d bitmap table) addr count status g) (lent bitmap table g.mem) (lent bitmap' table bytes) s
     unfolding plug_as
@@ -78,17 +80,17 @@ module _ (d : Device) (bitmap table : List ℕ) (shape : shaped_of d ≡ true) (
     same_change : changing (world_of d bitmap table) addr count false ≡ ch
     same_change = sym ch-is
 
-    pub unplug_errs : {bytes : List ℕ} (why : Reason) → ch ≡ Err why → Responded g status (error why) d s bytes → Gives (unplug (world_of d bitmap table) addr count status g) (lent bitmap table g.mem) (lent bitmap table bytes) s
+    pub unplug_errs : {bytes : List ℕ} (reason : Reason) → ch ≡ Err reason → Responded g status (error (why reason)) d s bytes → Gives (unplug (world_of d bitmap table) addr count status g) (lent bitmap table g.mem) (lent bitmap table bytes) s
     unfolding unplug_as
-    unplug_errs why e p = rw (same_change, e) (serves g status (world_of d bitmap table) bitmap p refl refl)
+    unplug_errs reason e p = rw (same_change, e) (serves g status (world_of d bitmap table) bitmap p refl refl)
 
     module _ (change : Change) (legal : ch ≡ Ok change) (size : ℕ) (size_is : size ≡ bytes_of d.config.block_size count) where
       -- larger than the plugged size
-      pub unplug_refuses : d.config.plugged_size < size → s ≡ record { device = d; answer = Refused NoShape } → Gives (unplug (world_of d bitmap table) addr count status g) (lent bitmap table g.mem) (lent bitmap table g.mem) s
+      pub unplug_refuses : d.config.plugged_size < size → s ≡ record { device = d; answer = Refused (number NoShape) } → Gives (unplug (world_of d bitmap table) addr count status g) (lent bitmap table g.mem) (lent bitmap table g.mem) s
       unfolding unplug_as
       unplug_refuses h e =
           let larger : ltb d.config.plugged_size (bytes_of d.config.block_size count) ≡ true = rw (← size_is) (lt-ltb d.config.plugged_size size h) in
-          rw (same_change, legal, larger) (answers (world_of d bitmap table) (Refused NoShape) e refl refl)
+          rw (same_change, legal, larger) (answers (world_of d bitmap table) (Refused (number NoShape)) e refl refl)
 
       pub unplug_asks : size ≤ d.config.plugged_size → s ≡ asked d (Discard change.first count (record { 0 = status })) change.offset size change.host → Gives (unplug (world_of d bitmap table) addr count status g) (lent bitmap table g.mem) (lent bitmap table g.mem) s
       unfolding unplug_as
@@ -109,7 +111,7 @@ module _ (d : Device) (bitmap table : List ℕ) (shape : shaped_of d ≡ true) (
         one_plugged d.config.block_size d.config.addr.0 d.config.usable_region_size d.several block (blocks bitmap) (rows_of table)
         (omega arith) (rw e h.start_blocks) (rw e h.usable_blocks_lem) (rw e end) (omega (arith, h.start_region, h.usable_in)) set
 
-    pub one_past : {bytes : List ℕ} → d.config.usable_region_size ≤ bytes_of d.config.block_size block → Responded g status (error PastUsable) (pending_to Nothing d) s bytes → Gives (unplug_one (world_of d bitmap table) block status g) (lent bitmap table g.mem) (lent bitmap table bytes) s
+    pub one_past : {bytes : List ℕ} → d.config.usable_region_size ≤ bytes_of d.config.block_size block → Responded g status (error (why PastUsable)) (pending_to Nothing d) s bytes → Gives (unplug_one (world_of d bitmap table) block status g) (lent bitmap table g.mem) (lent bitmap table bytes) s
     unfolding one_as
     one_past k p =
         rw (one_change, le-leb d.config.usable_region_size (bytes_of d.config.block_size block) k) (serves g status _ bitmap p refl refl)
@@ -118,9 +120,9 @@ module _ (d : Device) (bitmap table : List ℕ) (shape : shaped_of d ≡ true) (
       by_host : changing (world_of d bitmap table) (d.config.addr.0 + bytes_of d.config.block_size block) 1 false ≡ legal_at d.config.block_size (bytes_of d.config.block_size block) found
       by_host = rw (one_change, lt-leb d.config.usable_region_size (bytes_of d.config.block_size block) usable, ← found-is)
 
-      pub one_errs : {bytes : List ℕ} (why : Reason) → found ≡ Err why → Responded g status (error why) (pending_to Nothing d) s bytes → Gives (unplug_one (world_of d bitmap table) block status g) (lent bitmap table g.mem) (lent bitmap table bytes) s
+      pub one_errs : {bytes : List ℕ} (reason : Reason) → found ≡ Err reason → Responded g status (error (why reason)) (pending_to Nothing d) s bytes → Gives (unplug_one (world_of d bitmap table) block status g) (lent bitmap table g.mem) (lent bitmap table bytes) s
       unfolding one_as legal_at
-      one_errs why e p = rw (by_host, e) (serves g status _ bitmap p refl refl)
+      one_errs reason e p = rw (by_host, e) (serves g status _ bitmap p refl refl)
 
       pub one_asks : (host : HostAddr) → found ≡ Ok host → s ≡ asked d (DiscardOne block (record { 0 = status })) (record { 0 = bytes_of d.config.block_size block }) d.config.block_size host → Gives (unplug_one (world_of d bitmap table) block status g) (lent bitmap table g.mem) (lent bitmap table g.mem) s
       unfolding one_as legal_at

@@ -9,6 +9,7 @@ ghost use Rattle.record.specs.Changes.{pending_to, plugged_to};
 ghost use Rattle.step.specs.declared.Answer.TheVariants.{Wants};
 ghost use Rattle.step.specs.World.{no_guest, world_of};
 ghost use Rattle.step.specs.Step.{plug as plug_of, unplug as unplug_of, unplug_one, unplug_all, serve as serve_of};
+ghost use Rattle.change.specs.Why.{why};
 ghost use Rattle.step.specs.Step.{stops, state_verdict, creates, covered_by, host_answer};
 ghost use Rattle.step.specs.Promise.{lent, Gives, Steps, Does, request_on, answer_on};
 ghost use Rattle.units.specs.Numbers.{blocks_in};
@@ -21,7 +22,7 @@ use record::{Device, HostCall, Pending};
 use refusal::Refusal;
 use rows::fill;
 use step::{
-    Answer, Answered, Shaped, Verdict, pending_refusal, ready_refusal, refuse, respond, sized,
+    Answer, Answered, Shaped, Verdict, pending_refusal, ready_refusal, refuse_as, respond, sized,
 };
 use units::{GuestAddr, HostAddr, MemTool, RegionOffset, sum_within};
 use wire::{RequestType, VirtioMemConfig, VirtioMemReq};
@@ -80,13 +81,19 @@ fn blocks_of(request: VirtioMemReq) -> Blocks
 }
 
 // Ends an unplug or an unplug-all with ERROR: nothing has changed but that nothing is pending.
-fn stopped(d: Device, mem: &mut [u8], base: GuestAddr, status: GuestAddr, why: Reason) -> Answered
-    ensures { Does (λ w. stops why w status.0) d base
+fn stopped(
+    d: Device,
+    mem: &mut [u8],
+    base: GuestAddr,
+    status: GuestAddr,
+    reason: Reason,
+) -> Answered
+    ensures { Does (λ w. stops (why reason) w status.0) d base
         (lent [] [] mem.old)
         (lent [] [] mem.new) result }
 {
     let stopped = pending_to(d, Pending::Nothing);
-    respond(stopped, mem, base, status, Verdict::error(why))
+    respond(stopped, mem, base, status, Verdict::error(reason))
 }
 
 // A plug: NACK before every test of the range.
@@ -163,7 +170,7 @@ fn unplug(
     };
     let size = MemTool::bytes_of(nb_blocks, area.block_size);
     if d.config.plugged_size < size {
-        return refuse(d, Refusal::NoShape);
+        return refuse_as(d, Refusal::NoShape);
     }
     let pending = Pending::Discard {
         first: change.first,
@@ -261,7 +268,7 @@ fn serve(
     let Ok(req_type) = RequestType::try_from(req.req_type) else {
         return Answered {
             device: d,
-            answer: Answer::Unserved(NoRequest::UnknownType),
+            answer: Answer::Unserved(NoRequest::UnknownType.number()),
         };
     };
     match req_type {
@@ -290,7 +297,7 @@ pub fn request(
         (lent bitmap.new table.now mem.new) result }
 {
     if let Err(refusal) = ready_refusal(d, bitmap.len(), table.len()) {
-        return refuse(d, refusal);
+        return refuse_as(d, refusal);
     }
     match parse(&mem[..], base, descriptors, head) {
         Ok(asks) => {
@@ -299,7 +306,7 @@ pub fn request(
         }
         Err(reason) => Answered {
             device: d,
-            answer: Answer::Unserved(reason),
+            answer: Answer::Unserved(reason.number()),
         },
     }
 }
@@ -402,10 +409,10 @@ fn creation_answered(
 {
     let d = shaped.device;
     if !ok {
-        return refuse(pending_to(d, Pending::Nothing), Refusal::CreationFailed);
+        return refuse_as(pending_to(d, Pending::Nothing), Refusal::CreationFailed);
     }
     if !sum_within(host.0, covered_by(d, first, last), u64::MAX) {
-        return refuse(d, Refusal::HostPastTop);
+        return refuse_as(d, Refusal::HostPastTop);
     }
     created(shaped, table, first, last, host)
 }
@@ -425,12 +432,12 @@ pub fn host_answer(
         (lent bitmap.new table.new mem.new) result }
 {
     if let Err(refusal) = pending_refusal(d, bitmap.len(), table.len()) {
-        return refuse(d, refusal);
+        return refuse_as(d, refusal);
     }
     let shaped = Shaped { device: d };
     let pending = d.pending;
     match pending {
-        Pending::Nothing => refuse(d, Refusal::NothingPending),
+        Pending::Nothing => refuse_as(d, Refusal::NothingPending),
         Pending::Create { first, last } => creation_answered(shaped, table, first, last, ok, host),
         Pending::Discard {
             first,

@@ -1,5 +1,6 @@
 -- SPDX-License-Identifier: Apache-2.0 AND BSD-3-Clause
 -- The device and the clauses M10 to M16: the outcome of each request is as specs/Requests.antt says of its type.
+use Rattle.change.specs.Why.{why}
 use Rattle.std.specs.Prelude.{Option, Some, None, Ok, Err, Result, is_ok}
 use Prim.Native.Nat.{ℕ, zero, suc, ◌+◌, ◌-◌, ◌*◌, ◌%◌, ◌≤◌, ◌<◌}
 use mathlib.Core.Path.{◌≡◌, refl, ap, ◌∙◌, sym}
@@ -28,7 +29,6 @@ use Rattle.record.proofs.Laws.{Shaped as Facts, shaped_is as facts-of, parts as 
 use Rattle.change.specs.declared.Change.{Change}
 use Rattle.change.specs.declared.Reason.{Reason}
 use Rattle.change.specs.Change.{range_of, legal, state_of, state_in}
-use Rattle.refusal.specs.declared.Refusal.TheVariants.{NoShape}
 use Rattle.chain.specs.declared.NoRequest.TheVariants.{UnknownType}
 use Rattle.change.proofs.Laws.{InRange, inside_is, inside_when, host_is, legal_is, legal_when, whole_blocks}
 use Rattle.step.specs.declared.Answer.TheVariants.{Refused}
@@ -235,8 +235,8 @@ module _ (w : World) (req : VirtioMemReq) (sound : Sound w) where
             responses = λ type e. only_type (0 ∷ 1 ∷ 3 ∷ []) 0 type refl e;
           }
 
-      bad : (why : Reason) → changing w req.addr.0 req.nb_blocks true ≡ Err why → plugged w + size_of w req ≤ requested w → Plug w req (served (error why) status w g)
-      bad why e fits =
+      bad : (reason : Reason) → changing w req.addr.0 req.nb_blocks true ≡ Err reason → plugged w + size_of w req ≤ requested w → Plug w req (served (error (why reason)) status w g)
+      bad reason e fits =
           record {
             over = λ h. absurd (omega arith);
             only_over = λ e. let z : ◌≡◌ {A = ℕ} 0 1 = cc in absurd (omega arith);
@@ -250,7 +250,7 @@ module _ (w : World) (req : VirtioMemReq) (sound : Sound w) where
 
       go : (c : Result Change Reason) → changing w req.addr.0 req.nb_blocks true ≡ c → plugged w + size_of w req ≤ requested w → Plug w req (plug_as c w req.nb_blocks status g)
       go (Ok change) e fits = good change (opened true change e) fits
-      go (Err why) e fits = bad why e fits
+      go (Err reason) e fits = bad reason e fits
 
   -- ---- UNPLUG
   unplug_at : req.req_type ≡ VIRTIO_MEM_REQ_UNPLUG → (status : ℕ) (g : Guest) → Unplug w req (unplug_as (changing w req.addr.0 req.nb_blocks false) w req.nb_blocks status g)
@@ -260,9 +260,9 @@ module _ (w : World) (req : VirtioMemReq) (sound : Sound w) where
       unchanged : (o : Outcome) → (Responds o 0 → ⊥) → Unchanged w o.world → WholeOrNothing w req o
       unchanged o no-ack same = record { acknowledged = λ e. absurd (no-ack e); otherwise = λ _. same }
 
-      bad : (why : Reason) → changing w req.addr.0 req.nb_blocks false ≡ Err why → Unplug w req (served (error why) status w g)
-      bad why e =
-          let never : (call : HostCall) → AsksFor (served (error why) status w g) call → ⊥ = λ call f. let z : ◌≡◌ {A = ℕ} 0 1 = cc in omega arith in
+      bad : (reason : Reason) → changing w req.addr.0 req.nb_blocks false ≡ Err reason → Unplug w req (served (error (why reason)) status w g)
+      bad reason e =
+          let never : (call : HostCall) → AsksFor (served (error (why reason)) status w g) call → ⊥ = λ call f. let z : ◌≡◌ {A = ℕ} 0 1 = cc in omega arith in
           let not-can : CanUnplug w req → ⊥ = λ can. clash (ap is_ok (sym e ∙ legal_change false can.valid can.all_plugged can.mapped)) refl in
           record {
             bad_range = λ _. refl;
@@ -278,7 +278,7 @@ module _ (w : World) (req : VirtioMemReq) (sound : Sound w) where
       -- nothing is wrong with the request: there is no response yet
       waits : (change : Change) → Opened false change → (o : Outcome) → response_of o.answer ≡ none → Unchanged w o.world
           → ((can : CanUnplug w req) → size_of w req ≤ plugged w → AsksFor o (DiscardCall (record { 0 = offset_of w req }) (size_of w req) can.mapped.host))
-          → (plugged w < size_of w req → o.answer ≡ Refused NoShape)
+          → (plugged w < size_of w req → o.answer ≡ Refused 12)
           → ((call : HostCall) → AsksFor o call → (g : Guest) (ok : Bool) (host : ℕ) → UnplugAnswered w req ok (step o.world (HostAnswer g ok host))) → Unplug w req o
       waits change found o silent same asks spoils ends =
           record {
@@ -339,7 +339,7 @@ module _ (w : World) (req : VirtioMemReq) (sound : Sound w) where
           waits change o _ refl (record { same_blocks = refl; same_config = refl })
           (λ can _. let same : change.host ≡ can.mapped.host = cc in rw (o.offset_is, same)) (λ less. absurd (omega arith))
           (λ call f g' ok h. ends change o enough g' ok h))
-      go (Err why) e = bad why e
+      go (Err reason) e = bad reason e
 
   -- ---- STATE
   state_type_lem : (r : Result RegionOffset Reason) → range_of (block_size w) (start w) (usable w) req.addr.0 req.nb_blocks ≡ r → (Valid w req → ⊥) → state_type r ≡ 3
@@ -460,9 +460,9 @@ module _ (w : World) (sound : Sound w) where
       all_clear : next_set w.blocks from (region_blocks w) ≡ None → NoneFrom w from
       all_clear e i p q = all_clear_at w.blocks from (region_blocks w - from) i (next_nothing true w.blocks from (region_blocks w) e) p (omega arith)
 
-      stopped : (why : Reason) (block : ℕ) → Lowest w from block → (CanDiscard w block → ⊥) → UnplugsFrom w from (stops why w status g)
-      stopped why block l cannot-be =
-          let not-acknowledged : Responds (stops why w status g) 0 → ⊥ = λ r. let z : ◌≡◌ {A = ℕ} 0 1 = cc in omega arith in
+      stopped : (n : ℕ) (block : ℕ) → Lowest w from block → (CanDiscard w block → ⊥) → UnplugsFrom w from (stops n w status g)
+      stopped n block l cannot-be =
+          let not-acknowledged : Responds (stops n w status g) 0 → ⊥ = λ r. let z : ◌≡◌ {A = ℕ} 0 1 = cc in omega arith in
           record {
             none_left = λ all. clash l.is_plugged (all block l.from_there l.in_region);
             only_none_left = λ r. absurd (not-acknowledged r);
@@ -511,12 +511,12 @@ module _ (w : World) (sound : Sound w) where
             responses = λ type r. absurd (silent type r);
           }
 
-      illegal : (why : Reason) (block : ℕ) → Lowest w from block → changing w (address_of w block) 1 false ≡ Err why → CanDiscard w block → ⊥
-      illegal why block l e can = clash (ap is_ok (sym e ∙ one_legal block l.is_plugged can)) refl
+      illegal : (reason : Reason) (block : ℕ) → Lowest w from block → changing w (address_of w block) 1 false ≡ Err reason → CanDiscard w block → ⊥
+      illegal reason block l e can = clash (ap is_ok (sym e ∙ one_legal block l.is_plugged can)) refl
 
       one : (block : ℕ) (c : Result Change Reason) → Lowest w from block → changing w (address_of w block) 1 false ≡ c → UnplugsFrom w from (one_as c w block status g)
       one block (Ok change) l e = asked block change l e
-      one block (Err why) l e = stopped why block l (illegal why block l e)
+      one block (Err reason) l e = stopped (why reason) block l (illegal reason block l e)
 
       go : (f : Option ℕ) → next_set w.blocks from (region_blocks w) ≡ f → UnplugsFrom w from (next_as f w status g)
       go None e =
@@ -629,7 +629,7 @@ one_standard w j status a g ok host = rw (answered w (DiscardOne j status) a ref
         }
 
 -- ---- tried against M11, M14 and M15: a device that answers ERROR always
-module _ (w : World) (req : VirtioMemReq) (why : Reason) (status : ℕ) (g : Guest) where
+module _ (w : World) (req : VirtioMemReq) (why status : ℕ) (g : Guest) where
   pub error_always_no_plug : CanPlug w req → Plug w req (served (error why) status w g) → ⊥
   unfolding response
   error_always_no_plug can p = let e = p.granted can in let z : ◌≡◌ {A = ℕ} 0 1 = cc in omega arith

@@ -87,7 +87,7 @@ settled_by_call before (Create guest size slot) = false
 settled_by_call before (Discard offset size host) = before
 
 unfoldable pub settled_by : Bool → Answer → Bool
-settled_by before (Refused refused) = before
+settled_by before (Refused number) = before
 settled_by before (Wants call) = settled_by_call before call
 settled_by before Sized = true
 settled_by before (Unserved reason) = before

@@ -6,7 +6,6 @@ use Rattle.units.specs.declared.GuestAddr.{GuestAddr}
 use Rattle.units.specs.declared.HostAddr.{HostAddr}
 use Rattle.bitmap.specs.Blocks.{block_at}
 use Rattle.little_endian.specs.Bytes.{part}
-use Rattle.refusal.specs.declared.Refusal.TheVariants.{NoShape}
 use Rattle.change.specs.Change.{host_of}
 use Rattle.wire.specs.Standard.{virtio_mem_resp}
 use Rattle.wire.specs.declared.VirtioMemReq.{VirtioMemReq}
@@ -16,7 +15,6 @@ use Rattle.descriptors.specs.Standard.{is_write_only}
 use Rattle.descriptors.specs.Descriptors.{link_at, link_after}
 use Rattle.chain.specs.declared.Asked.{Asked}
 use Rattle.chain.specs.declared.NoRequest.{NoRequest}
-use Rattle.chain.specs.declared.NoRequest.TheVariants.{UnknownType}
 use Rattle.chain.specs.Chain.{asked, parsed}
 use Rattle.record.specs.declared.HostCall.{HostCall}
 use Rattle.record.specs.declared.HostCall.TheVariants.{Discard as DiscardCall}
@@ -339,7 +337,7 @@ pub record Unplug (w : World) (req : VirtioMemReq) (o : Outcome) : Type 0 where
   pub already : (i : ℕ) → Covers w req i → IsUnplugged w i → Rejected o
   -- otherwise the host is asked for the range, by its offset and size. Narrower: where one mapping of the host has it. A plugged_size that has not so much is spoiled, and in no run (`PluggedBlocksUnplug`)
   pub granted : (can : CanUnplug w req) → size_of w req ≤ plugged w → AsksToDiscard o (offset_of w req) (size_of w req) can.mapped.host
-  pub spoiled : CanUnplug w req → plugged w < size_of w req → o.answer ≡ Refused NoShape
+  pub spoiled : CanUnplug w req → plugged w < size_of w req → o.answer ≡ Refused 12
   pub only_granted : (call : HostCall) → AsksFor o call → CanUnplug w req
   -- there is no response yet, and nothing is unplugged (M10), until the host has answered
   pub responses : RespondsAmong o (VIRTIO_MEM_RESP_ERROR ∷ [])
@@ -420,7 +418,7 @@ pub record StateRequest (w : World) (req : VirtioMemReq) (o : Outcome) : Type 0 
 
 -- not the standard's: a request of a type that it does not have gets no response, and changes nothing
 pub record Unknown (w : World) (req : VirtioMemReq) (o : Outcome) : Type 0 where
-  pub no_response : o.answer ≡ Unserved UnknownType
+  pub no_response : o.answer ≡ Unserved 0
   pub not_changed : Unchanged w o.world
 
 -- ---- of every call

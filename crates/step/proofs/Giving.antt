@@ -5,6 +5,7 @@ use mathlib.Core.Path.{◌≡◌, refl, ap, sym}
 use mathlib.Core.List.{List, []}
 use Rattle.std.specs.Prelude.{Result, Ok, Err, ⊤}
 use Rattle.refusal.specs.declared.Refusal.{Refusal}
+use Rattle.refusal.specs.Refusal.{number}
 use Rattle.bitmap.specs.Blocks.{blocks}
 use Rattle.rows.specs.Rows.{rows_of}
 use Rattle.rows.proofs.Words.{whole}
@@ -64,13 +65,13 @@ as_answered o before after s e m =
 
 -- ---- the refusals
 module _ (d : Device) (l : Lent) where
-  pub refused_gives : (r : Refusal) (o : Outcome) (s : Answered) → o ≡ refused r (on d l) l.bytes → s ≡ record { device = d; answer = Refused r } → Gives o l l s
+  pub refused_gives : (r : Refusal) (o : Outcome) (s : Answered) → o ≡ refused r (on d l) l.bytes → s ≡ record { device = d; answer = Refused (number r) } → Gives o l l s
   refused_gives r o s e a =
       rw (e, a)
       (record { answered = refl; told = refl; recorded = refl; leaves = record { marked = refl; mapped = sym (whole l.table); left = refl } })
 
   -- the call is refused by its first tests
-  pub stops : (x : Result ⊤ Refusal) (r : Refusal) (o : Outcome) (s : Answered) → x ≡ Err r → s ≡ record { device = d; answer = Refused r } → Gives (unless x (on d l) l.bytes o) l l s
+  pub stops : (x : Result ⊤ Refusal) (r : Refusal) (o : Outcome) (s : Answered) → x ≡ Err r → s ≡ record { device = d; answer = Refused (number r) } → Gives (unless x (on d l) l.bytes o) l l s
   unfolding unless
   stops x r o s e a = refused_gives r _ s (rw e) a
 

@@ -9,7 +9,6 @@ use Rattle.units.specs.Numbers.{bytes_of}
 use Rattle.units.specs.declared.GuestAddr.{GuestAddr}
 use Rattle.bitmap.specs.Blocks.{block_at}
 use Rattle.bitmap.proofs.Laws.{at_inside, at_before, at_after}
-use Rattle.change.specs.declared.Reason.{Reason}
 use Rattle.step.specs.declared.Verdict.{Verdict}
 use Rattle.record.specs.declared.Pending.TheVariants.{Discard}
 use Rattle.step.specs.World.{World, Guest}
@@ -62,7 +61,7 @@ asking_takes_nothing w first count offset host status g =
     (record { same_blocks = refl; same_rows = refl; same_plugged = refl }, record { same_blocks = refl; same_rows = refl; same_plugged = refl })
 
 -- ---- nor does a discard that failed, also of an unplug-all (R10.13): cleared blocks stay cleared, and what they took off stays taken off
-pub failure_takes_nothing : (why : Reason) (w : World) (status : ℕ) (g : Guest) → Untouched w (stops why w status g).world
+pub failure_takes_nothing : (why : ℕ) (w : World) (status : ℕ) (g : Guest) → Untouched w (stops why w status g).world
 failure_takes_nothing why w status g = record { same_blocks = refl; same_rows = refl; same_plugged = refl }
 
 -- ---- NACK and ERROR change nothing but the response

@@ -20,7 +20,7 @@ use Rattle.change.specs.declared.Reason.{Reason}
 use Rattle.std.specs.Result.{result_err}
 use Rattle.refusal.specs.declared.Refusal.{Refusal}
 use Rattle.change.specs.declared.Reason.TheVariants.{FailedDiscard}
-use Rattle.change.specs.Why.{why_number, Reasoned}
+use Rattle.change.specs.Why.{why, why_number, Reasoned}
 use Rattle.change.proofs.Why.{Failed, change_failed, reasoned as why_reasoned}
 use Rattle.record.specs.declared.Pending.{Pending}
 use Rattle.record.specs.declared.Pending.TheVariants.{Nothing, Create, Discard, DiscardOne}
@@ -29,7 +29,7 @@ use Rattle.step.specs.declared.Reply.{Reply}
 use Rattle.step.specs.declared.Answer.{Answer}
 use Rattle.step.specs.Answers.{OfReply, SaysWhy}
 use Rattle.step.specs.World.{World, Guest, Call, Place, SetRequestedSize, Request, HostAnswer, ReadConfig, WriteConfig, Outcome}
-use Rattle.step.specs.Step.{block_size, region, usable, plugged, requested, start, several, ack, nack, error, changing, cleared, covered_by, served, step, unless, plug_as, plug, unplug_as, one_as, next_as, state_type, state_verdict, serve, request, resizes, placing, place, set_requested_size, host_answer, read_config, write_config}
+use Rattle.step.specs.Step.{block_size, region, plugged, requested, several, ack, nack, error, changing, cleared, covered_by, served, step, unless, plug_as, plug, unplug_as, one_as, next_as, state_type, state_verdict, serve, request, resizes, placing, place, set_requested_size, host_answer, read_config, write_config}
 
 -- K holds of the reply, and of guest memory then
 pub record Of (K : Reply → List ℕ → Type 0) (o : Outcome) : Type 0 where
@@ -40,8 +40,8 @@ pub record Known (P : Verdict → Type 0) (W : World → Type 0) : Type 0 where
   pub acks : P ack
   pub nacks : P nack
   pub states : (w : World) → W w → (addr count : ℕ) → P (state_verdict w addr count)
-  pub changes : (w : World) → W w → (addr count : ℕ) (wanted : Bool) → Failed (λ why. P (error why)) (changing w addr count wanted)
-  pub discards : P (error FailedDiscard)
+  pub changes : (w : World) → W w → (addr count : ℕ) (wanted : Bool) → Failed (λ reason. P (error (why reason))) (changing w addr count wanted)
+  pub discards : P (error (why FailedDiscard))
   pub clears : (w : World) (block : ℕ) → W w → W (cleared w block)
 
 module _ (K : Reply → List ℕ → Type 0) where
@@ -79,17 +79,17 @@ abbrev pub SaysAt : (P : Verdict → Type 0) (K : Reply → List ℕ → Type 0)
 SaysAt P K g status = (v : Verdict) (w : World) → P v → Of K (served v status w g)
 
 module _ (P : Verdict → Type 0) (W : World → Type 0) (k : Known P W) (K : Reply → List ℕ → Type 0) (g : Guest) (status : ℕ) (says : SaysAt P K g status) where
-  plug_of_lem : (ch : Result Change Reason) → Failed (λ why. P (error why)) ch → (w : World) (count : ℕ) → Of K (plug_as ch w count status g)
+  plug_of_lem : (ch : Result Change Reason) → Failed (λ reason. P (error (why reason))) ch → (w : World) (count : ℕ) → Of K (plug_as ch w count status g)
   unfolding plug_as Failed
   plug_of_lem (Ok change) f w count = says _ _ k.acks
   plug_of_lem (Err why) f w count = says _ _ f
 
-  unplug_of : (ch : Result Change Reason) → Failed (λ why. P (error why)) ch → (w : World) (count : ℕ) → Of K (unplug_as ch w count status g)
+  unplug_of : (ch : Result Change Reason) → Failed (λ reason. P (error (why reason))) ch → (w : World) (count : ℕ) → Of K (unplug_as ch w count status g)
   unfolding unplug_as OfReply Failed
   unplug_of (Ok change) f w count = either K (ltb (plugged w) (bytes_of (block_size w) count)) _ _ (record { of = tt }) (record { of = tt })
   unplug_of (Err why) f w count = says _ _ f
 
-  one_of : (ch : Result Change Reason) → Failed (λ why. P (error why)) ch → (w : World) (block : ℕ) → Of K (one_as ch w block status g)
+  one_of : (ch : Result Change Reason) → Failed (λ reason. P (error (why reason))) ch → (w : World) (block : ℕ) → Of K (one_as ch w block status g)
   unfolding one_as OfReply Failed
   one_of (Ok change) f w block = record { of = tt }
   one_of (Err why) f w block = says _ _ f
@@ -153,7 +153,7 @@ abbrev AnyWorld : World → Type 0
 AnyWorld w = Prim.Unit {0}
 
 abbrev ReasonedVerdict : Verdict → Type 0
-ReasonedVerdict v = Reasoned v.response.resp_type (why_number v.why)
+ReasonedVerdict v = Reasoned v.response.resp_type v.why
 
 state_reasoned : (r : Result RegionOffset Reason) → Reasoned (state_type r) (why_number (result_err r))
 unfolding state_type

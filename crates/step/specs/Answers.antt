@@ -5,9 +5,7 @@ use Rattle.std.proofs.Math.Option.{Option, some, none}
 use Rattle.wire.specs.declared.VirtioMemResp.{VirtioMemResp}
 use Rattle.record.specs.declared.HostCall.{HostCall}
 use Rattle.record.specs.declared.HostCall.TheVariants.{Create, Discard}
-use Rattle.change.specs.Why.{why_number, Reasoned}
-use Rattle.chain.specs.Chain.{reason}
-use Rattle.refusal.specs.Refusal.{number}
+use Rattle.change.specs.Why.{Reasoned}
 use Rattle.step.specs.declared.Verdict.{Verdict}
 use Rattle.step.specs.declared.Reply.{Reply}
 use Rattle.step.specs.declared.Answer.{Answer}
@@ -24,11 +22,11 @@ question_words (Discard offset size host) = 2 ∷ 0 ∷ offset.0 ∷ size ∷ ho
 
 -- an answer: 0 for what it has not
 abbrev pub answer_words : Answer → List ℕ
-answer_words (Refused refused) = 0 ∷ number refused ∷ 0 ∷ 0 ∷ 0 ∷ 0 ∷ 0 ∷ 0 ∷ 0 ∷ []
+answer_words (Refused number) = 0 ∷ number ∷ 0 ∷ 0 ∷ 0 ∷ 0 ∷ 0 ∷ 0 ∷ 0 ∷ []
 answer_words (Wants call) = question_words call
 answer_words Sized = 3 ∷ 0 ∷ 0 ∷ 0 ∷ 0 ∷ 0 ∷ 0 ∷ 0 ∷ 0 ∷ []
-answer_words (Unserved why) = 4 ∷ 0 ∷ 0 ∷ 0 ∷ 0 ∷ 0 ∷ 0 ∷ 0 ∷ reason why ∷ []
-answer_words (Served reply) = 5 ∷ 0 ∷ 0 ∷ 0 ∷ 0 ∷ reply.response.resp_type ∷ reply.response.state ∷ reply.used ∷ why_number reply.why ∷ []
+answer_words (Unserved reason) = 4 ∷ 0 ∷ 0 ∷ 0 ∷ 0 ∷ 0 ∷ 0 ∷ 0 ∷ reason ∷ []
+answer_words (Served reply) = 5 ∷ 0 ∷ 0 ∷ 0 ∷ 0 ∷ reply.response.resp_type ∷ reply.response.state ∷ reply.used ∷ reply.why ∷ []
 answer_words Done = 6 ∷ 0 ∷ 0 ∷ 0 ∷ 0 ∷ 0 ∷ 0 ∷ 0 ∷ 0 ∷ []
 
 -- R1.0: the number of an answer: 0 unless it is refused
@@ -37,26 +35,26 @@ number_of answer = get_or (answer_words answer) 1 0
 
 -- ---- the parts of an answer, each where it has one
 unfoldable pub refusal : Answer → Option ℕ
-refusal (Refused refused) = some (number refused)
+refusal (Refused number) = some number
 refusal (Wants call) = none
 refusal Sized = none
-refusal (Unserved why) = none
+refusal (Unserved reason) = none
 refusal (Served reply) = none
 refusal Done = none
 
 unfoldable pub question : Answer → Option HostCall
-question (Refused refused) = none
+question (Refused number) = none
 question (Wants call) = some call
 question Sized = none
-question (Unserved why) = none
+question (Unserved reason) = none
 question (Served reply) = none
 question Done = none
 
 unfoldable pub response : Answer → Option VirtioMemResp
-response (Refused refused) = none
+response (Refused number) = none
 response (Wants call) = none
 response Sized = none
-response (Unserved why) = none
+response (Unserved reason) = none
 response (Served reply) = some reply.response
 response Done = none
 
@@ -66,13 +64,13 @@ served_with v used = Served (record { response = v.response; used = used; why = 
 
 -- what is said of a reply, and nothing of any other answer
 unfoldable pub OfReply : (Reply → Type 0) → Answer → Type 0
-OfReply K (Refused refused) = Prim.Unit {0}
+OfReply K (Refused number) = Prim.Unit {0}
 OfReply K (Wants call) = Prim.Unit {0}
 OfReply K Sized = Prim.Unit {0}
-OfReply K (Unserved why) = Prim.Unit {0}
+OfReply K (Unserved reason) = Prim.Unit {0}
 OfReply K (Served reply) = K reply
 OfReply K Done = Prim.Unit {0}
 
 -- R10.18: a response has reason 0 exactly if its type is not ERROR, and 1 to 11 otherwise
 abbrev pub SaysWhy : Answer → Type 0
-SaysWhy answer = OfReply (λ reply. Reasoned reply.response.resp_type (why_number reply.why)) answer
+SaysWhy answer = OfReply (λ reply. Reasoned reply.response.resp_type reply.why) answer

@@ -9,7 +9,7 @@ use Rattle.wire.specs.Layout.{config_bytes}
 use Rattle.chain.specs.declared.Asked.{Asked}
 use Rattle.chain.specs.declared.NoRequest.{NoRequest}
 use Rattle.chain.specs.declared.NoRequest.TheVariants.{UnknownType}
-use Rattle.chain.specs.Chain.{parsed, reaches, delivered}
+use Rattle.chain.specs.Chain.{parsed, reason, reaches, delivered}
 use Rattle.rows.specs.declared.MapRow.{MapRow}
 use Rattle.rows.specs.Rows.{row_at, rows_filled, rows_laid}
 use Rattle.record.specs.declared.Device.{Device}
@@ -25,8 +25,10 @@ use Rattle.change.specs.declared.Change.{Change}
 use Rattle.change.specs.declared.Reason.{Reason}
 use Rattle.change.specs.declared.Reason.TheVariants.{FailedDiscard}
 use Rattle.change.specs.Change.{range_of, change_of, state_of}
+use Rattle.change.specs.Why.{why, why_number}
 use Rattle.refusal.specs.declared.Refusal.{Refusal}
 use Rattle.refusal.specs.declared.Refusal.TheVariants.{WrongSize, WrongRange, WrongStart, NotPlaced, AlreadyPlaced, CallPending, NothingPending, HostPastTop, CreationFailed, TooShort, NoShape}
+use Rattle.refusal.specs.Refusal.{number}
 use Rattle.std.specs.Result.{result_err}
 use Rattle.step.specs.declared.Verdict.{Verdict}
 use Rattle.step.specs.declared.Answer.TheVariants.{Refused, Wants, Sized, Unserved, Done}
@@ -75,25 +77,25 @@ pub record Untouched (w w' : World) : Type 0 where
 -- ---- the endings
 -- R2.8: a refusal changes nothing
 abbrev pub refused : Refusal → World → List ℕ → Outcome
-refused refusal w bytes = record { world = w; answer = Refused refusal; bytes = bytes }
+refused refusal w bytes = record { world = w; answer = Refused (number refusal); bytes = bytes }
 
 -- R9.7: used length 0 with its reason, and nothing written
 abbrev pub unserved : NoRequest → World → Guest → Outcome
-unserved reason w g = record { world = w; answer = Unserved reason; bytes = g.mem }
+unserved why w g = record { world = w; answer = Unserved (reason why); bytes = g.mem }
 
 -- what a request comes to: the response, and why it is an ERROR (R10.17)
-abbrev pub verdict : (type state : ℕ) (why : Option Reason) → Verdict
+abbrev pub verdict : (type state why : ℕ) → Verdict
 verdict type state why = record { response = record { resp_type = type; state = state }; why = why }
 
 -- R7.4: ACK 0, NACK 1, ERROR 3; R10.2: with state 0
 abbrev pub ack : Verdict
-ack = verdict 0 0 None
+ack = verdict 0 0 0
 
 abbrev pub nack : Verdict
-nack = verdict 1 0 None
+nack = verdict 1 0 0
 
-abbrev pub error : Reason → Verdict
-error why = verdict 3 0 (Some why)
+abbrev pub error : (why : ℕ) → Verdict
+error why = verdict 3 0 why
 
 -- R9.10; the guest reads the response alone
 abbrev pub served : Verdict → (status : ℕ) → World → Guest → Outcome
@@ -136,7 +138,7 @@ unplugs w first count status g =
     g
 
 -- R10.10, R10.13: ERROR, and nothing has changed but that nothing is pending
-abbrev pub stops : Reason → World → (status : ℕ) → Guest → Outcome
+abbrev pub stops : (why : ℕ) → World → (status : ℕ) → Guest → Outcome
 stops why w status g = served (error why) status (device_of (pending_to Nothing w.device) w) g
 
 -- R10.11: an unplug-all asks for one block
@@ -204,7 +206,7 @@ creates w i last host bytes =
 -- R1.10; R2.9, R2.10: what was written before the question stands, and nothing else has changed
 abbrev pub create_fails : World → List ℕ → Outcome
 create_fails w bytes =
-    record { world = device_of (pending_to Nothing w.device) w; answer = Refused CreationFailed; bytes = bytes }
+    record { world = device_of (pending_to Nothing w.device) w; answer = Refused (number CreationFailed); bytes = bytes }
 
 -- R5.2
 abbrev pub placed : World → (start : ℕ) (slots : List ℕ) → List Bool → List MapRow → World
@@ -265,7 +267,7 @@ changing w addr count wanted =
 
 unfoldable pub plug_as : Result Change Reason → World → (count status : ℕ) → Guest → Outcome
 plug_as (Ok change) w count status g = plugs w change.first count status g
-plug_as (Err why) w count status g = served (error why) status w g
+plug_as (Err reason) w count status g = served (error (why reason)) status w g
 
 -- R10.2; R10.3: test (a), then (b) to (d)
 unfoldable pub plug : World → (addr count status : ℕ) → Guest → Outcome
@@ -278,7 +280,7 @@ unfoldable pub unplug_as : Result Change Reason → World → (count status : �
 unplug_as (Ok change) w count status g =
     cond (ltb (plugged w) (bytes_of (block_size w) count)) (refused NoShape w g.mem)
     (asks_discard w change.first count change.offset.0 change.host.0 status g)
-unplug_as (Err why) w count status g = served (error why) status w g
+unplug_as (Err reason) w count status g = served (error (why reason)) status w g
 
 abbrev pub unplug : World → (addr count status : ℕ) → Guest → Outcome
 unplug w addr count status g = unplug_as (changing w addr count false) w count status g
@@ -286,7 +288,7 @@ unplug w addr count status g = unplug_as (changing w addr count false) w count s
 -- R10.11, R10.13: each as an unplug of one block
 unfoldable pub one_as : Result Change Reason → World → (block status : ℕ) → Guest → Outcome
 one_as (Ok change) w block status g = asks_one w block change.offset.0 change.host.0 status g
-one_as (Err why) w block status g = stops why w status g
+one_as (Err reason) w block status g = stops (why reason) w status g
 
 abbrev pub unplug_one : World → (block status : ℕ) → Guest → Outcome
 unplug_one w block status g = one_as (changing w (start w + bytes_of (block_size w) block) 1 false) w block status g
@@ -308,7 +310,7 @@ state_type (Err why) = 3
 abbrev pub state_verdict : World → (addr count : ℕ) → Verdict
 state_verdict w addr count =
     let range = range_of (block_size w) (start w) (usable w) addr count in
-    verdict (state_type range) (state_of (block_size w) (start w) (region w) addr count w.blocks) (result_err range)
+    verdict (state_type range) (state_of (block_size w) (start w) (region w) addr count w.blocks) (why_number (result_err range))
 
 -- R7.4; R9.8: type 4 or more
 unfoldable pub serve : World → VirtioMemReq → (status : ℕ) → Guest → Outcome
@@ -360,9 +362,9 @@ host_answer (Create i last) w g ok host =
     (cond (ltb top (host + covered_by w i last)) (refused HostPastTop w g.mem) (creates w i last host g.mem))
     (create_fails w g.mem)
 host_answer (Discard first count status) w g ok host =
-    cond ok (unplugs w first count status.0 g) (stops FailedDiscard w status.0 g)
+    cond ok (unplugs w first count status.0 g) (stops (why FailedDiscard) w status.0 g)
 host_answer (DiscardOne block status) w g ok host =
-    cond ok (unplug_all (cleared w block) (block + 1) status.0 g) (stops FailedDiscard w status.0 g)
+    cond ok (unplug_all (cleared w block) (block + 1) status.0 g) (stops (why FailedDiscard) w status.0 g)
 
 -- ---- the config
 -- R7.6, R7.7; R2.6: 12 only

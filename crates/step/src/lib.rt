@@ -7,12 +7,14 @@ ghost use Rattle.std.specs.Prelude.{◌≡◌, cond, ◌+◌, ◌*◌, ◌/◌, 
 ghost use Rattle.units.specs.Numbers.{blocks_in};
 ghost use Rattle.rows.specs.Rows.{rows_in};
 ghost use Rattle.step.specs.Step.{tables_fit, ready_refusal, unplaced_refusal, pending_refusal, sized_of};
+ghost use Rattle.refusal.specs.Refusal.{number};
+ghost use Rattle.change.specs.Why.{why};
 ghost use Rattle.step.specs.Step.{served, verdict, ack, nack, error};
 ghost use Rattle.step.specs.Promise.{lent, Does};
 
 mod ready;
 
-use chain::{NoRequest, deliver};
+use chain::deliver;
 use change::Reason;
 pub use ready::Shaped;
 use record::{Device, HostCall, is_idle, shaped};
@@ -29,11 +31,11 @@ const NACK: u16 = 1;
 
 const ERROR: u16 = 3;
 
-// What a request comes to: its response and, where that is ERROR, the reason (R10.17).
+// What a request comes to: its response and, where that is ERROR, the number of the reason (R10.17), else 0.
 #[derive(Clone, Copy)]
 pub struct Verdict {
     pub response: VirtioMemResp,
-    pub why: Option<Reason>,
+    pub why: u64,
 }
 
 impl Verdict {
@@ -46,7 +48,7 @@ impl Verdict {
                 resp_type: ACK,
                 state: 0,
             },
-            why: None,
+            why: 0,
         }
     }
 
@@ -59,20 +61,20 @@ impl Verdict {
                 resp_type: NACK,
                 state: 0,
             },
-            why: None,
+            why: 0,
         }
     }
 
     // ERROR, with state 0 and its reason.
-    pub fn error(why: Reason) -> Verdict
-        ensures { result ≡ error why }
+    pub fn error(reason: Reason) -> Verdict
+        ensures { result ≡ error (why reason) }
     {
         Verdict {
             response: VirtioMemResp {
                 resp_type: ERROR,
                 state: 0,
             },
-            why: Some(why),
+            why: reason.number(),
         }
     }
 
@@ -89,25 +91,26 @@ impl Verdict {
     }
 }
 
-// The end of a request: its response, also where it could not be delivered, the used length, and why it is an ERROR.
+// The end of a request: its response, also where it could not be delivered, the used length, and why it is an ERROR, as
+// in a verdict.
 #[derive(Clone, Copy)]
 pub struct Reply {
     pub response: VirtioMemResp,
     pub used: u32,
-    pub why: Option<Reason>,
+    pub why: u64,
 }
 
-// The answer of a call.
+// The answer of a call, in numbers, as words and printed lines tell it: `respond` and `refuse` promise of any number.
 #[derive(Clone, Copy)]
 pub enum Answer {
-    // Refused (R1); 10, creation failed, too.
-    Refused(Refusal),
+    // Refused with a number (R1); 10, creation failed, too.
+    Refused(u64),
     // The host is asked, and the call goes on with its answer.
     Wants(HostCall),
     // Done: the usable size is worked out.
     Sized,
-    // A chain that is no request, or one of an unknown type, used with length 0.
-    Unserved(NoRequest),
+    // A chain that is no request, used with length 0: its reason, 21 to 27, or 0 for an unknown type.
+    Unserved(u64),
     // A request that has ended.
     Served(Reply),
     // A config read or write.
@@ -248,11 +251,18 @@ pub fn respond(
 }
 
 // A call that is refused changes nothing.
-pub fn refuse(d: Device, refusal: Refusal) -> Answered
-    ensures { result ≡ record { device = d; answer = Answer.Refused refusal } }
+pub fn refuse(d: Device, number: u64) -> Answered
+    ensures { result ≡ record { device = d; answer = Answer.Refused number } }
 {
     Answered {
         device: d,
-        answer: Answer::Refused(refusal),
+        answer: Answer::Refused(number),
     }
+}
+
+// The same with a refusal of the law.
+pub fn refuse_as(d: Device, refusal: Refusal) -> Answered
+    ensures { result ≡ record { device = d; answer = Answer.Refused (number refusal) } }
+{
+    refuse(d, refusal.number())
 }

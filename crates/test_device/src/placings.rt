@@ -18,7 +18,7 @@ fn yes_no(holds: bool) -> &'static str {
 
 fn show_answer(rt: &impl Print, answer: Answer) -> io::Result<()> {
     match answer {
-        Answer::Refused(refusal) => print!(rt; "refused {}", refusal.number()),
+        Answer::Refused(number) => print!(rt; "refused {number}"),
         Answer::Wants(HostCall::Create { guest, size, slot }) => {
             print!(rt; "create {} {size} {slot}", guest.0)
         }

@@ -2,7 +2,6 @@
 // Requests and discard answers: each with its answer and all that it leaves. Reads of the config.
 use super::Line;
 use super::world::{Lent, World};
-use change::why_number;
 use little_endian::{read_u16, read_u64, write_u16, write_u64};
 use record::HostCall;
 use std::io;
@@ -20,7 +19,7 @@ const START: GuestAddr = GuestAddr(4096);
 
 fn show_answer(rt: &impl Print, answer: Answer) -> io::Result<()> {
     match answer {
-        Answer::Refused(refusal) => print!(rt; "refuse={}", refusal.number()),
+        Answer::Refused(number) => print!(rt; "refuse={number}"),
         Answer::Wants(HostCall::Create { .. }) => print!(rt; "want=create"),
         Answer::Wants(HostCall::Discard { offset, size, host }) => {
             print!(rt;
@@ -29,15 +28,12 @@ fn show_answer(rt: &impl Print, answer: Answer) -> io::Result<()> {
             )
         }
         Answer::Sized => print!(rt; "sized"),
-        Answer::Unserved(reason) => print!(rt; "length=0 reason={}", reason.number()),
+        Answer::Unserved(reason) => print!(rt; "length=0 reason={reason}"),
         Answer::Served(reply) => {
             let r = reply.response;
             print!(rt;
                 "resp={} state={} length={} why={}",
-                r.resp_type,
-                r.state,
-                reply.used,
-                why_number(reply.why)
+                r.resp_type, r.state, reply.used, reply.why
             )
         }
         Answer::Done => print!(rt; "done"),

@@ -1,7 +1,6 @@
 // SPDX-License-Identifier: Apache-2.0 AND BSD-3-Clause
 // The calls.
 use super::world::{Told, World};
-use refusal::Refusal;
 use step::Answer;
 use units::HostAddr;
 
@@ -54,7 +53,7 @@ impl World {
     // Whether a call is to change nothing: it was refused, but with 10, or found no head.
     fn is_refusal(&self) -> bool {
         match self.told {
-            Told::Call(Some(Answer::Refused(refusal))) => refusal != Refusal::CreationFailed,
+            Told::Call(Some(Answer::Refused(number))) => number != 10,
             Told::Call(None) => true,
             _ => false,
         }

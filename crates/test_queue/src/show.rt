@@ -10,7 +10,7 @@ impl World {
     // The key of an answer's form, which is the table's own text, and its numbers.
     fn told_answer(&self, answer: Answer) -> (u8, [u64; 3]) {
         match answer {
-            Answer::Refused(refusal) => (b'0', [refusal.number(), 0, 0]),
+            Answer::Refused(number) => (b'0', [number, 0, 0]),
             Answer::Wants(HostCall::Create { .. }) => (b'1', [0, 0, 0]),
             Answer::Wants(HostCall::Discard { offset, size, host }) => {
                 (b'2', [offset.0, size, host.0])
@@ -19,7 +19,7 @@ impl World {
                 let usable = self.device.config.usable_region_size;
                 (b'3', [usable, self.device.placed as u64, self.table[2]])
             }
-            Answer::Unserved(reason) => (b'4', [reason.number(), 0, 0]),
+            Answer::Unserved(reason) => (b'4', [reason, 0, 0]),
             Answer::Served(reply) => {
                 let r = reply.response;
                 (

@@ -121,7 +121,7 @@ module _ (mem : List ℕ) (type addr blocks : ℕ) (room : 106 ≤ length mem) w
 
 -- whether an answer has a line
 abbrev pub has_line : Answer → Bool
-has_line (Refused refusal) = true
+has_line (Refused number) = true
 has_line (Wants call) = true
 has_line Sized = true
 has_line (Unserved reason) = false

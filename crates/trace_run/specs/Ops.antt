@@ -17,8 +17,6 @@ use Rattle.trace_text.specs.declared.RangeOp.TheVariants.{Plug, Unplug, State}
 use Rattle.wire.specs.declared.RequestType.{RequestType}
 use Rattle.wire.specs.declared.RequestType.TheVariants as asks
 use Rattle.wire.specs.Types.{type_number}
-use Rattle.refusal.specs.Refusal.{number as refusal_number}
-use Rattle.change.specs.Why.{why_number}
 use Rattle.answer_text.specs.Texts.{create_text, discard_text, sized_text, response_text, refusal_text}
 
 -- a number of so many bytes at a place, and numbers laid one after the other
@@ -83,11 +81,11 @@ Applies op d before after s = Gives (applied op (on d before) before.bytes) befo
 
 -- the line of an answer: resp and state are read out of the response bytes, why is the answer's
 unfoldable pub answer_text : Answer → Device → List ℕ → List ℕ
-answer_text (Refused refusal) d mem = refusal_text (refusal_number refusal)
+answer_text (Refused number) d mem = refusal_text number
 answer_text (Wants (Create guest size slot)) d mem = create_text guest size slot
 answer_text (Wants (Discard offset size host)) d mem = discard_text offset size host
 answer_text Sized d mem = sized_text d.config.requested_size d.config.usable_region_size
 answer_text (Unserved reason) d mem = []
 answer_text (Served reply) d mem =
-    response_text (value (part mem 96 2)) (value (part mem 104 2)) d.config.plugged_size d.config.usable_region_size (why_number reply.why)
+    response_text (value (part mem 96 2)) (value (part mem 104 2)) d.config.plugged_size d.config.usable_region_size reply.why
 answer_text Done d mem = []

@@ -41,7 +41,7 @@ as_line text = text ++ 10 ∷ []
 
 -- R12.6: a refusal; here of a line that comes to no call, so nothing that is lent changes
 abbrev pub refused_as : Run → Refusal → Meant → Turn
-refused_as run refusal m = record { run = run; answer = Refused refusal; left = m; printed = as_line (refusal_text (number refusal)) }
+refused_as run refusal m = record { run = run; answer = Refused (number refusal); left = m; printed = as_line (refusal_text (number refusal)) }
 
 -- a call of the device prints its answer
 abbrev pub answered_as : Run → Outcome → List ℕ → Turn
@@ -68,7 +68,7 @@ place_call d f m =
 
 -- R12.8: a refusal in the first line ends the run
 unfoldable pub placed_as : Answer → Device → Run
-placed_as (Refused refusal) d = Ended
+placed_as (Refused number) d = Ended
 placed_as (Wants call) d = On d
 placed_as Sized d = On d
 placed_as (Unserved reason) d = On d

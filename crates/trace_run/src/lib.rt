@@ -18,7 +18,6 @@ ghost use Rattle.trace_run.specs.Run.{counted_from, placed_as, begun_on, begun_b
 ghost use Rattle.trace_run.specs.Run.{Prints, ComesTo, Serves, SlotFits};
 
 use answer_text::{put_create, put_discard, put_refusal, put_response, put_sized};
-use change::why_number;
 use little_endian::{read_u16, write_u16, write_u32, write_u64};
 use making::Mem;
 use placing::{place, set_requested_size};
@@ -139,7 +138,7 @@ fn put_answer(out: &mut [u8], s: Answered, mem: &[u8]) -> usize
     ensures { Put out.old 0 (answer_text s.answer s.device mem.now) out.new result }
 {
     match s.answer {
-        Answer::Refused(refusal) => put_refusal(out, refusal.number()),
+        Answer::Refused(number) => put_refusal(out, number),
         Answer::Wants(HostCall::Create { guest, size, slot }) => put_create(out, guest, size, slot),
         Answer::Wants(HostCall::Discard { offset, size, host }) => put_discard(
             out, offset, size, host,
@@ -155,7 +154,7 @@ fn put_answer(out: &mut [u8], s: Answered, mem: &[u8]) -> usize
             read_u16(mem, 104),
             s.device.config.plugged_size,
             s.device.config.usable_region_size,
-            why_number(reply.why),
+            reply.why,
         ),
         Answer::Unserved(_) => 0,
         Answer::Done => 0,
@@ -164,12 +163,13 @@ fn put_answer(out: &mut [u8], s: Answered, mem: &[u8]) -> usize
 
 // Prints a refusal.
 fn refuse(run: Run, out: &mut [u8], refusal: Refusal) -> Shown
-    ensures { Prints run (Refused refusal) (refusal_text (number refusal)) out.old result out.new }
+    ensures { Prints run (Refused (number refusal)) (refusal_text (number refusal)) out.old result out.new }
 {
-    let end = put_refusal(out, refusal.number());
+    let number = refusal.number();
+    let end = put_refusal(out, number);
     Shown {
         run,
-        answer: Answer::Refused(refusal),
+        answer: Answer::Refused(number),
         length: put(out, end, b'\n'),
     }
 }

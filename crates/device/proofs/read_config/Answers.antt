@@ -10,7 +10,7 @@ use Rattle.device.proofs.read_config.Goals as goal
 pub returns-then-not-shaped : goal.returns-then-not-shaped
 unfolding step read_config rows_of row_words blocks
 returns-then-not-shaped c =
-    rw (flag _ _ _ c.shaped.ensures c.if-not-shaped.true, c.refuse.ensures)
+    rw (flag _ _ _ c.shaped.ensures c.if-not-shaped.true, c.refuse_as.ensures)
     (record { answered = refl; told = refl; recorded = refl; leaves = record { marked = refl; mapped = refl; left = refl } })
 
 pub returns : goal.returns

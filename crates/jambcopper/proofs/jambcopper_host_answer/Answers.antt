@@ -5,7 +5,7 @@ use Rattle.step.proofs.Kept.{answer_changes}
 use Rattle.jambcopper.proofs.jambcopper_host_answer.Goals as goal
 
 pub returns-in_default : goal.returns-in_default
-returns-in_default c = foreign _ _ _ c.decode.ensures c.in_default.is _ c.tell.ensures.value c.tell.ensures.words_after
+returns-in_default c = foreign _ _ _ c.decode.ensures c.in_default.is _ c.tell_refused.ensures.value c.tell_refused.ensures.words_after
 
 pub returns : goal.returns
 returns c =
@@ -14,4 +14,4 @@ returns c =
     let met = c.host_answer-s.ensures in
     served _ _ _ is known met
     (answer_written _ is known met.recorded (answer_changes _ _ _ _) c.encode_answer.ensures)
-    (c.tell-2.ensures.value, c.tell-2.ensures.words_after)
+    (c.tell.ensures.value, c.tell.ensures.words_after)

@@ -4,11 +4,11 @@ use Rattle.jambcopper.proofs.Ways.{foreign, served}
 use Rattle.jambcopper.proofs.jambcopper_place.Goals as goal
 
 pub returns-in_default : goal.returns-in_default
-returns-in_default c = foreign _ _ _ c.decode.ensures c.in_default.is _ c.tell.ensures.value c.tell.ensures.words_after
+returns-in_default c = foreign _ _ _ c.decode.ensures c.in_default.is _ c.tell_refused.ensures.value c.tell_refused.ensures.words_after
 
 pub returns : goal.returns
 returns c =
     served _ _ _ c.decode.ensures c.in-Some.is
     c.place-s.ensures
     (c.encode.ensures.words_after, c.encode.ensures.words_after_2)
-    (c.tell-2.ensures.value, c.tell-2.ensures.words_after)
+    (c.tell.ensures.value, c.tell.ensures.words_after)

@@ -7,12 +7,12 @@ use Rattle.jambcopper.proofs.QueueWays.{no_record, no_queue, unmoved_told, about
 use Rattle.jambcopper.proofs.jambcopper_serve.Goals as goal
 
 pub returns-in_default : goal.returns-in_default
-returns-in_default c = no_record _ _ _ c.decode.ensures c.in_default.is _ _ (c.tell.ensures.value, c.tell.ensures.words_after)
+returns-in_default c = no_record _ _ _ c.decode.ensures c.in_default.is _ _ (c.tell_refused.ensures.value, c.tell_refused.ensures.words_after)
 
 pub returns-in_default-decode_queue : goal.returns-in_default-decode_queue
 returns-in_default-decode_queue c =
     no_queue _ _ _ c.decode.ensures c.in-Some.is c.decode_queue.ensures c.in_default-decode_queue.is _ _
-    (c.tell-in_default-decode_queue.ensures.value, c.tell-in_default-decode_queue.ensures.words_after)
+    (c.tell_refused-in_default-decode_queue.ensures.value, c.tell_refused-in_default-decode_queue.ensures.words_after)
 
 pub returns-in-NoHead : goal.returns-in-NoHead
 returns-in-NoHead c =

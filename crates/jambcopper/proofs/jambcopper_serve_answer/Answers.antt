@@ -10,12 +10,12 @@ use Rattle.jambcopper.specs.Queue.{serve_answer_on}
 use Rattle.jambcopper.proofs.jambcopper_serve_answer.Goals as goal
 
 pub returns-in_default : goal.returns-in_default
-returns-in_default c = no_record _ _ _ c.decode.ensures c.in_default.is _ _ (c.tell.ensures.value, c.tell.ensures.words_after)
+returns-in_default c = no_record _ _ _ c.decode.ensures c.in_default.is _ _ (c.tell_refused.ensures.value, c.tell_refused.ensures.words_after)
 
 pub returns-in_default-decode_queue : goal.returns-in_default-decode_queue
 returns-in_default-decode_queue c =
     no_queue _ _ _ c.decode.ensures c.in-Some.is c.decode_queue.ensures c.in_default-decode_queue.is _ _
-    (c.tell-in_default-decode_queue.ensures.value, c.tell-in_default-decode_queue.ensures.words_after)
+    (c.tell_refused-in_default-decode_queue.ensures.value, c.tell_refused-in_default-decode_queue.ensures.words_after)
 
 pub returns-in-Err : goal.returns-in-Err
 returns-in-Err c =
@@ -23,7 +23,7 @@ returns-in-Err c =
     unmoved_told (serve_answer_on a.base a.ok a.host) _ _ c.decode.ensures c.in-Some.is c.decode_queue.ensures c.in-Some-decode_queue.is
     _ (lent a.bitmap.now a.table.now a.mem.now)
     (refused_as _ _ _ _ _ _ _ _ c.queue_refusal.ensures _ c.in-Err.is)
-    (c.tell-in-Err.ensures.value, c.tell-in-Err.ensures.words_after)
+    (c.tell_refused-in-Err.ensures.value, c.tell_refused-in-Err.ensures.words_after)
 
 pub returns-in_default-taken : goal.returns-in_default-taken
 unfolding answers

@@ -1,12 +1,11 @@
 -- SPDX-License-Identifier: Apache-2.0 AND BSD-3-Clause
 -- `jambcopper::jambcopper_write_config` meets its contract: 12 where there is no record, else the device's call, which leaves the record as it is.
-use Rattle.refusal.specs.declared.Refusal.TheVariants.{NoShape}
 use Rattle.step.specs.declared.Answer.TheVariants.{Refused}
 use Rattle.jambcopper.proofs.Ways.{foreign, served, unwritten, untold, write_keeps}
 use Rattle.jambcopper.proofs.jambcopper_write_config.Goals as goal
 
 pub returns-in_default : goal.returns-in_default
-returns-in_default c = foreign _ _ _ c.decode.ensures c.in_default.is _ c.number.ensures (untold (Refused NoShape))
+returns-in_default c = foreign _ _ _ c.decode.ensures c.in_default.is _ c.number.ensures (untold (Refused 12))
 
 pub returns : goal.returns
 returns c =

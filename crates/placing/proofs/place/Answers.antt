@@ -19,14 +19,14 @@ shape c = unplaced_shaped _ _ _ (sym c.unplaced_refusal.ensures ∙ c.in_default
 
 pub returns-in-Err : goal.returns-in-Err
 unfolding step
-returns-in-Err c = simp (blocks-length, count, ← c.unplaced_refusal.ensures) (stops _ _ _ _ _ _ c.in-Err.is c.refuse.ensures)
+returns-in-Err c = simp (blocks-length, count, ← c.unplaced_refusal.ensures) (stops _ _ _ _ _ _ c.in-Err.is c.refuse_as.ensures)
 
 pub returns-in-Err-range_refusal : goal.returns-in-Err-range_refusal
 unfolding step place
 returns-in-Err-range_refusal c =
     simp (blocks-length, count, ← c.unplaced_refusal.ensures)
     (goes_on _ _ _ _ _ _ _ c.in_default.is
-    (simp (← c.range_refusal.ensures) (stops _ _ _ _ _ _ c.in-Err-range_refusal.is c.refuse-in-Err-range_refusal.ensures)))
+    (simp (← c.range_refusal.ensures) (stops _ _ _ _ _ _ c.in-Err-range_refusal.is c.refuse_as-in-Err-range_refusal.ensures)))
 
 pub invariant_of-ask_placing : goal.invariant_of-ask_placing
 invariant_of-ask_placing c =

@@ -29,7 +29,7 @@ size c = asked_is _ _ _ _ c.requested_refused.ensures c.if-requested_refused.fal
 
 pub returns-in-Err : goal.returns-in-Err
 unfolding step
-returns-in-Err c = simp (blocks-length, count, ← c.ready_refusal.ensures) (stops _ _ _ _ _ _ c.in-Err.is c.refuse.ensures)
+returns-in-Err c = simp (blocks-length, count, ← c.ready_refusal.ensures) (stops _ _ _ _ _ _ c.in-Err.is c.refuse_as.ensures)
 
 pub returns-then-requested_refused : goal.returns-then-requested_refused
 unfolding step set_requested_size
@@ -38,7 +38,7 @@ returns-then-requested_refused c =
     (goes_on _ _ _ _ _ _ _ c.in_default.is
     (refused_gives _ _ WrongSize _ _
     (simp (← c.requested_refused.ensures, c.if-requested_refused.true))
-    c.refuse-then-requested_refused.ensures))
+    c.refuse_as-then-requested_refused.ensures))
 
 pub overflow_mul-requested : goal.overflow_mul-requested
 overflow_mul-requested c = omega (arith, (size (goal.at.overflow_mul-requested c).Else-requested_refused).within)

@@ -8,7 +8,7 @@ use Rattle.queue.proofs.host_answer.Goals as goal
 pub returns-in-Err : goal.returns-in-Err
 returns-in-Err c =
     let a = c.args in
-    answer_refused a.d a.bitmap.now a.table.now a.q (guest_of a.mem.now a.base) _ _ _ c.queue_refusal.ensures _ c.in-Err.is c.tells.ensures
+    answer_refused a.d a.bitmap.now a.table.now a.q (guest_of a.mem.now a.base) _ _ _ c.queue_refusal.ensures _ c.in-Err.is (rw c.number.ensures at c.tells.ensures)
 
 pub returns-in_default-taken : goal.returns-in_default-taken
 unfolding answers

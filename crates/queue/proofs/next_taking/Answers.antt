@@ -10,7 +10,7 @@ use Rattle.queue.proofs.next_taking.Goals as goal
 
 pub returns-then-not-queue_ok : goal.returns-then-not-queue_ok
 unfolding taking_of
-returns-then-not-queue_ok c = rw (flag _ _ _ c.queue_ok.ensures c.if-not-queue_ok.true)
+returns-then-not-queue_ok c = rw (flag _ _ _ c.queue_ok.ensures c.if-not-queue_ok.true, c.number.ensures)
 
 pub returns-in_default : goal.returns-in_default
 unfolding taking_of

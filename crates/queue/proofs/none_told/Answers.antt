@@ -8,4 +8,4 @@ pub returns-in-Ok : goal.returns-in-Ok
 returns-in-Ok c = told_none _ _ _ (sym c.and.ensures ∙ c.in-Ok.is)
 
 pub returns-in-Err : goal.returns-in-Err
-returns-in-Err c = told_refusal _ _ _ (sym c.and.ensures ∙ c.in-Err.is)
+returns-in-Err c = rw c.number.ensures (told_refusal _ _ _ (sym c.and.ensures ∙ c.in-Err.is))

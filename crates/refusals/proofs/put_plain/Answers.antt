@@ -12,7 +12,7 @@ module _ (r : Refusal) where
   Not other = r ≡ other → ⊥
 
 by_number : (r : Refusal) → Not r WrongRange → Not r NotPlaced → Not r AlreadyPlaced → Not r NothingPending → Not r TooShort → Not r NoShape
-    → Not r BadLine → plain_text r ≡ other (number r)
+    → Not r BadLine → plain_text (number r) ≡ other (number r)
 unfolding plain_text
 by_number WrongSize a b c d e f g = refl
 by_number CapacityTooLarge a b c d e f g = refl

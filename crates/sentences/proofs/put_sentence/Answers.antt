@@ -10,4 +10,4 @@ returns-in-Sized c = rw c.in-Sized.is c.put_sized.ensures
 
 pub returns-in-Unserved : goal.returns-in-Unserved
 unfolding sentence
-returns-in-Unserved c = rw (c.in-Unserved.is, ← c.number.ensures) c.put_form_at.ensures
+returns-in-Unserved c = rw c.in-Unserved.is c.put_form_at.ensures

@@ -6,7 +6,7 @@ use Rattle.serving.proofs.Creation.{failed, past, done}
 use Rattle.serving.proofs.creation_answered.Goals as goal
 
 pub returns-then-not-ok : goal.returns-then-not-ok
-returns-then-not-ok c = failed _ _ _ _ _ _ _ _ c.pending_to.ensures c.if-not-ok.true c.refuse.ensures
+returns-then-not-ok c = failed _ _ _ _ _ _ _ _ c.pending_to.ensures c.if-not-ok.true c.refuse_as.ensures
 
 pub covered_by-requires : goal.covered_by-requires
 covered_by-requires c =
@@ -16,7 +16,7 @@ covered_by-requires c =
 
 pub returns-then-not-sum_within : goal.returns-then-not-sum_within
 returns-then-not-sum_within c =
-    past _ _ _ _ _ _ _ c.if-not-ok.false _ _ c.covered_by.ensures c.sum_within.ensures c.if-not-sum_within.true c.refuse-then-not-sum_within.ensures
+    past _ _ _ _ _ _ _ c.if-not-ok.false _ _ c.covered_by.ensures c.sum_within.ensures c.if-not-sum_within.true c.refuse_as-then-not-sum_within.ensures
 
 pub returns : goal.returns
 returns c = done _ _ _ _ _ _ _ c.if-not-ok.false _ _ c.covered_by.ensures c.sum_within.ensures c.if-not-sum_within.false _ c.created.ensures

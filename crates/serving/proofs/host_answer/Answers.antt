@@ -11,7 +11,7 @@ use Rattle.serving.proofs.host_answer.Goals as goal
 use Rattle.serving.proofs.host_answer.Goals.{In_default}
 
 pub returns-in-Err : goal.returns-in-Err
-returns-in-Err c = as_given (answer_refused _ _ _ _ c.pending_refusal.ensures _ _ _ _ c.in-Err.is) (answers _ _ c.refuse.ensures refl refl)
+returns-in-Err c = as_given (answer_refused _ _ _ _ c.pending_refusal.ensures _ _ _ _ c.in-Err.is) (answers _ _ c.refuse_as.ensures refl refl)
 
 -- past 12, 8 and 11
 shape : (c : In_default) → shaped_of c.args.d ≡ true
@@ -41,7 +41,7 @@ returns-in-Nothing c =
     (answer_ready _ _ _ _ c.pending_refusal.ensures _ _ _ c.in_default.is
     ∙ case_is _ _ _ _ _ c.in-Nothing.is _
     ∙ none_pending _ _ _ _)
-    (answers _ _ c.refuse-in-Nothing.ensures refl refl)
+    (answers _ _ c.refuse_as-in-Nothing.ensures refl refl)
 
 pub returns-in-Create : goal.returns-in-Create
 returns-in-Create c =

@@ -1,6 +1,6 @@
 -- SPDX-License-Identifier: Apache-2.0 AND BSD-3-Clause
 -- `serving::serve` meets its contract, type by type.
-use mathlib.Core.Path.{refl, sym, ◌∙◌}
+use mathlib.Core.Path.{refl, ◌∙◌}
 use native.Mathlib.Omega.{arith}
 use Rattle.step.proofs.Giving.{as_given, answers}
 use Rattle.serving.proofs.Ways.{states, serve-plug, serve-unplug, serve-unplug_all, serve_unknown, typed, untyped}
@@ -9,7 +9,7 @@ use Rattle.serving.proofs.serve.Goals as goal
 pub returns-in_default : goal.returns-in_default
 returns-in_default c =
     let none = untyped _ _ c.try_from.ensures c.in_default.is in
-    as_given (serve_unknown _ _ _ _ (λ e. omega (arith, none)) (λ e. omega (arith, none)) (λ e. omega (arith, none)) (λ e. omega (arith, none))) (answers _ _ refl refl refl)
+    as_given (serve_unknown _ _ _ _ (λ e. omega (arith, none)) (λ e. omega (arith, none)) (λ e. omega (arith, none)) (λ e. omega (arith, none))) (answers _ _ (rw c.number.ensures refl) refl refl)
 
 pub returns-in-Plug : goal.returns-in-Plug
 returns-in-Plug c = as_given (serve-plug _ _ _ _ (typed _ _ _ c.try_from.ensures c.in-Ok.is c.in-Plug.is)) c.plug.ensures

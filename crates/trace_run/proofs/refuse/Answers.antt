@@ -5,4 +5,6 @@ use Rattle.text.proofs.Puts.{then}
 use Rattle.trace_run.proofs.refuse.Goals as goal
 
 pub returns : goal.returns
-returns c = record { stands = refl; said = refl; printed = then (rw c.number.ensures at c.put_refusal-end.ensures) c.put.ensures }
+returns c =
+    let number = c.number-number.ensures in
+    record { stands = refl; said = rw number; printed = then (rw number at c.put_refusal-end.ensures) c.put.ensures }
