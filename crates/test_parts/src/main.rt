@@ -5,9 +5,8 @@
 // begin with #.
 #![tactic(auto)]
 
-use std::rt::Files;
 use std::{fs, io};
-use test_support::run_rows;
+use test_support::{AnswerRow, run_rows};
 
 mod tables; // rows.txt
 mod texts; // texts.txt
@@ -29,20 +28,39 @@ fn numbers_of(call: &str) -> Row {
     v
 }
 
-fn run_file<F: FnMut(&mut [u8], &str) -> usize>(
-    rt: &(impl Files + Print + Alloc),
-    name: &str,
-    answer: F,
-) -> io::Result<()>
-    requires { F.IsAlwaysCallable answer }
-{
-    let text = fs::read_to_string(rt, name)?;
-    let count = run_rows(rt, &text, &mut [0; 256], false, answer)?;
-    println!(rt; "{count}")
+// The tables, by their files.
+#[derive(Clone, Copy)]
+enum Table {
+    Wire,
+    Rows,
+    Texts,
+}
+
+impl Table {
+    fn file(self) -> &'static str {
+        match self {
+            Table::Wire => "wire.txt",
+            Table::Rows => "rows.txt",
+            Table::Texts => "texts.txt",
+        }
+    }
+}
+
+impl AnswerRow for Table {
+    fn answer(&mut self, out: &mut [u8], call: &str) -> usize {
+        match self {
+            Table::Wire => wires::answer(out, call),
+            Table::Rows => tables::answer(out, call),
+            Table::Texts => texts::answer(out, call),
+        }
+    }
 }
 
 fn main(rt: HostRuntime) -> io::Result<()> {
-    run_file(&rt, "wire.txt", wires::answer)?;
-    run_file(&rt, "rows.txt", tables::answer)?;
-    run_file(&rt, "texts.txt", texts::answer)
+    for mut table in [Table::Wire, Table::Rows, Table::Texts] {
+        let text = fs::read_to_string(&rt, table.file())?;
+        let count = run_rows(&rt, &text, &mut [0; 256], false, &mut table)?;
+        println!(rt; "{count}")?;
+    }
+    Ok(())
 }

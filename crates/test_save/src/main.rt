@@ -9,7 +9,7 @@ use forms::scan_at;
 use little_endian::{copy, from};
 use std::num::wrapping_add_usize;
 use std::{fs, io};
-use test_support::{form_of, front, run_rows};
+use test_support::{AnswerRow, form_of, front, run_rows};
 
 mod devices; // a device, saved and restored
 mod parts; // parts of a row, and what is lent to a call
@@ -44,12 +44,26 @@ fn answer(out: &mut [u8], world: &mut World, form: &str, call: &str) -> usize {
     }
 }
 
+// A run of the table: the devices that its calls make and use, and the forms of its calls, which it has itself.
+#[derive(Drop)]
+struct Session<'a> {
+    world: World,
+    text: &'a str,
+}
+
+impl<'a> AnswerRow for Session<'a> {
+    fn answer(&mut self, out: &mut [u8], call: &str) -> usize {
+        let letter = call.as_bytes().first().copied().unwrap_or(0);
+        answer(out, &mut self.world, form_of(self.text, letter), call)
+    }
+}
+
 fn main(rt: HostRuntime) -> io::Result<()> {
     let text = fs::read_to_string(&rt, "save.txt")?;
-    let mut world = World::new();
-    let count = run_rows(&rt, &text, &mut [0; 512], true, |out, call| {
-        let letter = call.as_bytes().first().copied().unwrap_or(0);
-        answer(out, &mut world, form_of(&text, letter), call)
-    })?;
+    let mut session = Session {
+        world: World::new(),
+        text: &text,
+    };
+    let count = run_rows(&rt, &text, &mut [0; 512], true, &mut session)?;
     println!(rt; "{count}")
 }

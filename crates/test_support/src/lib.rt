@@ -77,17 +77,23 @@ fn show(rt: &impl Print, line: Option<u64>, row: &str, given: &[u8]) -> io::Resu
     println!(rt)
 }
 
+// Who answers the rows of a table. It is a trait, since a closure that is passed in would have to be asked for by a
+// `requires`.
+pub trait AnswerRow {
+    // Puts the answer to a call at the start of a buffer, and says how long it is: 0 where there is none.
+    fn answer(&mut self, out: &mut [u8], call: &str) -> usize;
+}
+
 // Runs each row of a table, shows those that have another answer, or none, which is an empty one, and counts. A line
 // that is empty, begins with # or is a form, behind a key, is no row.
 // `is_numbered` stays a bool: it says one thing, whether a row is shown with its line's number, and chooses no step.
-pub fn run_rows<F: FnMut(&mut [u8], &str) -> usize>(
+pub fn run_rows<T: AnswerRow>(
     rt: &impl Print,
     text: &str,
     out: &mut [u8],
     is_numbered: bool,
-    mut answer: F,
+    to: &mut T,
 ) -> io::Result<Count>
-    requires { F.IsAlwaysCallable answer }
     ensures { IfOk result (λ count. count.differing ≤ count.rows) }
 {
     let mut count = Count::default();
@@ -96,7 +102,7 @@ pub fn run_rows<F: FnMut(&mut [u8], &str) -> usize>(
             continue;
         }
         let (call, known) = row.split_once(" -> ").unwrap_or((row, ""));
-        let length = answer(out, call);
+        let length = to.answer(out, call);
         let given = front(out, length);
         let differs = given.is_empty() || given != known.as_bytes();
         count.add_row(differs);

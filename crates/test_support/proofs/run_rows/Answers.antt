@@ -4,4 +4,4 @@ use native.Mathlib.Omega.{arith}
 use Rattle.test_support.proofs.run_rows.Goals as goal
 
 pub loop-line-init : goal.loop-line-init
-loop-line-init g c = (c.requires, omega arith)
+loop-line-init g c = omega arith

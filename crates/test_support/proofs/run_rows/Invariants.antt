@@ -4,4 +4,4 @@ use Rattle.std.proofs.Common.{◌≤◌}
 use Rattle.test_support.proofs.run_rows.Given as goal
 
 abbrev pub invariant-loop-line : goal.invariant-loop-line
-invariant-loop-line g l = goal.F-IsAlwaysCallable g l.answer × (l.count.differing ≤ l.count.rows)
+invariant-loop-line g l = l.count.differing ≤ l.count.rows
